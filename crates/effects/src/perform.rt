@@ -1,0 +1,119 @@
+// The effect of each opcode (specs/Effects.antt).
+ghost use mathlib.Core.Path.{_≡_};
+ghost use lib.ListN.{length};
+ghost use Rattle.effects.specs.Effects.{found, byOpcode, addressesThere, performOf};
+use super::Performed;
+use super::Place;
+use super::Port;
+use super::conditions::carry;
+use super::conditions::minus;
+use super::conditions::not_negative;
+use super::conditions::not_positive;
+use super::conditions::odd;
+use super::conditions::overflow;
+use super::conditions::zero;
+use super::places::located;
+use super::places::target;
+use super::places::there;
+use super::places::value;
+use super::shapes::compared;
+use super::shapes::divided;
+use super::shapes::goes_on;
+use super::shapes::jumped;
+use super::shapes::moved;
+use super::shapes::popped;
+use super::shapes::pushed;
+use super::shapes::resulted;
+use isa::Instruction;
+use isa::Kinds;
+use isa::Opcode;
+
+// One line for each opcode. `p` and `q` are the operands' places, `x` and `y` what stands there.
+fn by_opcode(
+    m: &[u16],
+    next: usize,
+    sp: u16,
+    sr: u16,
+    p: Place,
+    q: Place,
+    x: u16,
+    y: u16,
+    op: Opcode,
+) -> Performed
+    ensures { λ r. ⌜ r ≡ byOpcode (found (now (m .entry)) next sp sr p q x y) op ⌝ }
+{
+    let to_a = Place::InRegister(10);
+    match op {
+        Opcode::NOP => goes_on(next, sp),
+        Opcode::HALT => Performed::Halts,
+        Opcode::MOVE => moved(next, sp, q, x),
+        Opcode::PUSH => pushed(m, sp, x, next),
+        Opcode::POP => popped(m, sp, next, p),
+        Opcode::ADD => resulted(next, sp, to_a, arithmetic::add(x, y)),
+        Opcode::SUB => resulted(next, sp, to_a, arithmetic::sub(x, y)),
+        Opcode::MUL => resulted(next, sp, to_a, arithmetic::mul(x, y)),
+        Opcode::DIV => divided(next, sp, arithmetic::div(x, y)),
+        Opcode::MOD => divided(next, sp, arithmetic::modulo(x, y)),
+        Opcode::INC => resulted(next, sp, p, arithmetic::inc(x)),
+        Opcode::DEC => resulted(next, sp, p, arithmetic::dec(x)),
+        Opcode::NEG => resulted(next, sp, p, arithmetic::neg(x)),
+        Opcode::CMP => compared(next, sp, arithmetic::cmp(x, y)),
+        Opcode::AND => moved(next, sp, to_a, arithmetic::and(x, y)),
+        Opcode::OR => moved(next, sp, to_a, arithmetic::or(x, y)),
+        Opcode::XOR => moved(next, sp, to_a, arithmetic::xor(x, y)),
+        Opcode::NOT => moved(next, sp, p, arithmetic::not(x)),
+        Opcode::BR => jumped(next, sp, p, true),
+        Opcode::BZ => jumped(next, sp, p, zero(sr)),
+        Opcode::BNZ => jumped(next, sp, p, !zero(sr)),
+        Opcode::BP => jumped(next, sp, p, !minus(sr)),
+        Opcode::BNP => jumped(next, sp, p, not_positive(sr)),
+        Opcode::BN => jumped(next, sp, p, minus(sr)),
+        Opcode::BNN => jumped(next, sp, p, not_negative(sr)),
+        Opcode::BV => jumped(next, sp, p, overflow(sr)),
+        Opcode::BNV => jumped(next, sp, p, !overflow(sr)),
+        Opcode::BC => jumped(next, sp, p, carry(sr)),
+        Opcode::BNC => jumped(next, sp, p, !carry(sr)),
+        Opcode::BE => jumped(next, sp, p, !odd(sr)),
+        Opcode::BO => jumped(next, sp, p, odd(sr)),
+        Opcode::CALL => pushed(m, sp, (next % 65536) as u16, target(p) as usize),
+        Opcode::RET => popped(m, sp, next, Place::InRegister(15)),
+        Opcode::INCHAR => Performed::Asks(Port::TakeByte(p)),
+        Opcode::ININT => Performed::Asks(Port::TakeNumber(p)),
+        Opcode::INSTR => Performed::Asks(Port::TakeString(target(p))),
+        Opcode::WRCHAR => Performed::Asks(Port::PutByte(x)),
+        Opcode::WRINT => Performed::Asks(Port::PutNumber(x)),
+        Opcode::WRSTR => Performed::Asks(Port::PutString(target(p))),
+    }
+}
+
+// Whether the operands that are cells are cells of memory; targets count only as next PC.
+fn addresses_there(m: &[u16], op: Opcode, p: Place, q: Place) -> bool
+    ensures { λ b. ⌜ b ≡ addressesThere (length (now (m .entry))) op p q ⌝ }
+{
+    let its = isa::opcodes::row(op);
+    let k = its.first;
+    if isa::operands::is_target(k) {
+        return true;
+    }
+    if there(m, p) {
+        return there(m, q);
+    }
+    false
+}
+
+// What an instruction comes to, its address after it being `next`. Nothing is written.
+pub fn perform(r: &[u16; 16], m: &[u16], next: usize, i: Instruction) -> Performed
+    ensures { λ e. ⌜ e ≡ performOf (now (r .entry)) (now (m .entry)) next i ⌝ }
+{
+    let op = i.op;
+    let a = i.first;
+    let b = i.second;
+    let p = located(r, next, a);
+    let q = located(r, next, b);
+    if !addresses_there(m, op, p, q) {
+        return Performed::Stops(5);
+    }
+    let x = value(r, m, next, p);
+    let y = value(r, m, next, q);
+    by_opcode(m, next, r[14], r[11], p, q, x, y, op)
+}

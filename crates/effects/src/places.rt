@@ -1,0 +1,80 @@
+// Where operands are, and what stands there (specs/Places.antt).
+ghost use mathlib.Core.Path.{_≡_};
+ghost use lib.ListN.{length, getD};
+ghost use Rattle.effects.specs.Seen.{see};
+ghost use Rattle.effects.specs.Places.{plus, placeOf, valueAt, thereIn, targetOf};
+use super::Place;
+use isa::Operand;
+
+// A cell, and 0 past the end.
+pub fn cell(m: &[u16], at: u16) -> u16
+    ensures { λ v. ⌜ v ≡ getD (now (m .entry)) at 0 ⌝ }
+{
+    let i = at as usize;
+    if i < m.len() { m[i] } else { 0 }
+}
+
+// A register as operands see it; the address after the instruction stands for PC.
+pub fn seen(r: &[u16; 16], next: usize, code: u16) -> u16
+    ensures { λ v. ⌜ v ≡ see (now (r .entry)) next code ⌝ }
+{
+    if code == 15 {
+        return (next % 65536) as u16;
+    }
+    cell(r, code)
+}
+
+fn sum(a: u16, d: u16) -> u16
+    ensures { λ v. ⌜ v ≡ plus a d ⌝ }
+{
+    ((a as u32 + d as u32) % 65536) as u16
+}
+
+pub fn located(r: &[u16; 16], next: usize, o: Operand) -> Place
+    ensures { λ p. ⌜ p ≡ placeOf (now (r .entry)) next o ⌝ }
+{
+    match o {
+        Operand::Absent => Place::Nowhere,
+        Operand::Immediate(v) => Place::Constant(v),
+        Operand::Register(k) => Place::InRegister(k),
+        Operand::Memory(a) => Place::InCell(a),
+        Operand::Indirect(k) => Place::InCell(seen(r, next, k)),
+        Operand::IndexedX(d) => Place::InCell(sum(seen(r, next, 12), d)),
+        Operand::IndexedY(d) => Place::InCell(sum(seen(r, next, 13), d)),
+        Operand::IndexedSp(d) => Place::InCell(sum(seen(r, next, 14), d)),
+        Operand::Relative(d) => Place::InCell(sum(seen(r, next, 15), d)),
+    }
+}
+
+pub fn value(r: &[u16; 16], m: &[u16], next: usize, p: Place) -> u16
+    ensures { λ v. ⌜ v ≡ valueAt (now (r .entry)) (now (m .entry)) next p ⌝ }
+{
+    match p {
+        Place::Nowhere => 0,
+        Place::Constant(v) => v,
+        Place::InRegister(k) => seen(r, next, k),
+        Place::InCell(a) => cell(m, a),
+    }
+}
+
+pub fn there(m: &[u16], p: Place) -> bool
+    ensures { λ b. ⌜ b ≡ thereIn (length (now (m .entry))) p ⌝ }
+{
+    match p {
+        Place::Nowhere => true,
+        Place::Constant(_) => true,
+        Place::InRegister(_) => true,
+        Place::InCell(a) => (a as usize) < m.len(),
+    }
+}
+
+pub fn target(p: Place) -> u16
+    ensures { λ a. ⌜ a ≡ targetOf p ⌝ }
+{
+    match p {
+        Place::Nowhere => 0,
+        Place::Constant(v) => v,
+        Place::InRegister(k) => k,
+        Place::InCell(a) => a,
+    }
+}

@@ -1,0 +1,111 @@
+-- What this crate promises, beyond the equation at `expression`: what that equation's right side means.
+use Prim.Native.Nat.{ℕ, _≤_, _<_}
+use mathlib.Core.Bool.{true}
+use mathlib.Core.List.{List, []}
+use mathlib.Core.Logic.{_↔_}
+use mathlib.Core.Path.{_≡_, sym, ap, ap₂, _∙_}
+use lib.IntN.{ℤ}
+use Rattle.tokens.specs.declared.Token.{Token}
+use Rattle.expressions.specs.Grammar.{Sum}
+use Rattle.expressions.specs.Trees.{Tree, node, depth, deepest, Expression}
+use Rattle.expressions.specs.Worths.{operation, operate, worthOf}
+use Rattle.expressions.specs.Reading.{nothing, reads, wrong, operand, treeRead, expressionRead}
+use Rattle.expressions.specs.Scanning.{rightForm, passes}
+use Rattle.expressions.specs.declared.Operation.{Operation}
+use Rattle.expressions.specs.declared.Worth.{Worth}
+use Rattle.expressions.specs.declared.Worth.the-variants.{Is, OutOfRange, ByZero}
+use Rattle.expressions.specs.declared.ExpressionRead.the-variants.{Read, TooDeep, WrongForm}
+use Rattle.expressions.proofs.Readings as Readings
+use Rattle.expressions.proofs.Folds as Folds
+use Rattle.expressions.proofs.Folds.{foldOutcome}
+use Rattle.expressions.proofs.Exactly as Exactly
+use Rattle.expressions.proofs.Kept as Kept
+use Rattle.expressions.proofs.Kept.{Within}
+use Rattle.expressions.proofs.Examples as Examples
+use Rattle.expressions.proofs.Examples.{Examples}
+
+-- ---- reading
+
+-- "`+ - * / %` with usual precedence, left to right; an operand is a number or an expression in parentheses": over any kind of
+-- value, the reader finds a value exactly where the grammar has it.
+pub value-exactly : (W : Type 0) (number : ℕ → W) (operate : Operation → W → W → W) (enclose : W → W) (ts : List Token) {v : W}
+    → (operand W number operate enclose ts nothing nothing [] ≡ reads v) ↔ Sum W number operate enclose ts v
+value-exactly = Exactly.value-exactly
+
+-- A row of tokens has one reading at most, and the reader finds a tree exactly where there is one.
+pub one-reading : {ts : List Token} {tree tree′ : Tree} → Expression ts tree → Expression ts tree′ → tree ≡ tree′
+one-reading s r = Readings.once Tree Tree.literal node Tree.enclosed s r
+
+pub tree-exactly : (ts : List Token) {tree : Tree} → (treeRead ts ≡ reads tree) ↔ Expression ts tree
+tree-exactly = Exactly.tree-exactly
+
+pub no-tree : (ts : List Token) → (treeRead ts ≡ wrong) ↔ ((tree : Tree) → Expression ts tree → ⊥)
+no-tree = Exactly.no-tree
+
+-- Read over any kind of value, a row is worth what its one tree is worth.
+pub folds : (W : Type 0) (number : ℕ → W) (operate : Operation → W → W → W) (enclose : W → W) (ts : List Token)
+    → operand W number operate enclose ts nothing nothing [] ≡ foldOutcome W number operate enclose (treeRead ts)
+folds = Folds.read-folds
+
+-- ---- the three answers of `expression`
+
+-- An expression is read exactly where there is a tree at most 32 parentheses deep, and its worth is the tree's.
+pub read-exactly : (ts : List Token) {w : Worth}
+    → (expressionRead ts ≡ Read w) ↔ ((tree : Tree) × Expression ts tree × (depth tree ≤ deepest) × (worthOf tree ≡ w))
+read-exactly ts = (Exactly.tells ts, Exactly.read-back ts)
+
+-- "too deep" (8): a tree more than 32 parentheses deep, whatever it is worth.
+pub deep-exactly : (ts : List Token) → (expressionRead ts ≡ TooDeep) ↔ ((tree : Tree) × Expression ts tree × (deepest < depth tree))
+deep-exactly ts = (Exactly.tells ts, Exactly.deep-back ts)
+
+-- "form" (3): no tree at all, however deep.
+pub wrong-exactly : (ts : List Token) → (expressionRead ts ≡ WrongForm) ↔ ((tree : Tree) → Expression ts tree → ⊥)
+wrong-exactly ts = (Exactly.tells ts, Exactly.wrong-back ts)
+
+-- ---- worths
+
+-- "Intermediates are exact, within a signed 32-bit range": what any part is worth lies in the range.
+pub worth-within : (tree : Tree) {z : ℤ} → worthOf tree ≡ Is z → Within z
+worth-within = Kept.worth-within
+
+-- "6 or 7 in order of evaluation (left, right, operation)"
+module _ (o : Operation) (a b : Tree) where
+  pub left-out-of-range : worthOf a ≡ OutOfRange → worthOf (node o a b) ≡ OutOfRange
+  unfolding worthOf operate
+  left-out-of-range e = ap (λ (w : Worth). operate o w (worthOf b)) e
+
+  pub left-by-zero : worthOf a ≡ ByZero → worthOf (node o a b) ≡ ByZero
+  unfolding worthOf operate
+  left-by-zero e = ap (λ (w : Worth). operate o w (worthOf b)) e
+
+  pub right-out-of-range : {x : ℤ} → worthOf a ≡ Is x → worthOf b ≡ OutOfRange → worthOf (node o a b) ≡ OutOfRange
+  unfolding worthOf operate
+  right-out-of-range e f = ap₂ (operate o) e f
+
+  pub right-by-zero : {x : ℤ} → worthOf a ≡ Is x → worthOf b ≡ ByZero → worthOf (node o a b) ≡ ByZero
+  unfolding worthOf operate
+  right-by-zero e f = ap₂ (operate o) e f
+
+  pub then-operation : {x y : ℤ} → worthOf a ≡ Is x → worthOf b ≡ Is y → worthOf (node o a b) ≡ operation o x y
+  unfolding worthOf operate
+  then-operation e f = ap₂ (operate o) e f
+
+-- ---- form and depth in constant space
+
+-- The scan by the number of open parentheses alone accepts exactly the rows that have a tree.
+pub form-exactly : (ts : List Token) → (rightForm ts true 0 ≡ true) ↔ ((tree : Tree) × Expression ts tree)
+form-exactly = Exactly.form-exactly
+
+-- "parentheses at most 32 deep": somewhere more are open than there is room for exactly where the tree is deeper.
+pub depth-exactly : {ts : List Token} {tree : Tree} → Expression ts tree → (room : ℕ) → (passes ts room ≡ true) ↔ (room < depth tree)
+depth-exactly = Exactly.depth-exactly
+
+-- ---- examples, and one reply
+
+-- Texts that are easily misread, the marked row `(3+7*(16-1)/(4-1))%27` among them.
+pub examples : Examples
+examples = Examples.examples
+
+-- The promise of `expression` is an equation with its meaning: two replies that meet it coincide.
+pub coincide : {A : Type 0} {meaning r r′ : A} → r ≡ meaning → r′ ≡ meaning → r ≡ r′
+coincide p q = p ∙ sym q

@@ -1,0 +1,102 @@
+-- The reading of a row of tokens, as a function; `proofs/Top.antt` shows that it finds exactly the grammar's reading.
+use Prim.Native.Nat.{ℕ}
+use Prim.Native.Char.{code}
+use mathlib.Core.Bool.{cond}
+use mathlib.Core.List.{List, [], _∷_}
+use lib.Dec.{leb, eqb}
+use Rattle.tokens.specs.declared.Kind.{Kind}
+use Rattle.tokens.specs.declared.Kind.the-variants as K
+use Rattle.tokens.specs.declared.Token.{Token}
+use Rattle.expressions.specs.Trees.{Tree, depth, deepest, literal, node, enclosed}
+use Rattle.expressions.specs.Worths.{worthOf}
+use Rattle.expressions.specs.declared.Operation.{Operation}
+use Rattle.expressions.specs.declared.Operation.the-variants.{Plus, Minus, Times, Over, Rest}
+use Rattle.expressions.specs.declared.Symbol.{Symbol}
+use Rattle.expressions.specs.declared.Symbol.the-variants.{Number, Sums, Products, Opens, Shuts, Other}
+use Rattle.expressions.specs.declared.ExpressionRead.{ExpressionRead}
+use Rattle.expressions.specs.declared.ExpressionRead.the-variants.{Read, TooDeep, WrongForm}
+
+-- what a token is to an expression
+unfoldable pub markSymbol : ℕ → Symbol
+markSymbol b =
+    cond (eqb b (code "(")) Opens
+    (cond (eqb b (code ")")) Shuts
+    (cond (eqb b (code "+")) (Sums Plus)
+    (cond (eqb b (code "-")) (Sums Minus)
+    (cond (eqb b (code "*")) (Products Times)
+    (cond (eqb b (code "/")) (Products Over)
+    (cond (eqb b (code "%")) (Products Rest) Other))))))
+
+abbrev pub kindSymbol : Kind → Symbol
+kindSymbol K.End = Other
+kindSymbol K.Stray = Other
+kindSymbol K.Word = Other
+kindSymbol (K.Number v k) = Number v
+kindSymbol K.Text = Other
+kindSymbol (K.Mark b) = markSymbol b
+
+-- the reader goes through the tokens once, with what waits to the left; over any kind of value
+module _ (W : Type 0) (number : ℕ → W) (operate : Operation → W → W → W) (enclose : W → W) where
+  pub data Waiting : Type 0 where
+    nothing : Waiting
+    waits : W → Operation → Waiting
+
+  pub data Outcome : Type 0 where
+    reads : W → Outcome
+    wrong : Outcome
+
+  abbrev pub joined : Waiting → W → W
+  joined nothing v = v
+  joined (waits a o) v = operate o a v
+
+  -- what waits outside a parenthesis
+  pub record Frame : Type 0 where
+    pub sum : Waiting
+    pub product : Waiting
+
+  -- what is next at an operand's place, with the reader of what follows an operand and that of a further operand
+  abbrev pub atOperand : Symbol → (Waiting → W → List Frame → Outcome) → (Waiting → Waiting → List Frame → Outcome) → Waiting → Waiting → List Frame → Outcome
+  atOperand (Number n) operators operands l p k = operators l (joined p (number n)) k
+  atOperand (Sums o) operators operands l p k = wrong
+  atOperand (Products o) operators operands l p k = wrong
+  atOperand Opens operators operands l p k = operands nothing nothing (record { sum = l; product = p } ∷ k)
+  atOperand Shuts operators operands l p k = wrong
+  atOperand Other operators operands l p k = wrong
+
+  abbrev pub shut : (Waiting → W → List Frame → Outcome) → Waiting → W → List Frame → Outcome
+  shut operators l v [] = wrong
+  shut operators l v (f ∷ k) = operators (f .sum) (joined (f .product) (enclose (joined l v))) k
+
+  abbrev pub atOperator : Symbol → (Waiting → W → List Frame → Outcome) → (Waiting → Waiting → List Frame → Outcome) → Waiting → W → List Frame → Outcome
+  atOperator (Number n) operators operands l v k = wrong
+  atOperator (Sums o) operators operands l v k = operands (waits (joined l v) o) nothing k
+  atOperator (Products o) operators operands l v k = operands l (waits v o) k
+  atOperator Opens operators operands l v k = wrong
+  atOperator Shuts operators operands l v k = shut operators l v k
+  atOperator Other operators operands l v k = wrong
+
+  abbrev pub atEnd : Waiting → W → List Frame → Outcome
+  atEnd l v [] = reads (joined l v)
+  atEnd l v (f ∷ k) = wrong
+
+  unfoldable mutual
+    -- an operand is next
+    pub operand : List Token → Waiting → Waiting → List Frame → Outcome
+    operand [] l p k = wrong
+    operand (t ∷ ts) l p k = atOperand (kindSymbol (t .kind)) (λ l v k. operator ts l v k) (λ l p k. operand ts l p k) l p k
+
+    -- an operation, a closing parenthesis or the end is next
+    pub operator : List Token → Waiting → W → List Frame → Outcome
+    operator [] l v k = atEnd l v k
+    operator (t ∷ ts) l v k = atOperator (kindSymbol (t .kind)) (λ l v k. operator ts l v k) (λ l p k. operand ts l p k) l v k
+
+abbrev pub treeRead : List Token → Outcome Tree literal node enclosed
+treeRead ts = operand Tree literal node enclosed ts nothing nothing []
+
+-- form 3, then depth 8, then the worth with its 6 or 7
+abbrev pub judged : Outcome Tree literal node enclosed → ExpressionRead
+judged (reads tree) = cond (leb (depth tree) deepest) (Read (worthOf tree)) TooDeep
+judged wrong = WrongForm
+
+unfoldable pub expressionRead : List Token → ExpressionRead
+expressionRead ts = judged (treeRead ts)

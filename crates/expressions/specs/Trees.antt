@@ -1,0 +1,24 @@
+-- An expression as a tree, and how deep its parentheses are.
+use Prim.Native.Nat.{ℕ, suc, max}
+use mathlib.Core.List.{List}
+use Rattle.tokens.specs.declared.Token.{Token}
+use Rattle.expressions.specs.declared.Operation.{Operation}
+use Rattle.expressions.specs.Grammar as G
+
+pub data Tree : Type 0 where
+  literal : ℕ → Tree
+  node : Operation → Tree → Tree → Tree
+  enclosed : Tree → Tree
+
+-- the reading of a row of tokens
+abbrev pub Expression : List Token → Tree → Type 0
+Expression ts tree = G.Sum Tree literal node enclosed ts tree
+
+-- "parentheses at most 32 deep"
+unfoldable pub depth : Tree → ℕ
+depth (literal v) = 0
+depth (node o a b) = max (depth a) (depth b)
+depth (enclosed a) = suc (depth a)
+
+abbrev pub deepest : ℕ
+deepest = 32

@@ -1,0 +1,10 @@
+-- Laws of the machine, and the promises restated (Top).
+pub mod GoodLoans
+pub mod Outcomes
+pub mod Standings
+pub mod Orders
+pub mod Runs
+pub mod Counts
+pub mod Answers
+pub mod Turns
+pub mod Top

@@ -1,0 +1,6 @@
+-- The machine (01, "What a step does"). Read in this order.
+pub mod States
+pub mod Stops
+pub mod Steps
+pub mod Inner
+pub mod Runs

@@ -1,0 +1,97 @@
+// What is written to the output (specs/Output.antt).
+ghost use mathlib.Core.Path.{_≡_};
+ghost use mathlib.Core.List.{map};
+ghost use Prim.Native.Nat.{_+_, _≤_};
+ghost use lib.ListN.{length, take, drop};
+ghost use Rattle.ports.specs.Overwriting.{overwrite};
+ghost use Rattle.ports.specs.Input.{passed};
+ghost use Rattle.ports.specs.Output.{lowByte, stringOf, textPut, bytePut, numberPut, stringPut};
+use super::Moved;
+use super::has_room;
+
+// WRCHAR: the low byte.
+pub fn put_byte(out: &mut [u8], at: usize, x: u16) -> Moved
+    ensures { λ r. ⌜ passed r (now (out .exit)) ≡ bytePut (now (out .entry)) at x ⌝ }
+{
+    if at < out.len() {
+        out[at] = (x % 256) as u8;
+        return Moved::To(at + 1);
+    }
+    Moved::Short(9)
+}
+
+// A whole text, for which there is room.
+fn copy(out: &mut [u8], at: usize, text: &[u8])
+    requires { ⌜ at + length (now text) ≤ length (now out) ⌝ }
+    ensures { λ _. ⌜ now (out .exit) ≡ overwrite (now (out .entry)) at (now (text .entry)) ⌝ }
+{
+    let mut k = 0;
+    while k < text.len() {
+        out[at + k] = text[k];
+        k += 1;
+    }
+}
+
+// A text, if there is room for all of it.
+fn put_text(out: &mut [u8], at: usize, text: &[u8]) -> Moved
+    ensures { λ r. ⌜ passed r (now (out .exit)) ≡ textPut (now (out .entry)) at (now (text .entry)) ⌝ }
+{
+    if has_room(out.len(), at, text.len()) {
+        copy(out, at, text);
+        return Moved::To(at + text.len());
+    }
+    Moved::Short(9)
+}
+
+// WRINT: the signed decimal.
+pub fn put_number(out: &mut [u8], at: usize, x: u16) -> Moved
+    ensures { λ r. ⌜ passed r (now (out .exit)) ≡ numberPut (now (out .entry)) at x ⌝ }
+{
+    let text = numerals::writing::signed_decimal(x);
+    let bytes = text.bytes;
+    let start = text.start;
+    put_text(out, at, &bytes[start..])
+}
+
+// The place of the first cell that is 0, from a place on, and the end of memory where there is none.
+fn zero_at(m: &[u16], from: usize) -> usize
+    ensures { λ r. ⌜ r ≡ from + length (stringOf (drop from (now (m .entry)))) ⌝ }
+{
+    let mut i = from;
+    while i < m.len() {
+        if m[i] == 0 {
+            return i;
+        }
+        i += 1;
+    }
+    i
+}
+
+// The low bytes of n cells from `from` on.
+fn print(out: &mut [u8], at: usize, m: &[u16], from: usize, n: usize)
+    requires { ⌜ (at + n ≤ length (now out)) × (from + n ≤ length (now m)) ⌝ }
+    ensures { λ _. ⌜ now (out .exit) ≡ overwrite (now (out .entry)) at (map lowByte (take n (drop from (now (m .entry))))) ⌝ }
+{
+    let mut k = 0;
+    while k < n {
+        out[at + k] = (m[from + k] % 256) as u8;
+        k += 1;
+    }
+}
+
+// WRSTR: the low bytes of the cells from a cell on, up to the first that is 0.
+pub fn put_string(out: &mut [u8], at: usize, m: &[u16], from: u16) -> Moved
+    ensures { λ r. ⌜ passed r (now (out .exit)) ≡ stringPut (now (out .entry)) at (now (m .entry)) from ⌝ }
+{
+    let first = from as usize;
+    let end = zero_at(m, first);
+    if m.len() <= end {
+        return Moved::Short(5);
+    }
+    let n = end - first;
+    if has_room(out.len(), at, n) {
+        print(out, at, m, first, n);
+        return Moved::To(at + n);
+    }
+    Moved::Short(9)
+}

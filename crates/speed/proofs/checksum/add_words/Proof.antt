@@ -1,0 +1,60 @@
+-- The invariant: the sum is below 1,000,003, so that 31 times it and a word fit. The measure is what is left of the words.
+use native.Mathlib.Omega.{arith}
+use Prim.Native.Nat.{_≤_, _<_, _-_}
+use lib.ListN.{length}
+use mathlib.Core.Path.{_≡_}
+use Rattle.speed.proofs.checksum.add_words.Statement.{statement}
+use Rattle.speed.proofs.checksum.add_words.Tie as tie
+
+abbrev Inv-loop : tie.InvT-loop
+Inv-loop from words sum₀ i₀ i-end sum i = (i ≤ i-end) × (i-end ≡ length words) × (sum < 1000003)
+
+abbrev μ-loop : tie.MeasureT-loop
+μ-loop from words sum₀ i₀ i-end sum i = i-end - i
+
+loop-holds : tie.Need-loop-holds Inv-loop μ-loop
+loop-holds c = omega arith
+
+mul-sum : tie.Need-mul-sum Inv-loop μ-loop
+mul-sum c = omega arith
+
+mul-sum-2 : tie.Need-mul-sum-2 Inv-loop μ-loop
+mul-sum-2 c = omega arith
+
+shared-slice-read-sum : tie.Need-shared-slice-read-sum Inv-loop μ-loop
+shared-slice-read-sum c = omega arith
+
+cast-sum : tie.Need-cast-sum Inv-loop μ-loop
+cast-sum c = omega (arith, (c .shared-slice-known .given) (c .before .before .loop .i))
+
+add-sum : tie.Need-add-sum Inv-loop μ-loop
+add-sum c = omega (arith, (c .shared-slice-known .given) (c .before .before .loop .i))
+
+add-i : tie.Need-add-i Inv-loop μ-loop
+add-i c = omega arith
+
+loop-less : tie.Need-loop-less Inv-loop μ-loop
+loop-less c = omega arith
+
+loop-again : tie.Need-loop-again Inv-loop μ-loop
+loop-again c = omega (arith, (c .shared-slice-known .given) (c .before .before .loop .i))
+
+returns : tie.Need-returns Inv-loop μ-loop
+returns c = omega arith
+
+pub add-words-spec : {M : Type 1} → statement M
+add-words-spec =
+    tie.close
+    (tie.spec
+    Inv-loop
+    μ-loop
+    loop-holds
+    mul-sum
+    mul-sum-2
+    shared-slice-read-sum
+    cast-sum
+    add-sum
+    add-i
+    loop-less
+    loop-again
+    returns)

@@ -1,0 +1,13 @@
+-- Laws of the definitions, by topic; Top.antt restates what the crate promises.
+pub mod Classes
+pub mod LinesOf
+pub mod Blanks
+pub mod Words
+pub mod Quoted
+pub mod Here
+pub mod Places
+pub mod Meanings
+pub mod Rows
+pub mod EveryRow
+pub mod Examples
+pub mod Top

@@ -1,0 +1,46 @@
+//! The printed image (document 01, "The printed image").
+
+use crate::machine::is_memory_size;
+use std::fmt::Write;
+
+/// What a cell is, in the map: "0 free, 1 code, 2 data".
+pub const FREE: u8 = 0;
+pub const CODE: u8 = 1;
+pub const DATA: u8 = 2;
+
+/// "Library printing refuses, nothing written: 1 bad lengths or a mark above 2; 2 room short."
+#[derive(Clone, Copy, Debug, PartialEq, Eq)]
+#[repr(u8)]
+pub enum NotPrinted {
+    BadLoan = 1,
+    RoomShort = 2,
+}
+
+/// The image's text, or nothing for bad lengths or a mark above 2. A free cell's value is never
+/// printed; only marks count in `claimed`.
+pub fn text(memory: &[u16], map: &[u8]) -> Option<String> {
+    let lengths_fit = is_memory_size(memory.len()) && map.len() == memory.len();
+    if !lengths_fit || map.iter().any(|mark| *mark > DATA) {
+        return None;
+    }
+    let claimed = map.iter().filter(|mark| **mark != FREE).count();
+    let mut text = format!("version=1\nsize={}\nclaimed={}\n", memory.len(), claimed);
+    for (address, (cell, mark)) in memory.iter().zip(map).enumerate() {
+        let name = match *mark {
+            CODE => "code",
+            DATA => "data",
+            _ => continue,
+        };
+        // Writing to a String does not fail.
+        let _ = writeln!(text, "cell={},{},{}", address, name, cell);
+    }
+    Some(text)
+}
+
+/// Prints into the room lent and gives the text's length. Room equal to the length is enough.
+pub fn print(memory: &[u16], map: &[u8], room: &mut [u8]) -> Result<usize, NotPrinted> {
+    let text = text(memory, map).ok_or(NotPrinted::BadLoan)?;
+    let place = room.get_mut(..text.len()).ok_or(NotPrinted::RoomShort)?;
+    place.copy_from_slice(text.as_bytes());
+    Ok(text.len())
+}

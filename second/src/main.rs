@@ -1,0 +1,115 @@
+//! The second program's commands.
+
+#![forbid(unsafe_code)]
+
+use second::case::{self, Case};
+use second::{answer, count, make, program, show, speed};
+use std::io::{self, BufRead, BufWriter, Write};
+use std::process::ExitCode;
+
+const USAGE: &str = "usage:
+  second answer < cases > replies
+  second make KIND COUNT SEED > cases
+      KIND: assemble encode decode step run print machine all
+  second assemble M FILE
+  second count < cases
+  second show < cases
+  second speed
+";
+
+fn main() -> ExitCode {
+    let arguments: Vec<String> =
+        std::env::args_os().skip(1).map(|given| given.to_string_lossy().into_owned()).collect();
+    let words: Vec<&str> = arguments.iter().map(String::as_str).collect();
+    let done = match words.as_slice() {
+        ["answer"] => answer_all(),
+        ["make", kind, count, seed] => make_all(kind, count, seed),
+        ["assemble", cells, _] => assemble_file(cells),
+        ["count"] => count_all(),
+        ["show"] => for_each_case(|case, out| write!(out, "{}", show::show(case))),
+        ["speed"] => speed_all(),
+        _ => Err(USAGE.to_string()),
+    };
+    match done {
+        Ok(code) => code,
+        Err(message) => {
+            eprint!("{}", message);
+            ExitCode::from(2)
+        }
+    }
+}
+
+type Done = Result<ExitCode, String>;
+
+fn failed(error: io::Error) -> String {
+    format!("second: {}\n", error)
+}
+
+/// Hands each case of the standard input over; a malformed line ends everything with its number.
+fn for_each_case(mut each: impl FnMut(&Case, &mut dyn Write) -> io::Result<()>) -> Done {
+    let mut out = BufWriter::new(io::stdout().lock());
+    for (at, line) in io::stdin().lock().split(b'\n').enumerate() {
+        let line = line.map_err(failed)?;
+        let case = std::str::from_utf8(&line).map_err(|_| "not ASCII").and_then(case::read);
+        let case = case.map_err(|why| format!("second: line {}: {}\n", at + 1, why))?;
+        each(&case, &mut out).map_err(failed)?;
+    }
+    out.flush().map_err(failed)?;
+    Ok(ExitCode::SUCCESS)
+}
+
+fn answer_all() -> Done {
+    for_each_case(|case, out| writeln!(out, "{}", answer::answer(case)))
+}
+
+fn count_all() -> Done {
+    let mut counts = count::Counts::default();
+    for_each_case(|case, _| {
+        counts.add(case);
+        Ok(())
+    })?;
+    put(&counts.to_string(), ExitCode::SUCCESS)
+}
+
+/// Each line is printed as soon as its work is done.
+fn speed_all() -> Done {
+    let mut out = io::stdout().lock();
+    for work in &speed::WORKS {
+        writeln!(out, "{}", work.line()).map_err(failed)?;
+    }
+    Ok(ExitCode::SUCCESS)
+}
+
+/// Prints a text and ends with a code.
+fn put(text: &str, code: ExitCode) -> Done {
+    let mut out = io::stdout().lock();
+    out.write_all(text.as_bytes()).and_then(|()| out.flush()).map_err(failed)?;
+    Ok(code)
+}
+
+fn make_all(kind: &str, count: &str, seed: &str) -> Done {
+    let number = |text: &str| text.parse::<u64>().map_err(|_| USAGE.to_string());
+    let kind = make::Kind::of_name(kind).ok_or_else(|| USAGE.to_string())?;
+    let (count, seed) = (number(count)?, number(seed)?);
+    let mut out = BufWriter::new(io::stdout().lock());
+    let mut maker = make::Maker::new(kind, seed);
+    for _ in 0..count {
+        writeln!(out, "{}", maker.next_case()).map_err(failed)?;
+    }
+    out.flush().map_err(failed)?;
+    Ok(ExitCode::SUCCESS)
+}
+
+/// M is judged before the file is opened. The file's name is taken as the system gave it.
+fn assemble_file(cells: &str) -> Done {
+    let cells = match program::memory_size(cells) {
+        Some(cells) => cells,
+        None => return put(&program::bad_size_text(), ExitCode::FAILURE),
+    };
+    let file = std::env::args_os().nth(3).unwrap_or_default();
+    let source = std::fs::read(&file).map_err(failed)?;
+    match program::assemble_text(cells, &source) {
+        Ok(text) => put(&text, ExitCode::SUCCESS),
+        Err(text) => put(&text, ExitCode::FAILURE),
+    }
+}

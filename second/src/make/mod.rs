@@ -1,0 +1,101 @@
+//! Making cases from a seed: the same kind, count and seed give the same bytes everywhere.
+
+pub mod assemble;
+pub mod blocks;
+pub mod draw;
+pub mod faulty;
+pub mod images;
+pub mod large;
+pub mod mutate;
+pub mod nasty;
+pub mod ports;
+pub mod programs;
+pub mod random;
+pub mod source;
+pub mod states;
+pub mod words;
+
+use crate::case::Case;
+use random::Random;
+
+/// Which cases are made.
+#[derive(Clone, Copy, Debug, PartialEq, Eq)]
+pub enum Kind {
+    Assemble,
+    Encode,
+    Decode,
+    Step,
+    Run,
+    Print,
+    /// Encode, decode, step and run mixed.
+    Machine,
+    /// Everything mixed.
+    All,
+}
+
+impl Kind {
+    pub fn of_name(name: &str) -> Option<Kind> {
+        Some(match name {
+            "assemble" => Kind::Assemble,
+            "encode" => Kind::Encode,
+            "decode" => Kind::Decode,
+            "step" => Kind::Step,
+            "run" => Kind::Run,
+            "print" => Kind::Print,
+            "machine" => Kind::Machine,
+            "all" => Kind::All,
+            _ => return None,
+        })
+    }
+}
+
+/// An endless row of cases.
+#[derive(Clone, Debug)]
+pub struct Maker {
+    kind: Kind,
+    random: Random,
+}
+
+impl Maker {
+    pub fn new(kind: Kind, seed: u64) -> Maker {
+        Maker { kind, random: Random::new(seed) }
+    }
+
+    pub fn next_case(&mut self) -> Case {
+        let random = &mut self.random;
+        let kind = match self.kind {
+            Kind::All => *random.pick(&[
+                Kind::Assemble,
+                Kind::Assemble,
+                Kind::Assemble,
+                Kind::Assemble,
+                Kind::Machine,
+                Kind::Machine,
+                Kind::Machine,
+                Kind::Machine,
+                Kind::Machine,
+                Kind::Print,
+            ]),
+            kind => kind,
+        };
+        match kind {
+            Kind::Machine => {
+                let mixed =
+                    [Kind::Encode, Kind::Decode, Kind::Step, Kind::Step, Kind::Step, Kind::Run];
+                make(*random.pick(&mixed), random)
+            }
+            kind => make(kind, random),
+        }
+    }
+}
+
+fn make(kind: Kind, random: &mut Random) -> Case {
+    match kind {
+        Kind::Encode => words::encode_case(random),
+        Kind::Decode => words::decode_case(random),
+        Kind::Step => states::step_case(random),
+        Kind::Run => programs::run_case(random),
+        Kind::Print => images::print_case(random),
+        Kind::Assemble | Kind::Machine | Kind::All => assemble::assemble_case(random),
+    }
+}

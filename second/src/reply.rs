@@ -1,0 +1,95 @@
+//! Replies: what a case is answered, one a line (docs/COMPARED.md has the format).
+
+use crate::case::write::{Hex, Pairs};
+use crate::isa::Instruction;
+use std::fmt::{self, Display, Formatter};
+
+/// Cells or map bytes by ascending address.
+pub type Listed<T> = Vec<(usize, T)>;
+
+/// What a step or a run leaves behind.
+#[derive(Clone, Debug, PartialEq, Eq)]
+pub struct Left {
+    pub registers: [u16; 16],
+    pub stop_code: u8,
+    pub input_position: u64,
+    pub output_position: u64,
+    pub changed_cells: Listed<u16>,
+    pub changed_output: Listed<Vec<u8>>,
+}
+
+#[derive(Clone, Debug, PartialEq, Eq)]
+pub enum Reply {
+    Assemble { refusal: u8, line: u32, code: u32, data: u32, cells: Listed<u16>, marks: Listed<u8> },
+    Encoded(Vec<u16>),
+    NotEncoded,
+    Decoded(Instruction),
+    NotDecoded(u8),
+    Step(u8, Left),
+    Run(u8, u32, Left),
+    Print { code: u8, length: usize, changed: Listed<Vec<u8>> },
+}
+
+/// What differs between two rows of one length, by ascending address.
+pub fn differing<T: Copy + PartialEq>(before: &[T], after: &[T]) -> Listed<T> {
+    let pairs = before.iter().zip(after).enumerate();
+    pairs.filter(|(_, (old, new))| old != new).map(|(at, (_, new))| (at, *new)).collect()
+}
+
+/// The maximal runs of bytes that differ from what all of them were before.
+pub fn changed_runs(fill: u8, after: &[u8]) -> Listed<Vec<u8>> {
+    let mut runs: Listed<Vec<u8>> = Vec::new();
+    let mut end_of_last = usize::MAX;
+    for (at, byte) in after.iter().enumerate().filter(|(_, byte)| **byte != fill) {
+        match runs.last_mut() {
+            Some((_, run)) if end_of_last == at => run.push(*byte),
+            _ => runs.push((at, vec![*byte])),
+        }
+        end_of_last = at + 1;
+    }
+    runs
+}
+
+struct Runs<'r>(&'r [(usize, Vec<u8>)]);
+
+impl Display for Runs<'_> {
+    fn fmt(&self, out: &mut Formatter) -> fmt::Result {
+        write!(out, "{}", self.0.len())?;
+        self.0.iter().try_for_each(|(start, bytes)| write!(out, " {} {}", start, Hex(bytes)))
+    }
+}
+
+impl Display for Left {
+    fn fmt(&self, out: &mut Formatter) -> fmt::Result {
+        self.registers.iter().try_for_each(|register| write!(out, "{} ", register))?;
+        write!(out, "{} {} {} ", self.stop_code, self.input_position, self.output_position)?;
+        write!(out, "{} {}", Pairs(&self.changed_cells), Runs(&self.changed_output))
+    }
+}
+
+impl Display for Reply {
+    fn fmt(&self, out: &mut Formatter) -> fmt::Result {
+        match self {
+            Reply::Assemble { refusal, line, code, data, cells, marks } => {
+                write!(out, "{} {} {} {} ", refusal, line, code, data)?;
+                write!(out, "{} {}", Pairs(cells), Pairs(marks))
+            }
+            Reply::Encoded(words) => {
+                write!(out, "0 {}", words.len())?;
+                words.iter().try_for_each(|word| write!(out, " {}", word))
+            }
+            Reply::NotEncoded => out.write_str("5"),
+            Reply::Decoded(instruction) => {
+                let Instruction { opcode, first, second } = instruction;
+                write!(out, "0 {} {} {} ", opcode.number(), first.kind(), first.word())?;
+                write!(out, "{} {} {}", second.kind(), second.word(), instruction.length())
+            }
+            Reply::NotDecoded(stop) => write!(out, "{}", stop),
+            Reply::Step(stop, left) => write!(out, "{} {}", stop, left),
+            Reply::Run(stop, count, left) => write!(out, "{} {} {}", stop, count, left),
+            Reply::Print { code, length, changed } => {
+                write!(out, "{} {} {}", code, length, Runs(changed))
+            }
+        }
+    }
+}

@@ -1,0 +1,88 @@
+//! The generator: what it reaches, and that it is the same everywhere.
+
+use second::answer::answer;
+use second::case::{self, Case};
+use second::count::Counts;
+use second::make::{Kind, Maker};
+use second::reply::Reply;
+
+fn made(kind: &str, count: usize, seed: u64) -> Vec<Case> {
+    let mut maker = Maker::new(Kind::of_name(kind).expect("a kind"), seed);
+    (0..count).map(|_| maker.next_case()).collect()
+}
+
+#[test]
+fn six_thousand_cases_reach_everything() {
+    let mut counts = Counts::default();
+    for case in made("all", 6_000, 2) {
+        counts.add(&case);
+    }
+    let reached = |group: usize, numbers: &[usize]| {
+        for number in numbers {
+            assert!(
+                counts.by_group[group][*number] > 0,
+                "{} of group {}\n{}",
+                number,
+                group,
+                counts
+            );
+        }
+    };
+    reached(0, &[0, 1, 2, 3, 4, 5, 6, 7, 8, 9, 10, 11, 12, 13, 14]);
+    reached(1, &[0, 5]);
+    reached(2, &[0, 2, 3, 4, 5]);
+    reached(3, &[0, 1, 2, 3, 4, 5, 6, 8, 9, 10]);
+    reached(4, &[1, 2, 3, 4, 5, 6, 7, 8, 9, 10]);
+    reached(5, &[0, 1, 2]);
+}
+
+#[test]
+fn case_lines_read_back_to_the_same_case() {
+    for case in made("all", 3_000, 3) {
+        let line = case.to_string();
+        assert_eq!(case::read(&line), Ok(case), "{}", line);
+    }
+}
+
+#[test]
+fn a_refusal_leaves_memory_and_map_as_they_were() {
+    for case in made("assemble", 2_000, 4) {
+        if let Reply::Assemble { refusal, line, code, data, cells, marks } = answer(&case) {
+            let marked = marks.len() as u32;
+            assert_eq!(code + data, if refusal == 0 { marked } else { 0 });
+            assert!(refusal == 0 || (cells.is_empty() && marks.is_empty()));
+            assert_eq!(line == 0, refusal <= 2, "{}", case);
+        }
+    }
+}
+
+/// FNV-1a over the lines of some cases.
+fn hash(kind: &str) -> u64 {
+    let mut hash = 0xcbf2_9ce4_8422_2325u64;
+    for case in made(kind, 500, 1) {
+        for byte in format!("{}\n", case).bytes() {
+            hash = (hash ^ u64::from(byte)).wrapping_mul(0x0000_0100_0000_01b3);
+        }
+    }
+    hash
+}
+
+#[test]
+fn the_same_seed_makes_the_same_cases() {
+    let kinds = ["assemble", "encode", "decode", "step", "run", "print", "machine", "all"];
+    let hashes: Vec<String> = kinds.iter().map(|kind| format!("{:016x}", hash(kind))).collect();
+    assert_eq!(hashes, HASHES);
+    assert_ne!(made("all", 5, 1), made("all", 5, 2));
+    assert_eq!(made("all", 9, 7)[..5], made("all", 5, 7));
+}
+
+const HASHES: [&str; 8] = [
+    "c95dc4cb425c626c",
+    "33aaa0e3d1dfb997",
+    "42c4d3d0dd05232d",
+    "51a30894bfd2503c",
+    "85e076ca8073a6c5",
+    "ee6565f8267ad2a2",
+    "968e16bfecc8f26a",
+    "fa39e1935c92c659",
+];

@@ -1,0 +1,5 @@
+//! Cases and replies: the generator, the format, the committed files and docs/COMPARED.md.
+
+mod committed;
+mod format;
+mod made;

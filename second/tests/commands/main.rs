@@ -1,0 +1,70 @@
+//! The built program's commands, as a person or a script would give them.
+
+use std::io::Write;
+use std::process::{Command, Output, Stdio};
+
+/// Runs the program with arguments and an input.
+fn second(arguments: &[&str], input: &str) -> Output {
+    let mut child = Command::new(env!("CARGO_BIN_EXE_second"))
+        .args(arguments)
+        .stdin(Stdio::piped())
+        .stdout(Stdio::piped())
+        .stderr(Stdio::piped())
+        .spawn()
+        .expect("the program starts");
+    let mut stdin = child.stdin.take().expect("an input");
+    let input = input.as_bytes().to_vec();
+    // Written from a thread, so that neither side waits for the other; the program may also end
+    // before it has read everything.
+    let writing = std::thread::spawn(move || drop(stdin.write_all(&input)));
+    let output = child.wait_with_output().expect("the program ends");
+    writing.join().expect("the input is written");
+    output
+}
+
+fn printed(arguments: &[&str], input: &str) -> String {
+    String::from_utf8(second(arguments, input).stdout).expect("text")
+}
+
+#[test]
+fn a_bad_m_is_told_before_the_file_is_opened() {
+    for cells in ["0", "16385", "-1", "x", "", "0x10"] {
+        assert_eq!(printed(&["assemble", cells, "/no/such/file"], ""), "refused=1\nline=0\n");
+    }
+    let unread = second(&["assemble", "16", "/no/such/file"], "");
+    assert!(unread.stdout.is_empty() && unread.status.code() == Some(2));
+}
+
+#[test]
+fn a_file_is_assembled() {
+    let file = std::env::temp_dir().join(format!("second-{}.ens", std::process::id()));
+    std::fs::write(&file, "ORG 1\nHALT\nDATA 5").expect("a file");
+    let name = file.to_str().expect("a name");
+    let image = "version=1\nsize=4\nclaimed=2\ncell=1,code,64\ncell=2,data,5\n";
+    assert_eq!(printed(&["assemble", "4", name], ""), image);
+    assert_eq!(printed(&["assemble", "2", name], ""), "refused=11\nline=3\n");
+    std::fs::remove_file(&file).expect("removed");
+}
+
+#[test]
+fn cases_are_made_answered_counted_and_shown() {
+    let cases = printed(&["make", "all", "300", "5"], "");
+    assert_eq!(cases.lines().count(), 300);
+    assert_eq!(printed(&["answer"], &cases).lines().count(), 300);
+    assert!(printed(&["count"], &cases).ends_with("all: 300 cases\n"));
+    assert!(
+        printed(&["show"], &cases).lines().filter(|line| line.contains("reply:")).count() >= 300
+    );
+}
+
+#[test]
+fn what_is_not_understood_ends_with_code_2() {
+    for arguments in
+        [&[][..], &["make", "all", "x", "1"], &["make", "none", "1", "1"], &["nothing"]]
+    {
+        assert_eq!(second(arguments, "").status.code(), Some(2));
+    }
+    assert_eq!(second(&["answer"], "E 39 0 0 0 0\nX\n").status.code(), Some(2));
+    assert_eq!(printed(&["answer"], "E 39 0 0 0 0\nE 1 0 0 0 0\n"), "5\n0 1 64\n");
+    assert_eq!(printed(&["answer"], ""), "");
+}

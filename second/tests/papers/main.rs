@@ -1,0 +1,14 @@
+//! The papers as tests: every worked example of document 01 and every row and sentence of its
+//! settled readings, each as a named case with its expected answer.
+
+mod edges;
+mod form;
+mod image;
+mod instructions;
+mod lines;
+mod loans;
+mod order;
+mod runs;
+mod steps;
+mod support;
+mod table;
