@@ -3,11 +3,13 @@
 -- in ens2025_step/. Whatever is lent gets a reply: the promise has no premise.
 use mathlib.Core.Path.{_≡_, refl, sym, ap, _∙_}
 use mathlib.Core.Bool.{Bool, true, false, cond}
-use mathlib.Core.List.{List}
-use Prim.Native.Nat.{ℕ}
+use mathlib.Core.List.{List, [], _∷_}
+use Prim.Native.Nat.{ℕ, _<_}
+use native.Mathlib.Omega.{arith}
+use lib.ListN.{length, getD, replicate}
 use Rattle.machine.specs.declared.Registers.{Registers}
 use Rattle.machine.specs.declared.Stepped.{Stepped}
-use Rattle.machine.specs.States.{State, state, machine}
+use Rattle.machine.specs.States.{State, state, machine, register}
 use Rattle.machine.specs.Stops.{Answer, goodLoan, isStored}
 use Rattle.machine.specs.Steps.{Reply, reply, stepOf, replyOf}
 use Rattle.machine.proofs.Top as machines
@@ -95,3 +97,31 @@ module _ (input : List ℕ) (g : Registers) (m out : List ℕ) where
         ap (λ (a : Reply). a .after .output) same,
         ap (λ (a : Reply). a .stop) same,
       )
+
+  -- ---- what the promise shuts out, whatever the code and its walk
+
+  -- a step that leaves the registers as they were: it does not meet the promise where HALT stands at PC, register 15
+  pub registers-change : goodLoan input (state g m out) ≡ true → g .stop ≡ 0 → register (state g m out) 15 < length m →
+      getD m (register (state g m out) 15) 0 ≡ 64 → (m′ out′ : List ℕ) (k : ℕ) → Found g m′ out′ k → ⊥
+  registers-change good runs there word m′ out′ k p =
+      let halts = machines.HALT-completes input (state g m out) good runs there word in
+      let one : g .stop ≡ 1 =
+      ap (λ (t : State). t .registers .stop) (found-is g m′ out′ k p .0) ∙ ap (λ (a : Answer). a .after .registers .stop) halts in
+      omega (arith, one, runs)
+
+  -- a step that returns the record's stop code for its stop: it does not meet the promise on a bad loan, unless that code is 10
+  pub stop-is-the-steps : goodLoan input (state g m out) ≡ false → (g .stop ≡ 10 → ⊥) → (g′ : Registers) (m′ out′ : List ℕ) → Found g′ m′ out′ (g′ .stop) → ⊥
+  stop-is-the-steps bad other g′ m′ out′ p =
+      let found = bad-loan g′ m′ out′ (g′ .stop) p bad in other (ap (λ (r : Registers). r .stop) (sym (found .0)) ∙ found .3)
+
+-- both, of a machine that starts: HALT in its one cell, and no cell at all
+abbrev new : Registers
+new = machine (replicate 16 0) 0 0 0
+
+pub registers-change-at-HALT : (m′ out′ : List ℕ) (k : ℕ) → Found [] new (64 ∷ []) [] new m′ out′ k → ⊥
+unfolding goodLoan
+registers-change-at-HALT = registers-change [] new (64 ∷ []) [] refl refl (omega arith) refl
+
+pub stop-10-of-no-cell : (g′ : Registers) (m′ out′ : List ℕ) → Found [] new [] [] g′ m′ out′ (g′ .stop) → ⊥
+unfolding goodLoan
+stop-10-of-no-cell = stop-is-the-steps [] new [] [] refl (λ e. omega (arith, e))
