@@ -3,6 +3,7 @@ use super::fields::NOWHERE;
 use super::fields::is_whole;
 use super::fields::number;
 use super::fields::word;
+use super::replies;
 use super::replies::decimal;
 use super::replies::field;
 use super::replies::put;
@@ -35,7 +36,7 @@ fn operand(kind: usize, w: u16) -> Operand {
 // A kind and a word.
 fn kind_and_word(out: &mut [u8], at: usize, kind: usize, w: u16) -> usize {
     let next = field(out, at, kind);
-    field(out, next, w as usize)
+    replies::word(out, next, w)
 }
 
 // That encoding went well, how many words there are, and the first of them.
@@ -63,11 +64,12 @@ fn encoded(out: &mut [u8], at: usize, e: Encoded) -> usize {
         Encoded::One(a) => first_of(out, at, 1, a),
         Encoded::Two(a, b) => {
             let next = first_of(out, at, 2, a);
-            field(out, next, b as usize)
+            replies::word(out, next, b)
         }
         Encoded::Three(a, b, c) => {
             let next = first_of(out, at, 3, a);
-            kind_and_word(out, next, b as usize, c)
+            let last = replies::word(out, next, b);
+            replies::word(out, last, c)
         }
         Encoded::Refused => decimal(out, at, 5),
     }
@@ -104,11 +106,13 @@ pub(crate) fn encode_case(s: &[u8], from: usize, out: &mut [u8], at: usize) -> u
 
 fn instruction(out: &mut [u8], at: usize, i: Instruction, length: usize) -> usize {
     let op = i.op;
+    let a = i.first;
+    let b = i.second;
     let its = row(op);
     let zero = decimal(out, at, 0);
-    let number = field(out, zero, its.number as usize);
-    let first = put_operand(out, number, i.first);
-    let second = put_operand(out, first, i.second);
+    let number = replies::word(out, zero, its.number);
+    let first = put_operand(out, number, a);
+    let second = put_operand(out, first, b);
     field(out, second, length)
 }
 

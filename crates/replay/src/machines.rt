@@ -26,13 +26,13 @@ pub(crate) enum Asked {
 }
 
 // The 16 registers of a line, and the place after them.
-struct Sixteen {
+struct RegisterRow {
     r: [u16; 16],
     next: usize,
 }
 
 // A machine's record, the lengths of its input and its output room, and what the room is filled with.
-struct Lent {
+struct Loan {
     registers: Registers,
     input: usize,
     room: usize,
@@ -40,7 +40,7 @@ struct Lent {
     next: usize,
 }
 
-fn sixteen(s: &[u8], from: usize) -> Sixteen {
+fn sixteen(s: &[u8], from: usize) -> RegisterRow {
     let mut r = [0u16; 16];
     let mut next = from;
     for i in 0..16 {
@@ -48,11 +48,11 @@ fn sixteen(s: &[u8], from: usize) -> Sixteen {
         r[i] = word(w.value);
         next = w.next;
     }
-    Sixteen { r: r, next: next }
+    RegisterRow { r: r, next: next }
 }
 
 // `R0 .. R15 STOP INPUT INPOS OUTLEN OUTFILL OUTPOS` at a place of a line.
-fn lent(s: &[u8], from: usize, input: &mut [u8]) -> Lent {
+fn lent(s: &[u8], from: usize, input: &mut [u8]) -> Loan {
     let regs = sixteen(s, from);
     let r = regs.r;
     let stop = number(s, regs.next, 255);
@@ -61,7 +61,7 @@ fn lent(s: &[u8], from: usize, input: &mut [u8]) -> Lent {
     let room = number(s, taken.next, 2000000);
     let fill = number(s, room.next, 255);
     let written = number(s, fill.next, 18446744073709551615);
-    Lent {
+    Loan {
         registers: Registers {
             r: r,
             stop: byte(stop.value),

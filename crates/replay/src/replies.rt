@@ -42,22 +42,35 @@ pub(crate) fn field(out: &mut [u8], at: usize, n: usize) -> usize {
     decimal(out, next, n)
 }
 
+pub(crate) fn word(out: &mut [u8], at: usize, w: u16) -> usize {
+    field(out, at, w as usize)
+}
+
 pub(crate) fn words(out: &mut [u8], at: usize, list: &[u16]) -> usize {
     let mut next = at;
     for i in 0..list.len() {
-        next = field(out, next, list[i] as usize);
+        next = word(out, next, list[i]);
     }
     next
+}
+
+// A cell: nothing if it is as before, else its address and its word.
+fn cell(out: &mut [u8], at: usize, before: &[u16], m: &[u16], i: usize) -> usize {
+    if m.len() <= i {
+        return at;
+    }
+    if !is_changed(before, m, i) {
+        return at;
+    }
+    let next = field(out, at, i);
+    word(out, next, m[i])
 }
 
 // Every cell that differs from before, with its address.
 pub(crate) fn cells(out: &mut [u8], at: usize, before: &[u16], m: &[u16]) -> usize {
     let mut next = at;
     for i in 0..m.len() {
-        if is_changed(before, m, i) {
-            next = field(out, next, i);
-            next = field(out, next, m[i] as usize);
-        }
+        next = cell(out, next, before, m, i);
     }
     next
 }
