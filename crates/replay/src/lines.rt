@@ -11,6 +11,13 @@ struct Answered {
     at: usize,
 }
 
+// How much of a line is held, the place after the replies, and whether the input is at its end.
+struct Held {
+    held: usize,
+    at: usize,
+    is_last: bool,
+}
+
 // The place of the first line end from a place on; the text's length if there is none.
 fn line_end(text: &[u8], from: usize) -> usize
     ensures { λ r. ⌜ from ≤ r ⌝ }
@@ -93,6 +100,45 @@ fn read_some(part: &mut [u8]) -> usize
     io::count(got, part)
 }
 
+fn complain() {
+    io::write_all(2, b"replay: a malformed line\n");
+}
+
+// Reads on and answers the lines that are whole then.
+fn turn(
+    text: &mut [u8],
+    m: &mut [u16],
+    before: &mut [u16],
+    input: &mut [u8],
+    room: &mut [u8],
+    out: &mut [u8],
+    held: usize,
+    at: usize,
+) -> Held {
+    let more = read_more(text, held);
+    if more <= held {
+        return Held {
+            held: held,
+            at: at,
+            is_last: true,
+        };
+    }
+    let done = answer_lines(&text[..more], m, before, input, room, out, at);
+    if done.used == NOWHERE {
+        complain();
+        return Held {
+            held: 0,
+            at: done.at,
+            is_last: true,
+        };
+    }
+    Held {
+        held: keep_rest(text, done.used, more),
+        at: done.at,
+        is_last: false,
+    }
+}
+
 // Answers all of standard input. A proved loop has to end, so it counts its turns down from a number that no run uses up.
 pub(crate) fn answer_all(
     text: &mut [u8],
@@ -106,17 +152,12 @@ pub(crate) fn answer_all(
     let mut at = 0;
     let mut turns = u64::MAX;
     while 0 < turns {
-        let more = read_more(text, held);
-        if more <= held {
+        let next = turn(text, m, before, input, room, out, held, at);
+        held = next.held;
+        at = next.at;
+        if next.is_last {
             break;
         }
-        let done = answer_lines(&text[..more], m, before, input, room, out, at);
-        at = done.at;
-        if done.used == NOWHERE {
-            io::write_all(2, b"replay: a malformed line\n");
-            break;
-        }
-        held = keep_rest(text, done.used, more);
         turns -= 1;
     }
     flush(out, at);

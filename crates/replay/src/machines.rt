@@ -93,6 +93,40 @@ fn changes(out: &mut [u8], at: usize, before: &[u16], m: &[u16], room: &[u8], fi
     put(out, shown, b'\n')
 }
 
+fn step_reply(
+    g: Registers,
+    m: &mut [u16],
+    before: &[u16],
+    input: &[u8],
+    room: &mut [u8],
+    fill: u8,
+    out: &mut [u8],
+    at: usize,
+) -> usize {
+    let a = step(g, m, input, room);
+    let stop = decimal(out, at, a.stop as usize);
+    let left = record(out, stop, a.registers);
+    changes(out, left, before, m, room, fill)
+}
+
+fn run_reply(
+    budget: u32,
+    g: Registers,
+    m: &mut [u16],
+    before: &[u16],
+    input: &[u8],
+    room: &mut [u8],
+    fill: u8,
+    out: &mut [u8],
+    at: usize,
+) -> usize {
+    let a = run(g, m, input, room, budget);
+    let stop = decimal(out, at, a.stop as usize);
+    let count = field(out, stop, a.count as usize);
+    let left = record(out, count, a.registers);
+    changes(out, left, before, m, room, fill)
+}
+
 // Steps or runs, and replies.
 fn operate(
     asked: Asked,
@@ -107,19 +141,8 @@ fn operate(
 ) -> usize {
     fill_room(room, fill);
     match asked {
-        Asked::Step => {
-            let a = step(g, m, input, room);
-            let stop = decimal(out, at, a.stop as usize);
-            let left = record(out, stop, a.registers);
-            changes(out, left, before, m, room, fill)
-        }
-        Asked::Run(budget) => {
-            let a = run(g, m, input, room, budget);
-            let stop = decimal(out, at, a.stop as usize);
-            let count = field(out, stop, a.count as usize);
-            let left = record(out, count, a.registers);
-            changes(out, left, before, m, room, fill)
-        }
+        Asked::Step => step_reply(g, m, before, input, room, fill, out, at),
+        Asked::Run(budget) => run_reply(budget, g, m, before, input, room, fill, out, at),
     }
 }
 
