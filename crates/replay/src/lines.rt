@@ -153,11 +153,12 @@ pub(crate) fn answer_all(
     let mut turns = u64::MAX;
     while 0 < turns {
         let next = turn(text, m, before, input, room, out, held, at);
+        if next.is_last {
+            flush(out, next.at);
+            return;
+        }
         held = next.held;
         at = next.at;
-        if next.is_last {
-            break;
-        }
         turns -= 1;
     }
     flush(out, at);

@@ -1,69 +1,78 @@
+-- Everything that is lent keeps its length. The measure is the number of turns that are left.
+use borrow.Author.Needs.{needs}
+use lib.ListN.{length}
+use mathlib.Core.Path.{_≡_}
 use Rattle.replay.proofs.lines.answer_all.Statement.{statement}
 use Rattle.replay.proofs.lines.answer_all.Tie as tie
-use Rattle.replay.proofs.lines.answer_all.Reads as reads
-use Rattle.replay.proofs.lines.answer_all.Lts as lts
-use Rattle.replay.proofs.lines.turn.Reads as turn-reads
-use Rattle.replay.proofs.replies.flush.Reads as flush-reads
 
 abbrev Inv-loop : tie.InvT-loop
-Inv-loop text₀ m₀ before₀ input₀ room₀ out₀ held₀ at₀ turns₀ text m before input room out held at turns =
-    ?
+Inv-loop text₀ m₀ before₀ input₀ room₀ out₀ held₀ at₀ turns₀ text m before input room out held at turns = (length text ≡ length text₀) × (length m ≡ length m₀) × (length before ≡ length before₀) × (length input ≡ length input₀) × (length room ≡ length room₀) × (length out ≡ length out₀)
 
 abbrev μ-loop : tie.MeasureT-loop
-μ-loop text₀ m₀ before₀ input₀ room₀ out₀ held₀ at₀ turns₀ text m before input room out held at turns =
-    ?
+μ-loop text₀ m₀ before₀ input₀ room₀ out₀ held₀ at₀ turns₀ text m before input room out held at turns = turns
 
--- src/lines.rt:154:5
 loop-holds : tie.Need-loop-holds Inv-loop μ-loop
-loop-holds c = ?
+loop-holds c = search needs
 
--- src/lines.rt:155:13
 turn-requires : tie.Need-turn-requires Inv-loop μ-loop
-turn-requires c κs = ?
+turn-requires c κs = search needs
 
--- src/lines.rt:161:9
-sub-turns : tie.Need-sub-turns Inv-loop μ-loop
-sub-turns c = ?
-
--- src/lines.rt:154:5
-loop-less : tie.Need-loop-less Inv-loop μ-loop
-loop-less c = ?
-
--- src/lines.rt:154:5
-loop-again : tie.Need-loop-again Inv-loop μ-loop
-loop-again c = ?
-
--- src/lines.rt:163:5
 flush-requires : tie.Need-flush-requires Inv-loop μ-loop
-flush-requires c κs = ?
+flush-requires c κs = search needs
 
--- src/lines.rt:143:1
 same-length : tie.Need-same-length Inv-loop μ-loop
-same-length c = ?
+same-length c = search needs
 
--- src/lines.rt:143:1
 same-length-2 : tie.Need-same-length-2 Inv-loop μ-loop
-same-length-2 c = ?
+same-length-2 c = search needs
 
--- src/lines.rt:143:1
 same-length-3 : tie.Need-same-length-3 Inv-loop μ-loop
-same-length-3 c = ?
+same-length-3 c = search needs
 
--- src/lines.rt:143:1
 same-length-4 : tie.Need-same-length-4 Inv-loop μ-loop
-same-length-4 c = ?
+same-length-4 c = search needs
 
--- src/lines.rt:143:1
 same-length-5 : tie.Need-same-length-5 Inv-loop μ-loop
-same-length-5 c = ?
+same-length-5 c = search needs
 
--- src/lines.rt:143:1
 same-length-6 : tie.Need-same-length-6 Inv-loop μ-loop
-same-length-6 c = ?
+same-length-6 c = search needs
 
--- src/lines.rt:143:1
 returns : tie.Need-returns Inv-loop μ-loop
-returns c = ?
+returns c = search needs
+
+sub-turns : tie.Need-sub-turns Inv-loop μ-loop
+sub-turns c = search needs
+
+loop-less : tie.Need-loop-less Inv-loop μ-loop
+loop-less c = search needs
+
+loop-again : tie.Need-loop-again Inv-loop μ-loop
+loop-again c = search needs
+
+flush-requires-2 : tie.Need-flush-requires-2 Inv-loop μ-loop
+flush-requires-2 c κs = search needs
+
+same-length-7 : tie.Need-same-length-7 Inv-loop μ-loop
+same-length-7 c = search needs
+
+same-length-8 : tie.Need-same-length-8 Inv-loop μ-loop
+same-length-8 c = search needs
+
+same-length-9 : tie.Need-same-length-9 Inv-loop μ-loop
+same-length-9 c = search needs
+
+same-length-10 : tie.Need-same-length-10 Inv-loop μ-loop
+same-length-10 c = search needs
+
+same-length-11 : tie.Need-same-length-11 Inv-loop μ-loop
+same-length-11 c = search needs
+
+same-length-12 : tie.Need-same-length-12 Inv-loop μ-loop
+same-length-12 c = search needs
+
+returns-2 : tie.Need-returns-2 Inv-loop μ-loop
+returns-2 c = search needs
 
 pub answer-all-spec : {M : Type 1} → statement M
 answer-all-spec =
@@ -73,9 +82,6 @@ answer-all-spec =
     μ-loop
     loop-holds
     turn-requires
-    sub-turns
-    loop-less
-    loop-again
     flush-requires
     same-length
     same-length-2
@@ -83,4 +89,15 @@ answer-all-spec =
     same-length-4
     same-length-5
     same-length-6
-    returns)
+    returns
+    sub-turns
+    loop-less
+    loop-again
+    flush-requires-2
+    same-length-7
+    same-length-8
+    same-length-9
+    same-length-10
+    same-length-11
+    same-length-12
+    returns-2)

@@ -1,98 +1,73 @@
+-- The part that is answered ends within the text.
 use borrow.Author.Needs.{needs}
+use native.Mathlib.Omega.{arith}
+use lib.ListN.{length-take}
 use Rattle.replay.proofs.lines.turn.Statement.{statement}
 use Rattle.replay.proofs.lines.turn.Tie as tie
-use Rattle.replay.proofs.lines.turn.Reads as reads
-use Rattle.replay.proofs.lines.turn.Lts as lts
-use Rattle.replay.proofs.lines.answer_lines.Reads as answer-lines-reads
-use Rattle.replay.proofs.lines.complain.Reads as complain-reads
-use Rattle.replay.proofs.lines.keep_rest.Reads as keep-rest-reads
-use Rattle.replay.proofs.lines.read_more.Reads as read-more-reads
 
--- src/lines.rt:118:9
 read-more-requires : tie.Need-read-more-requires
 read-more-requires c κs = search needs
 
--- src/lines.rt:120:9
 same-length : tie.Need-same-length
 same-length c = search needs
 
--- src/lines.rt:120:9
 returns : tie.Need-returns
 returns c = search needs
 
--- src/lines.rt:126:29
 slice-reshare-prefix-answer-lines : tie.Need-slice-reshare-prefix-answer-lines
 slice-reshare-prefix-answer-lines c = search needs
 
--- src/lines.rt:126:29
 slice-aggregate-answer-lines : tie.Need-slice-aggregate-answer-lines
-slice-aggregate-answer-lines c = ?
+slice-aggregate-answer-lines c = simp length-take (omega arith)
 
--- src/lines.rt:126:9
 answer-lines-requires : tie.Need-answer-lines-requires
 answer-lines-requires c κs = search needs
 
--- src/lines.rt:128:9
 complain-requires : tie.Need-complain-requires
 complain-requires c κs = search needs
 
--- src/lines.rt:129:9
 same-length-2 : tie.Need-same-length-2
 same-length-2 c = search needs
 
--- src/lines.rt:129:9
 same-length-3 : tie.Need-same-length-3
 same-length-3 c = search needs
 
--- src/lines.rt:129:9
 same-length-4 : tie.Need-same-length-4
 same-length-4 c = search needs
 
--- src/lines.rt:129:9
 same-length-5 : tie.Need-same-length-5
 same-length-5 c = search needs
 
--- src/lines.rt:129:9
 same-length-6 : tie.Need-same-length-6
 same-length-6 c = search needs
 
--- src/lines.rt:129:9
 same-length-7 : tie.Need-same-length-7
 same-length-7 c = search needs
 
--- src/lines.rt:129:9
 returns-2 : tie.Need-returns-2
 returns-2 c = search needs
 
--- src/lines.rt:136:15
 keep-rest-requires : tie.Need-keep-rest-requires
 keep-rest-requires c κs = search needs
 
--- src/lines.rt:108:1
 same-length-8 : tie.Need-same-length-8
 same-length-8 c = search needs
 
--- src/lines.rt:108:1
 same-length-9 : tie.Need-same-length-9
 same-length-9 c = search needs
 
--- src/lines.rt:108:1
 same-length-10 : tie.Need-same-length-10
 same-length-10 c = search needs
 
--- src/lines.rt:108:1
 same-length-11 : tie.Need-same-length-11
 same-length-11 c = search needs
 
--- src/lines.rt:108:1
 same-length-12 : tie.Need-same-length-12
 same-length-12 c = search needs
 
--- src/lines.rt:108:1
 same-length-13 : tie.Need-same-length-13
 same-length-13 c = search needs
 
--- src/lines.rt:108:1
 returns-3 : tie.Need-returns-3
 returns-3 c = search needs
 
