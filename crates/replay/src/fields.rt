@@ -52,7 +52,7 @@ fn digit(b: u8) -> u8
     if b <= b'f' { b - b'a' + 10 } else { 16 }
 }
 
-// A number with one more digit; `full` where it does not fit.
+// A number with one more digit, or nothing where it does not fit.
 fn appended(value: usize, d: u8) -> Field {
     if 1844674407370955161 < value {
         return nothing();
@@ -112,7 +112,7 @@ pub(crate) fn number(s: &[u8], at: usize, most: usize) -> Field {
     }
 }
 
-// The byte that two hex digits at a place spell, and whether they do: its value is 256 if not.
+// The byte that two hex digits at a place spell; 256 if there are none.
 fn pair(s: &[u8], at: usize) -> usize {
     if s.len() <= at {
         return 256;
