@@ -101,7 +101,17 @@ fn read_some(part: &mut [u8]) -> usize
 }
 
 fn complain() {
-    io::write_all(2, b"replay: a malformed line\n");
+    io::write_all(
+        2,
+        b"replay: a line that is malformed, unfinished or too long\n",
+    );
+}
+
+// At the end of the input, or of the room, no line may be begun.
+fn check_end(held: usize) {
+    if 0 < held {
+        complain();
+    }
 }
 
 // Reads on and answers the lines that are whole then.
@@ -117,6 +127,7 @@ fn turn(
 ) -> Held {
     let more = read_more(text, held);
     if more <= held {
+        check_end(held);
         return Held {
             held: held,
             at: at,

@@ -1,4 +1,5 @@
 -- Everything that is lent keeps its length. The measure is what is left of the text.
+use native.Mathlib.Omega.{arith}
 use borrow.Author.Needs.{needs}
 use Prim.Native.Nat.{_-_}
 use lib.ListN.{length}
@@ -13,13 +14,13 @@ abbrev μ-loop : tie.MeasureT-loop
 μ-loop text m₀ before₀ input₀ room₀ out₀ at from₀ next₀ m before input room out from next = length text - from
 
 loop-holds : tie.Need-loop-holds Inv-loop μ-loop
-loop-holds c = search needs
+loop-holds c = omega arith
 
 line-end-requires : tie.Need-line-end-requires Inv-loop μ-loop
-line-end-requires c κs = search needs
+line-end-requires c κs = tt
 
 sub-answer : tie.Need-sub-answer Inv-loop μ-loop
-sub-answer c = search needs
+sub-answer c = omega arith
 
 part-answer-start : tie.Need-part-answer-start Inv-loop μ-loop
 part-answer-start c = search needs
@@ -28,70 +29,70 @@ part-answer-end : tie.Need-part-answer-end Inv-loop μ-loop
 part-answer-end c = search needs
 
 answer-requires : tie.Need-answer-requires Inv-loop μ-loop
-answer-requires c κs = search needs
+answer-requires c κs = tt
 
 same-length : tie.Need-same-length Inv-loop μ-loop
-same-length c = search needs
+same-length c = omega arith
 
 same-length-2 : tie.Need-same-length-2 Inv-loop μ-loop
-same-length-2 c = search needs
+same-length-2 c = omega arith
 
 same-length-3 : tie.Need-same-length-3 Inv-loop μ-loop
-same-length-3 c = search needs
+same-length-3 c = omega arith
 
 same-length-4 : tie.Need-same-length-4 Inv-loop μ-loop
-same-length-4 c = search needs
+same-length-4 c = omega arith
 
 same-length-5 : tie.Need-same-length-5 Inv-loop μ-loop
-same-length-5 c = search needs
+same-length-5 c = omega arith
 
 returns : tie.Need-returns Inv-loop μ-loop
-returns c = search needs
+returns c = tt
 
 add-from : tie.Need-add-from Inv-loop μ-loop
-add-from c = search needs
+add-from c = omega arith
 
 loop-less : tie.Need-loop-less Inv-loop μ-loop
-loop-less c = search needs
+loop-less c = omega arith
 
 loop-again : tie.Need-loop-again Inv-loop μ-loop
-loop-again c = search needs
+loop-again c = omega arith
 
 same-length-6 : tie.Need-same-length-6 Inv-loop μ-loop
-same-length-6 c = search needs
+same-length-6 c = omega arith
 
 same-length-7 : tie.Need-same-length-7 Inv-loop μ-loop
-same-length-7 c = search needs
+same-length-7 c = omega arith
 
 same-length-8 : tie.Need-same-length-8 Inv-loop μ-loop
-same-length-8 c = search needs
+same-length-8 c = omega arith
 
 same-length-9 : tie.Need-same-length-9 Inv-loop μ-loop
-same-length-9 c = search needs
+same-length-9 c = omega arith
 
 same-length-10 : tie.Need-same-length-10 Inv-loop μ-loop
-same-length-10 c = search needs
+same-length-10 c = omega arith
 
 returns-2 : tie.Need-returns-2 Inv-loop μ-loop
-returns-2 c = search needs
+returns-2 c = tt
 
 same-length-11 : tie.Need-same-length-11 Inv-loop μ-loop
-same-length-11 c = search needs
+same-length-11 c = omega arith
 
 same-length-12 : tie.Need-same-length-12 Inv-loop μ-loop
-same-length-12 c = search needs
+same-length-12 c = omega arith
 
 same-length-13 : tie.Need-same-length-13 Inv-loop μ-loop
-same-length-13 c = search needs
+same-length-13 c = omega arith
 
 same-length-14 : tie.Need-same-length-14 Inv-loop μ-loop
-same-length-14 c = search needs
+same-length-14 c = omega arith
 
 same-length-15 : tie.Need-same-length-15 Inv-loop μ-loop
-same-length-15 c = search needs
+same-length-15 c = omega arith
 
 returns-3 : tie.Need-returns-3 Inv-loop μ-loop
-returns-3 c = search needs
+returns-3 c = tt
 
 pub answer-lines-spec : {M : Type 1} → statement M
 answer-lines-spec =
