@@ -7,6 +7,7 @@ pub mod step;
 
 // The machine's record: 16 registers by the paper's codes, the stop code, and how many bytes were taken of the input and
 // written to the output. What a later request adds to the record (a dialect, the stack's direction, a guard) goes here.
+#[repr(C)] // its layout is C's: a host lends it (include/ens2025.h)
 pub struct Registers {
     pub r: [u16; 16],
     pub stop: u8,

@@ -1,0 +1,2 @@
+-- The host's step: the promise restated (Top).
+pub mod Top
