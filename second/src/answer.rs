@@ -5,7 +5,8 @@ use crate::case::{Case, LentImage, LentMachine, LentSource};
 use crate::image;
 use crate::isa::{self, Instruction, Opcode, Operand};
 use crate::machine::{self, Machine, Registers};
-use crate::reply::{changed_runs, differing, Left, Reply};
+use crate::reply::{changed_runs, differing, Left, LineSays, Name, Reply};
+use crate::text::{read_line, Statement};
 
 pub fn answer(case: &Case) -> Reply {
     match case {
@@ -24,6 +25,7 @@ pub fn answer(case: &Case) -> Reply {
             Reply::Run(ran.stop.number(), ran.count, left)
         }
         Case::Print(lent) => answer_print(lent),
+        Case::Line(line) => answer_line(line),
     }
 }
 
@@ -97,4 +99,24 @@ fn answer_print(lent: &LentImage) -> Reply {
         Err(refused) => (refused as u8, 0),
     };
     Reply::Print { code, length, changed: changed_runs(lent.room_fill, &room) }
+}
+
+/// What the line by itself says: nothing of other lines or of addresses.
+fn answer_line(line: &[u8]) -> Reply {
+    let read = read_line(line);
+    let name = |word: Option<&[u8]>| Name::of(line, word);
+    let says = match read.statement {
+        Err(fault) => Err(fault as u8),
+        Ok(None) => Ok(LineSays::Nothing),
+        Ok(Some(Statement::Org(value))) => Ok(LineSays::Org(value)),
+        Ok(Some(Statement::Equ(value))) => Ok(LineSays::Equ(value)),
+        Ok(Some(Statement::Res(value))) => Ok(LineSays::Res(value)),
+        Ok(Some(Statement::End)) => Ok(LineSays::End),
+        Ok(Some(Statement::Data(cells))) => Ok(LineSays::Data(cells.len())),
+        Ok(Some(Statement::Instruction(written))) => Ok(LineSays::Instruction(
+            written.instruction,
+            [name(written.labels[0]), name(written.labels[1])],
+        )),
+    };
+    Reply::Line(name(read.label), says)
 }

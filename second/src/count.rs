@@ -6,19 +6,20 @@ use crate::reply::Reply;
 use std::fmt::{self, Display, Formatter};
 
 /// The groups in which replies are counted, with the highest number of each.
-const GROUPS: [(&str, usize); 6] = [
+const GROUPS: [(&str, usize); 7] = [
     ("assemble, by refusal", 14),
     ("encode, by reply", 5),
     ("decode, by reply", 5),
     ("step, by stop", 10),
     ("run, by stop", 10),
     ("print, by reply", 2),
+    ("line, by refusal", 8),
 ];
 
 /// How many cases of each group got each number.
 #[derive(Debug, Default, PartialEq, Eq)]
 pub struct Counts {
-    pub by_group: [[u64; 15]; 6],
+    pub by_group: [[u64; 15]; 7],
 }
 
 impl Counts {
@@ -32,6 +33,8 @@ impl Counts {
             Reply::Step(stop, _) => (3, stop),
             Reply::Run(stop, _, _) => (4, stop),
             Reply::Print { code, .. } => (5, code),
+            Reply::Line(_, Ok(_)) => (6, 0),
+            Reply::Line(_, Err(refusal)) => (6, refusal),
         };
         if let Some(count) = self.by_group[group].get_mut(usize::from(number)) {
             *count += 1;

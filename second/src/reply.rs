@@ -28,6 +28,38 @@ pub enum Reply {
     Step(u8, Left),
     Run(u8, u32, Left),
     Print { code: u8, length: usize, changed: Listed<Vec<u8>> },
+    /// A line's label and what it says, or the number of the first of its own checks that fails.
+    Line(Name, Result<LineSays, u8>),
+}
+
+/// A word's place in its line: where it starts, and where it ends; both 0 for no word.
+#[derive(Clone, Copy, Debug, PartialEq, Eq)]
+pub struct Name(pub usize, pub usize);
+
+impl Name {
+    /// The place of a word that was cut out of a line.
+    pub fn of(line: &[u8], word: Option<&[u8]>) -> Name {
+        match word {
+            None => Name(0, 0),
+            Some(word) => {
+                let start = word.as_ptr() as usize - line.as_ptr() as usize;
+                Name(start, start + word.len())
+            }
+        }
+    }
+}
+
+#[derive(Clone, Debug, PartialEq, Eq)]
+pub enum LineSays {
+    Nothing,
+    /// With 0 in the place of each label, and the labels' places.
+    Instruction(Instruction, [Name; 2]),
+    Org(u16),
+    Equ(u16),
+    Res(u16),
+    /// How many cells.
+    Data(usize),
+    End,
 }
 
 /// What differs between two rows of one length, by ascending address.
@@ -67,6 +99,29 @@ impl Display for Left {
     }
 }
 
+impl Display for Name {
+    fn fmt(&self, out: &mut Formatter) -> fmt::Result {
+        write!(out, "{} {}", self.0, self.1)
+    }
+}
+
+impl Display for LineSays {
+    fn fmt(&self, out: &mut Formatter) -> fmt::Result {
+        match self {
+            LineSays::Nothing => out.write_str("N"),
+            LineSays::Instruction(Instruction { opcode, first, second }, labels) => {
+                write!(out, "I {} {} {} ", opcode.number(), first.kind(), first.word())?;
+                write!(out, "{} {} {} {}", labels[0], second.kind(), second.word(), labels[1])
+            }
+            LineSays::Org(value) => write!(out, "O {}", value),
+            LineSays::Equ(value) => write!(out, "Q {}", value),
+            LineSays::Res(value) => write!(out, "R {}", value),
+            LineSays::Data(cells) => write!(out, "D {}", cells),
+            LineSays::End => out.write_str("E"),
+        }
+    }
+}
+
 impl Display for Reply {
     fn fmt(&self, out: &mut Formatter) -> fmt::Result {
         match self {
@@ -90,6 +145,8 @@ impl Display for Reply {
             Reply::Print { code, length, changed } => {
                 write!(out, "{} {} {}", code, length, Runs(changed))
             }
+            Reply::Line(label, Ok(says)) => write!(out, "0 {} {}", label, says),
+            Reply::Line(label, Err(refusal)) => write!(out, "{} {}", refusal, label),
         }
     }
 }

@@ -18,6 +18,9 @@ pub fn show(case: &Case) -> String {
                 let _ = writeln!(text, "  {:>3} | {}", at + 1, line.escape_ascii());
             }
         }
+        Case::Line(line) => {
+            let _ = writeln!(text, "line | {}", line.escape_ascii());
+        }
         Case::Step(lent) => show_machine("step", lent, &mut text),
         Case::Run(budget, lent) => show_machine(&format!("run of {}", budget), lent, &mut text),
         Case::Encode { .. } | Case::Decode(_) | Case::Print(_) => {

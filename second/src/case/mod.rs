@@ -87,4 +87,6 @@ pub enum Case {
     Step(LentMachine),
     Run(u32, LentMachine),
     Print(LentImage),
+    /// A single line, without an LF at its end.
+    Line(Vec<u8>),
 }

@@ -45,6 +45,7 @@ impl Display for Case {
                 machine(lent, out)
             }
             Case::Print(lent) => image(lent, out),
+            Case::Line(line) => write!(out, "L {}", Hex(line)),
         }
     }
 }

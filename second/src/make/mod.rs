@@ -6,6 +6,7 @@ pub mod draw;
 pub mod faulty;
 pub mod images;
 pub mod large;
+pub mod lines;
 pub mod mutate;
 pub mod nasty;
 pub mod ports;
@@ -27,9 +28,10 @@ pub enum Kind {
     Step,
     Run,
     Print,
+    Line,
     /// Encode, decode, step and run mixed.
     Machine,
-    /// Everything mixed.
+    /// All that a host can ask for, mixed.
     All,
 }
 
@@ -42,6 +44,7 @@ impl Kind {
             "step" => Kind::Step,
             "run" => Kind::Run,
             "print" => Kind::Print,
+            "line" => Kind::Line,
             "machine" => Kind::Machine,
             "all" => Kind::All,
             _ => return None,
@@ -96,6 +99,7 @@ fn make(kind: Kind, random: &mut Random) -> Case {
         Kind::Step => states::step_case(random),
         Kind::Run => programs::run_case(random),
         Kind::Print => images::print_case(random),
+        Kind::Line => lines::line_case(random),
         Kind::Assemble | Kind::Machine | Kind::All => assemble::assemble_case(random),
     }
 }

@@ -26,6 +26,11 @@ fn machine_cases() {
 }
 
 #[test]
+fn line_cases() {
+    check("line", 4_000);
+}
+
+#[test]
 fn print_cases() {
     check("print", 200);
 }

@@ -37,6 +37,17 @@ fn six_thousand_cases_reach_everything() {
 }
 
 #[test]
+fn four_thousand_lines_reach_every_refusal_of_a_line() {
+    let mut counts = Counts::default();
+    for case in made("line", 4_000, 2) {
+        counts.add(&case);
+    }
+    for number in [0, 3, 4, 5, 6, 7, 8] {
+        assert!(counts.by_group[6][number] > 0, "{}\n{}", number, counts);
+    }
+}
+
+#[test]
 fn case_lines_read_back_to_the_same_case() {
     for case in made("all", 3_000, 3) {
         let line = case.to_string();
@@ -69,14 +80,14 @@ fn hash(kind: &str) -> u64 {
 
 #[test]
 fn the_same_seed_makes_the_same_cases() {
-    let kinds = ["assemble", "encode", "decode", "step", "run", "print", "machine", "all"];
+    let kinds = ["assemble", "encode", "decode", "step", "run", "print", "machine", "all", "line"];
     let hashes: Vec<String> = kinds.iter().map(|kind| format!("{:016x}", hash(kind))).collect();
     assert_eq!(hashes, HASHES);
     assert_ne!(made("all", 5, 1), made("all", 5, 2));
     assert_eq!(made("all", 9, 7)[..5], made("all", 5, 7));
 }
 
-const HASHES: [&str; 8] = [
+const HASHES: [&str; 9] = [
     "c95dc4cb425c626c",
     "33aaa0e3d1dfb997",
     "42c4d3d0dd05232d",
@@ -85,4 +96,5 @@ const HASHES: [&str; 8] = [
     "ee6565f8267ad2a2",
     "968e16bfecc8f26a",
     "fa39e1935c92c659",
+    "555976586a8a1643",
 ];
