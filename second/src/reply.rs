@@ -20,14 +20,25 @@ pub struct Left {
 
 #[derive(Clone, Debug, PartialEq, Eq)]
 pub enum Reply {
-    Assemble { refusal: u8, line: u32, code: u32, data: u32, cells: Listed<u16>, marks: Listed<u8> },
+    Assemble {
+        refusal: u8,
+        line: u32,
+        code: u32,
+        data: u32,
+        cells: Listed<u16>,
+        marks: Listed<u8>,
+    },
     Encoded(Vec<u16>),
     NotEncoded,
     Decoded(Instruction),
     NotDecoded(u8),
     Step(u8, Left),
     Run(u8, u32, Left),
-    Print { code: u8, length: usize, changed: Listed<Vec<u8>> },
+    Print {
+        code: u8,
+        length: usize,
+        changed: Listed<Vec<u8>>,
+    },
     /// A line's label and what it says, or the number of the first of its own checks that fails.
     Line(Name, Result<LineSays, u8>),
 }

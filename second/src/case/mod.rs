@@ -82,7 +82,10 @@ pub struct LentSource {
 #[derive(Clone, Debug, PartialEq, Eq)]
 pub enum Case {
     Assemble(LentSource),
-    Encode { opcode: u8, operands: [(u8, u16); 2] },
+    Encode {
+        opcode: u8,
+        operands: [(u8, u16); 2],
+    },
     Decode(Vec<u16>),
     Step(LentMachine),
     Run(u32, LentMachine),
