@@ -1,0 +1,80 @@
+-- The line and the part that is read keep their lengths. The measure is the number of turns that are left.
+use borrow.Author.Needs.{needs}
+use native.Mathlib.Omega.{arith}
+use lib.ListN.{length, length-take}
+use mathlib.Core.Path.{_≡_}
+use Rattle.replay_lines.proofs.cases.answer_all.Statement.{statement}
+use Rattle.replay_lines.proofs.cases.answer_all.Tie as tie
+
+abbrev Inv-loop : tie.InvT-loop
+Inv-loop line₀ bytes₀ now₀ turns₀ line bytes now turns = (32768 ≡ length line) × (4096 ≡ length bytes)
+
+abbrev μ-loop : tie.MeasureT-loop
+μ-loop line₀ bytes₀ now₀ turns₀ line bytes now turns = turns
+
+longest-requires : tie.Need-longest-requires Inv-loop μ-loop
+longest-requires c κs = search needs
+
+buffer-requires : tie.Need-buffer-requires Inv-loop μ-loop
+buffer-requires c κs = search needs
+
+after-requires : tie.Need-after-requires Inv-loop μ-loop
+after-requires c κs = search needs
+
+loop-holds : tie.Need-loop-holds Inv-loop μ-loop
+loop-holds c = search needs
+
+slice-aggregate-read-some : tie.Need-slice-aggregate-read-some Inv-loop μ-loop
+slice-aggregate-read-some c = search needs
+
+read-some-requires : tie.Need-read-some-requires Inv-loop μ-loop
+read-some-requires c κs = search needs
+
+slice-aggregate-part : tie.Need-slice-aggregate-part Inv-loop μ-loop
+slice-aggregate-part c = search needs
+
+array-share-prefix-bytes : tie.Need-array-share-prefix-bytes Inv-loop μ-loop
+array-share-prefix-bytes c = search needs
+
+slice-aggregate-part-2 : tie.Need-slice-aggregate-part-2 Inv-loop μ-loop
+slice-aggregate-part-2 c = simp length-take (omega arith)
+
+part-requires : tie.Need-part-requires Inv-loop μ-loop
+part-requires c κs = search needs
+
+sub-turns : tie.Need-sub-turns Inv-loop μ-loop
+sub-turns c = search needs
+
+loop-less : tie.Need-loop-less Inv-loop μ-loop
+loop-less c = search needs
+
+loop-again : tie.Need-loop-again Inv-loop μ-loop
+loop-again c = search needs
+
+returns : tie.Need-returns Inv-loop μ-loop
+returns c = search needs
+
+returns-2 : tie.Need-returns-2 Inv-loop μ-loop
+returns-2 c = search needs
+
+pub answer-all-spec : {M : Type 1} → statement M
+answer-all-spec =
+    tie.close
+    (tie.spec
+    Inv-loop
+    μ-loop
+    longest-requires
+    buffer-requires
+    after-requires
+    loop-holds
+    slice-aggregate-read-some
+    read-some-requires
+    slice-aggregate-part
+    array-share-prefix-bytes
+    slice-aggregate-part-2
+    part-requires
+    sub-turns
+    loop-less
+    loop-again
+    returns
+    returns-2)

@@ -1,0 +1,125 @@
+// A line's reply: the first of its own checks that fails, or 0; its label's place; and what it says.
+use super::texts::field;
+use super::texts::letter;
+use super::texts::number;
+use super::texts::room;
+use super::texts::write;
+use isa::Opcode;
+use isa::Operand;
+use isa::opcodes::row;
+use operands::Given;
+use operands::LabelIn;
+use statements::LineLabel;
+use statements::Statement;
+use statements::line::read_line;
+
+// An operand's kind and word, by the format's numbers.
+fn operand(out: &mut [u8], at: usize, o: Operand) -> usize {
+    match o {
+        Operand::Absent => kind(out, at, 0, 0),
+        Operand::Immediate(v) => kind(out, at, 1, v),
+        Operand::Register(r) => kind(out, at, 2, r),
+        Operand::Memory(a) => kind(out, at, 3, a),
+        Operand::Indirect(r) => kind(out, at, 4, r),
+        Operand::IndexedX(d) => kind(out, at, 5, d),
+        Operand::IndexedY(d) => kind(out, at, 6, d),
+        Operand::IndexedSp(d) => kind(out, at, 8, d),
+        Operand::Relative(d) => kind(out, at, 7, d),
+    }
+}
+
+fn kind(out: &mut [u8], at: usize, number: usize, word: u16) -> usize {
+    let next = field(out, at, number);
+    field(out, next, word as usize)
+}
+
+// A place in the line.
+fn place(out: &mut [u8], at: usize, start: usize, end: usize) -> usize {
+    let next = field(out, at, start);
+    field(out, next, end)
+}
+
+fn given(out: &mut [u8], at: usize, g: Given) -> usize {
+    let o = g.operand;
+    let label = g.label;
+    let next = operand(out, at, o);
+    match label {
+        LabelIn::Absent => place(out, next, 0, 0),
+        LabelIn::Named(n) => place(out, next, n.start, n.end),
+    }
+}
+
+fn instruction(out: &mut [u8], at: usize, op: Opcode, first: Given, second: Given) -> usize {
+    let name = letter(out, at, b'I');
+    let code = field(out, name, row(op).number as usize);
+    let half = given(out, code, first);
+    given(out, half, second)
+}
+
+// A letter and a number.
+fn valued(out: &mut [u8], at: usize, b: u8, n: usize) -> usize {
+    let next = letter(out, at, b);
+    field(out, next, n)
+}
+
+fn label(out: &mut [u8], at: usize, l: LineLabel) -> usize {
+    match l {
+        LineLabel::Absent => place(out, at, 0, 0),
+        LineLabel::Named(n) => place(out, at, n.start, n.end),
+    }
+}
+
+// A refusal, or 0, and the label.
+fn head(out: &mut [u8], refusal: usize, l: LineLabel) -> usize {
+    let next = number(out, 0, refusal);
+    label(out, next, l)
+}
+
+// The whole reply but its line end.
+fn reply(out: &mut [u8], l: LineLabel, s: Statement) -> usize {
+    match s {
+        Statement::UnknownWord => head(out, 4, l),
+        Statement::WrongForm => head(out, 3, l),
+        Statement::WrongOperands => head(out, 5, l),
+        Statement::TooDeep => head(out, 8, l),
+        Statement::OutOfRange => head(out, 6, l),
+        Statement::ByZero => head(out, 7, l),
+        Statement::Nothing => {
+            let at = head(out, 0, l);
+            letter(out, at, b'N')
+        }
+        Statement::Instruction(op, first, second) => {
+            let at = head(out, 0, l);
+            instruction(out, at, op, first, second)
+        }
+        Statement::Org(v) => {
+            let at = head(out, 0, l);
+            valued(out, at, b'O', v as usize)
+        }
+        Statement::Equ(v) => {
+            let at = head(out, 0, l);
+            valued(out, at, b'Q', v as usize)
+        }
+        Statement::Res(v) => {
+            let at = head(out, 0, l);
+            valued(out, at, b'R', v as usize)
+        }
+        Statement::Data(n, _) => {
+            let at = head(out, 0, l);
+            valued(out, at, b'D', n)
+        }
+        Statement::End => {
+            let at = head(out, 0, l);
+            letter(out, at, b'E')
+        }
+    }
+}
+
+pub(crate) fn answer(line: &[u8]) {
+    let mut out = room();
+    let read = read_line(line);
+    let l = read.label;
+    let s = read.statement;
+    let at = reply(&mut out, l, s);
+    write(&mut out, at);
+}
