@@ -1,1 +1,5 @@
 -- Laws of the definitions, by topic; Top.antt restates what the crate promises.
+pub mod Labels
+pub mod Later
+pub mod Bodies
+pub mod Lines
