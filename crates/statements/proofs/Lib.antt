@@ -3,3 +3,5 @@ pub mod Labels
 pub mod Later
 pub mod Bodies
 pub mod Lines
+pub mod Order
+pub mod Examples

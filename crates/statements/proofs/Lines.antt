@@ -35,19 +35,19 @@ module _ (line : List ℕ) where
   text-behind {r = r} a (labelled b body) =
       let h = label-once a b in
       (ap Named (h .0), subst (λ (vs : List Token). Body line vs r) (sym (h .1)) body)
-  text-behind {us = us} {n = n} a (unlabelled no body) = absurd (no n us a)
+  text-behind {us = us} {n = n} a (unlabelled bare body) = absurd (bare n us a)
 
   text-first : {ts : List Token} {l : LineLabel} {r : Reading} → NoLabel ts → LineText line ts l r → (Absent ≡ l) × Body line ts r
   text-first none (labelled {us = us} {n = n} b body) = absurd (none n us b)
-  text-first none (unlabelled no body) = (refl, body)
+  text-first none (unlabelled bare body) = (refl, body)
 
   unknown-behind : {ts us : List Token} {n : Name} → Label ts n us → Rule.UnknownWord line ts → UnknownHere line us
   unknown-behind a (behind b s) = subst (UnknownHere line) (sym (label-once a b .1)) (here s)
-  unknown-behind {us = us} {n = n} a (first no s) = absurd (no n us a)
+  unknown-behind {us = us} {n = n} a (first bare s) = absurd (bare n us a)
 
   unknown-first : {ts : List Token} → NoLabel ts → Rule.UnknownWord line ts → UnknownHere line ts
   unknown-first none (behind {us = us} {n = n} {w = w} b s) = absurd (none n (w ∷ us) b)
-  unknown-first none (first no s) = here s
+  unknown-first none (first bare s) = here s
 
   is-behind : {ts us : List Token} {n : Name} → Label ts n us → UnknownHere line us → Rule.UnknownWord line ts
   is-behind a (here s) = behind a s
@@ -66,27 +66,27 @@ module _ (line : List ℕ) where
     no-such-word : Rule.UnknownWord line ts → NoReading ts → answer ts .statement ≡ UnknownWord → Verdict ts
     no-form : (Rule.UnknownWord line ts → ⊥) → NoReading ts → answer ts .statement ≡ WrongForm → Verdict ts
 
-  answered : {ts us : List Token} {l : LineLabel} {st : Statement} → labelRead ts ≡ l → afterLabel ts ≡ us → statementRead line us ≡ st
+  answered : (ts us : List Token) {l : LineLabel} {st : Statement} → labelRead ts ≡ l → afterLabel ts ≡ us → statementRead line us ≡ st
       → answer ts ≡ record { label = l; statement = st }
-  answered e f g = rw (e, f, g)
+  answered ts us e f g = rw (e, f, g)
 
   verdict-behind : {ts us : List Token} {n : Name} → Label ts n us → Found line us → Verdict ts
-  verdict-behind {n = n} a (says r body once known e) =
+  verdict-behind {ts} {us} {n} a (says r body once known e) =
       reads (Named n) r (labelled a body) (λ l′ r′ x. let h = text-behind a x in (h .0, once r′ (h .1))) (λ u. known (unknown-behind a u))
-      (answered (label-read a) (label-after a) e)
-  verdict-behind a (unknown u no e) =
-      no-such-word (is-behind a u) (λ l r x. no r (text-behind a x .1)) (ap (statementRead line) (label-after a) ∙ e)
-  verdict-behind a (wrong known no e) =
-      no-form (λ u. known (unknown-behind a u)) (λ l r x. no r (text-behind a x .1)) (ap (statementRead line) (label-after a) ∙ e)
+      (answered ts us (label-read a) (label-after a) e)
+  verdict-behind a (unknown u unread e) =
+      no-such-word (is-behind a u) (λ l r x. unread r (text-behind a x .1)) (ap (statementRead line) (label-after a) ∙ e)
+  verdict-behind a (wrong known unread e) =
+      no-form (λ u. known (unknown-behind a u)) (λ l r x. unread r (text-behind a x .1)) (ap (statementRead line) (label-after a) ∙ e)
 
   verdict-first : {ts : List Token} → NoLabel ts → labelRead ts ≡ Absent → afterLabel ts ≡ ts → Found line ts → Verdict ts
-  verdict-first none f g (says r body once known e) =
+  verdict-first {ts} none f g (says r body once known e) =
       reads Absent r (unlabelled none body) (λ l′ r′ x. let h = text-first none x in (h .0, once r′ (h .1))) (λ u. known (unknown-first none u))
-      (answered f g e)
-  verdict-first none f g (unknown u no e) =
-      no-such-word (is-first none u) (λ l r x. no r (text-first none x .1)) (ap (statementRead line) g ∙ e)
-  verdict-first none f g (wrong known no e) =
-      no-form (λ u. known (unknown-first none u)) (λ l r x. no r (text-first none x .1)) (ap (statementRead line) g ∙ e)
+      (answered ts ts f g e)
+  verdict-first none f g (unknown u unread e) =
+      no-such-word (is-first none u) (λ l r x. unread r (text-first none x .1)) (ap (statementRead line) g ∙ e)
+  verdict-first none f g (wrong known unread e) =
+      no-form (λ u. known (unknown-first none u)) (λ l r x. unread r (text-first none x .1)) (ap (statementRead line) g ∙ e)
 
 -- a line's tokens
 abbrev pub row : List ℕ → List Token
@@ -109,8 +109,8 @@ module _ (found : (line : List ℕ) (at : ℕ) → Found line (tokensFrom line a
     where
       go : Verdict line (row line) → (l ≡ l′) × (r ≡ r′)
       go (reads m q t once known e) = (sym (once l r x .0) ∙ once l′ r′ y .0, sym (once l r x .1) ∙ once l′ r′ y .1)
-      go (no-such-word u no e) = absurd (no l r x)
-      go (no-form known no e) = absurd (no l r x)
+      go (no-such-word u unread e) = absurd (unread l r x)
+      go (no-form known unread e) = absurd (unread l r x)
 
   pub read-judged : {l : LineLabel} {r : Reading} → LineText line (row line) l r → lineRead line ≡ record { label = l; statement = judged r }
   unfolding lineRead
@@ -118,21 +118,21 @@ module _ (found : (line : List ℕ) (at : ℕ) → Found line (tokensFrom line a
     where
       go : Verdict line (row line) → answer line (row line) ≡ record { label = l; statement = judged r }
       go (reads m q t once known e) = let h = once l r x in rw (← h .0, ← h .1) e
-      go (no-such-word u no e) = absurd (no l r x)
-      go (no-form known no e) = absurd (no l r x)
+      go (no-such-word u unread e) = absurd (unread l r x)
+      go (no-form known unread e) = absurd (unread l r x)
 
   pub text-known : {l : LineLabel} {r : Reading} → LineText line (row line) l r → Rule.UnknownWord line (row line) → ⊥
   text-known {l} {r} x u = go verdict
     where
       go : Verdict line (row line) → ⊥
       go (reads m q t once known e) = known u
-      go (no-such-word u no e) = no l r x
-      go (no-form known no e) = known u
+      go (no-such-word u unread e) = unread l r x
+      go (no-form known unread e) = known u
 
   -- the answer to a reading is neither 4 nor 3
-  not-later : {st : Statement} {l : LineLabel} {r : Reading} {X : Type 0} → later st ≡ false → lineRead line .statement ≡ st
+  not-later : {st : Statement} {l : LineLabel} (r : Reading) {X : Type 0} → later st ≡ false → lineRead line .statement ≡ st
       → lineRead line ≡ record { label = l; statement = judged r } → X
-  not-later {r = r} n f e =
+  not-later r n f e =
       let g : lineRead line .statement ≡ judged r = ap (λ (a : LineRead). a .statement) e in
       let z : true ≡ false = sym (judged-later r) ∙ ap later (sym g ∙ f) ∙ n in
       never (cc)
@@ -142,18 +142,18 @@ module _ (found : (line : List ℕ) (at : ℕ) → Found line (tokensFrom line a
   unknown-exactly = go verdict
     where
       go : Verdict line (row line) → (lineRead line .statement ≡ UnknownWord) ↔ Rule.UnknownWord line (row line)
-      go (reads l r t once known e) = (λ f. not-later refl f e, λ u. absurd (known u))
-      go (no-such-word u no e) = (λ f. u, λ f. e)
-      go (no-form known no e) = (λ f. never (cc), λ u. absurd (known u))
+      go (reads l r t once known e) = (λ f. not-later r refl f e, λ u. absurd (known u))
+      go (no-such-word u unread e) = (λ f. u, λ f. e)
+      go (no-form known unread e) = (λ f. never (cc), λ u. absurd (known u))
 
   pub wrong-exactly : (lineRead line .statement ≡ WrongForm) ↔ ((Rule.UnknownWord line (row line) → ⊥) × NoReading line (row line))
   unfolding lineRead
   wrong-exactly = go verdict
     where
       go : Verdict line (row line) → (lineRead line .statement ≡ WrongForm) ↔ ((Rule.UnknownWord line (row line) → ⊥) × NoReading line (row line))
-      go (reads l r t once known e) = (λ f. not-later refl f e, λ h. absurd (h .1 l r t))
-      go (no-such-word u no e) = (λ f. never (cc), λ h. absurd (h .0 u))
-      go (no-form known no e) = (λ f. (known, no), λ h. e)
+      go (reads l r t once known e) = (λ f. not-later r refl f e, λ h. absurd (h .1 l r t))
+      go (no-such-word u unread e) = (λ f. never (cc), λ h. absurd (h .0 u))
+      go (no-form known unread e) = (λ f. (known, unread), λ h. e)
 
   pub every-line : ((l : LineLabel) × (r : Reading) × LineText line (row line) l r)
       ⊎ (Rule.UnknownWord line (row line) ⊎ ((Rule.UnknownWord line (row line) → ⊥) × NoReading line (row line)))
@@ -163,8 +163,8 @@ module _ (found : (line : List ℕ) (at : ℕ) → Found line (tokensFrom line a
           → ((l : LineLabel) × (r : Reading) × LineText line (row line) l r)
           ⊎ (Rule.UnknownWord line (row line) ⊎ ((Rule.UnknownWord line (row line) → ⊥) × NoReading line (row line)))
       go (reads l r t once known e) = inl (l, r, t)
-      go (no-such-word u no e) = inr (inl u)
-      go (no-form known no e) = inr (inr (known, no))
+      go (no-such-word u unread e) = inr (inl u)
+      go (no-form known unread e) = inr (inr (known, unread))
 
   pub accepted-exactly : (refusalOf (lineRead line .statement) ≡ 0)
       ↔ ((l : LineLabel) × (r : Reading) × LineText line (row line) l r × (refusalOf (judged r) ≡ 0))
@@ -176,8 +176,8 @@ module _ (found : (line : List ℕ) (at : ℕ) → Found line (tokensFrom line a
       go (reads l r t once known e) =
           let f : lineRead line .statement ≡ judged r = ap (λ (a : LineRead). a .statement) e in
           (λ g. (l, r, t, ap refusalOf (sym f) ∙ g), λ h. ap refusalOf f ∙ ap (λ (q : Reading). refusalOf (judged q)) (once (h .0) (h .1) (h .2) .1) ∙ h .3)
-      go (no-such-word u no e) = (λ g. never (cc (ap refusalOf e)), λ h. absurd (no (h .0) (h .1) (h .2)))
-      go (no-form known no e) = (λ g. never (cc (ap refusalOf e)), λ h. absurd (no (h .0) (h .1) (h .2)))
+      go (no-such-word u unread e) = (λ g. never (cc), λ h. absurd (unread (h .0) (h .1) (h .2)))
+      go (no-form known unread e) = (λ g. never (cc), λ h. absurd (unread (h .0) (h .1) (h .2)))
 
 -- ---- the label
 
