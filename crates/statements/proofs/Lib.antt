@@ -5,3 +5,4 @@ pub mod Bodies
 pub mod Lines
 pub mod Order
 pub mod Examples
+pub mod Top
