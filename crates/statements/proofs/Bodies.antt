@@ -38,7 +38,7 @@ use Rattle.statements.specs.Checks.{leastUnsigned, leastSigned, worthRes
 use Rattle.statements.specs.Reading.{isWord, expressionResult, itemsResult, byWord, statementRead}
 use Rattle.statements.specs.declared.Statement.{Statement}
 use Rattle.statements.specs.declared.Statement.the-variants.{Nothing, Org, Equ, Res, Data, End, UnknownWord, WrongForm, TooDeep, OutOfRange}
-use Rattle.statements.proofs.Labels.{never}
+use Rattle.statements.proofs.Labelling.{never}
 
 module _ (line : List ℕ) where
   -- the first token is a word, and none that statements have

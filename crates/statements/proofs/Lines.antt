@@ -17,7 +17,7 @@ use Rattle.statements.specs.declared.LineLabel.the-variants.{Absent, Nam
 use Rattle.statements.specs.declared.LineRead.{LineRead}
 use Rattle.statements.specs.declared.Statement.{Statement}
 use Rattle.statements.specs.declared.Statement.the-variants.{UnknownWord, WrongForm}
-use Rattle.statements.proofs.Labels.{never, Labels, label-is, none-is, labels, label-read, label-after, label-once, behind-label}
+use Rattle.statements.proofs.Labelling.{never, Labels, label-is, none-is, labels, label-read, label-after, label-once, behind-label}
 use Rattle.statements.proofs.Later.{later, judged-later}
 use Rattle.statements.proofs.Bodies.{UnknownHere, here, Found, says, unknown, wrong}
 

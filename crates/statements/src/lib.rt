@@ -5,7 +5,9 @@ use numerals::Cursor;
 use operands::Given;
 use values::Name;
 
+mod labels; // a line's label, and the cursor after it
 pub mod line; // a line's reading
+mod results; // what an expression, operands and items come to
 
 // A line's label, by its place.
 pub enum LineLabel {
@@ -35,4 +37,16 @@ pub enum Statement {
 pub struct LineRead {
     pub label: LineLabel,
     pub statement: Statement,
+}
+
+// A line's label, and the cursor after it.
+struct Labelled {
+    label: LineLabel,
+    next: Cursor,
+}
+
+// An expression's result as a cell, or what the statement comes to without one.
+enum Outcome {
+    Value(u16),
+    Fails(Statement),
 }
