@@ -9,7 +9,7 @@ use native.Mathlib.Numerals.{add-one}
 use native.Mathlib.Omega.{arith}
 use lib.Dec.{ltb, eqb, T, ltb→lt, lt→ltb}
 use lib.Ieee.Fits.{and-l, and-r}
-use lib.ListN.{length, getD, drop, length-map}
+use lib.ListN.{length, getD, drop, length-map, drop-of-length-le}
 use lib.Seq.{drop-cons, slice, slice-cons}
 use borrow.Author.Tests.{eq-eqb, ne-eqb, eqb-true, eqb-false}
 use Rattle.isa.proofs.Tests.{and-false}
@@ -28,6 +28,10 @@ place-more n ms i h d = rw (add-one, drop-cons ms i 0, ne-eqb (getD ms i 0) n d)
 pub place-here : (n : ℕ) (ms : List ℕ) (i : ℕ) → i < length ms → getD ms i 0 ≡ n → placeOf n (drop i ms) ≡ 0
 unfolding placeOf
 place-here n ms i h e = rw (drop-cons ms i 0, eq-eqb (getD ms i 0) n e)
+
+pub place-end : (n : ℕ) (ms : List ℕ) (i : ℕ) → length ms ≤ i → placeOf n (drop i ms) ≡ 0
+unfolding placeOf
+place-end n ms i h = rw (drop-of-length-le ms h)
 
 pub place-most : (n : ℕ) (ms : List ℕ) → placeOf n ms ≤ length ms
 unfolding placeOf

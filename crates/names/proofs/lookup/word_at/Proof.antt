@@ -1,3 +1,8 @@
+use native.Mathlib.Omega.{arith}
+use mathlib.Core.Path.{sym, ap, _∙_}
+use Rattle.isa.proofs.FirstWords.{found-known, found-unknown}
+use Rattle.names.specs.declared.Word.the-variants.{Instructs}
+use Rattle.names.proofs.Places.{word-opcode, word-directive}
 use borrow.Author.Needs.{needs}
 use Rattle.names.proofs.lookup.word_at.Statement.{statement}
 use Rattle.names.proofs.lookup.word_at.Tie as tie
@@ -24,7 +29,9 @@ enum-told c = search needs
 
 -- src/lookup.rt:95:43
 sub-directive : tie.Need-sub-directive
-sub-directive c = ?
+sub-directive c =
+    let none = found-unknown (c .before .before .before .args .place) (sym (c .before .before .opcode .ensures) ∙ c .enum-told .given .1) in
+    omega arith
 
 -- src/lookup.rt:95:33
 directive-requires : tie.Need-directive-requires
@@ -32,11 +39,15 @@ directive-requires c κs = search needs
 
 -- src/lookup.rt:89:1
 returns : tie.Need-returns
-returns c = ?
+returns c =
+    let found = found-known (c .before .before .before .before .args .place) _ (sym (c .before .before .before .opcode .ensures) ∙ c .before .op .given .1) in
+    sym (word-opcode (c .before .before .before .before .args .place) (found .0) ∙ ap Instructs (found .1))
 
 -- src/lookup.rt:89:1
 returns-2 : tie.Need-returns-2
-returns-2 c = ?
+returns-2 c =
+    let none = found-unknown (c .before .before .before .before .args .place) (sym (c .before .before .before .opcode .ensures) ∙ c .before .enum-told .given .1) in
+    c .directive .ensures ∙ sym (word-directive (c .before .before .before .before .args .place) none)
 
 pub word-at-spec : {M : Type 1} → statement M
 word-at-spec =
