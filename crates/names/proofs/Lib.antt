@@ -2,3 +2,5 @@
 pub mod Packs
 pub mod Places
 pub mod Exactly
+pub mod Examples
+pub mod Top

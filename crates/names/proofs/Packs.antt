@@ -128,6 +128,7 @@ capital-digit b h = let w = word-byte b h in go (between 97 122 b) (w .0) (w .1)
     both : (a c : Bool) → T a → T c → T (a && c)
     both true c s t = t
     both false c s t = s
+
     go : (t : Bool) → 48 ≤ b → b < 123 → T (digit (cond t (b - 32) b))
     go true l m = both (ltb 0 (b - 32)) (ltb (b - 32) 256) (lt→ltb 0 (b - 32) (omega arith)) (lt→ltb (b - 32) 256 (omega arith))
     go false l m = both (ltb 0 b) (ltb b 256) (lt→ltb 0 b (omega arith)) (lt→ltb b 256 (omega arith))

@@ -2,7 +2,7 @@
 use Prim.Native.Nat.{ℕ, zero, suc, _+_, _-_, _≤_, _<_}
 use mathlib.Core.Bool.{Bool, true, false, cond}
 use mathlib.Core.List.{List, [], _∷_, _++_, map}
-use mathlib.Core.Path.{_≡_, refl, sym, ap, _∙_}
+use mathlib.Core.Path.{_≡_, refl, ap, _∙_}
 use Prim.Native.String.{String}
 use native.Mathlib.Omega.{arith}
 use lib.Dec.{T}
@@ -12,7 +12,6 @@ use Rattle.numerals.specs.Digits.{allBelow}
 use Rattle.isa.specs.Opcodes.{table, opcodes, opcodeOf}
 use Rattle.isa.specs.declared.Opcode.{Opcode}
 use Rattle.isa.specs.declared.Opcode.the-variants.{NOP}
-use Rattle.names.specs.declared.Word.{Word}
 use Rattle.names.specs.declared.Word.the-variants.{Instructs, Unknown}
 use Rattle.names.specs.Names.{capital, isNamed, Entry, statementWords, wordIn, wordOf, registers, placeIn, registerCode}
 use Rattle.names.specs.Packing.{pack, placeOf, wordAt, directives, directiveAt}
@@ -55,7 +54,7 @@ word-by-place w (e ∷ es) = go (isNamed w (e .name)) (word-by-place w es)
     go false i = i
 
 module _ (w : List ℕ) where
-  word-at-place : wordOf w ≡ wordAt (placeIn w statementNames)
+  pub word-at-place : wordOf w ≡ wordAt (placeIn w statementNames)
   unfolding wordOf wordAt statementNames
   word-at-place = word-by-place w statementWords
 

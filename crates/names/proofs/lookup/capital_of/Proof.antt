@@ -1,5 +1,4 @@
 -- The tests are the two of the definition. Assumes nothing.
-use native.Mathlib.Omega.{arith}
 use borrow.Author.Tests.{le-leb, lt-leb}
 use borrow.Author.Needs.{needs}
 use Rattle.names.specs.Names.{capital}

@@ -1,3 +1,4 @@
+-- The loop's place and the place in what is left make the number's place. Assumes nothing.
 use borrow.Author.Needs.{needs}
 use Prim.Native.Nat.{_+_, _-_, _≤_}
 use mathlib.Core.Path.{_≡_}
@@ -7,8 +8,6 @@ use Rattle.names.specs.Packing.{placeOf}
 use Rattle.names.proofs.Packs.{place-more, place-here, place-end}
 use Rattle.names.proofs.lookup.place.Statement.{statement}
 use Rattle.names.proofs.lookup.place.Tie as tie
-use Rattle.names.proofs.lookup.place.Reads as reads
-use Rattle.names.proofs.lookup.place.Lts as lts
 
 abbrev Inv-loop : tie.InvT-loop
 Inv-loop number table i₀ i = (i ≤ length table) × (placeOf number table ≡ i + placeOf number (drop i table))
@@ -16,35 +15,27 @@ Inv-loop number table i₀ i = (i ≤ length table) × (placeOf number table ≡
 abbrev μ-loop : tie.MeasureT-loop
 μ-loop number table i₀ i = length table - i
 
--- src/lookup.rt:79:5
 loop-holds : tie.Need-loop-holds Inv-loop μ-loop
 loop-holds c = search needs
 
--- src/lookup.rt:80:12
 mul-if1 : tie.Need-mul-if1 Inv-loop μ-loop
 mul-if1 c = search needs
 
--- src/lookup.rt:80:12
 shared-slice-read-if1 : tie.Need-shared-slice-read-if1 Inv-loop μ-loop
 shared-slice-read-if1 c = search needs
 
--- src/lookup.rt:81:13
 returns : tie.Need-returns Inv-loop μ-loop
 returns c = omega (arith, place-here (c .before .before .before .before .args .number) (c .before .before .before .before .args .table .now) (c .before .before .before .loop .i) (omega arith) (c .if1 .taken))
 
--- src/lookup.rt:83:9
 add-i : tie.Need-add-i Inv-loop μ-loop
 add-i c = search needs
 
--- src/lookup.rt:79:5
 loop-less : tie.Need-loop-less Inv-loop μ-loop
 loop-less c = search needs
 
--- src/lookup.rt:79:5
 loop-again : tie.Need-loop-again Inv-loop μ-loop
 loop-again c = omega (arith, place-more (c .before .before .before .before .args .number) (c .before .before .before .before .args .table .now) (c .before .before .before .loop .i) (omega arith) (c .if1 .left))
 
--- src/lookup.rt:75:1
 returns-2 : tie.Need-returns-2 Inv-loop μ-loop
 returns-2 c = omega (arith, place-end (c .before .before .args .number) (c .before .before .args .table .now) (c .before .loop .i) (omega arith))
 

@@ -1,3 +1,4 @@
+-- A long word is no name; of any other, its number's place among the registers' numbers is its code. Assumes nothing.
 use Prim.Native.Nat.{ℕ}
 use mathlib.Core.Path.{sym, ap, _∙_}
 use native.Mathlib.Omega.{arith}
@@ -8,39 +9,28 @@ use Rattle.names.proofs.Places.{registerNumbers, register-found, regist
 use borrow.Author.Needs.{needs}
 use Rattle.names.proofs.lookup.register_code.Statement.{statement}
 use Rattle.names.proofs.lookup.register_code.Tie as tie
-use Rattle.names.proofs.lookup.register_code.Reads as reads
-use Rattle.names.proofs.lookup.register_code.Lts as lts
-use Rattle.names.proofs.lookup.packed.Reads as packed-reads
-use Rattle.names.proofs.lookup.place.Reads as place-reads
 
--- src/lookup.rt:40:12
 sub-if1 : tie.Need-sub-if1
 sub-if1 c = search needs
 
--- src/lookup.rt:41:9
 returns : tie.Need-returns
 returns c =
     let w = slice (c .before .before .args .start) (c .before .before .args .end) (c .before .before .args .s .now) in
     sym (register-long w (omega (arith, length-slice (c .before .before .args .start) (c .before .before .args .end) (c .before .before .args .s .now) (omega arith))))
 
--- src/lookup.rt:44:11
 packed-requires : tie.Need-packed-requires
 packed-requires c κs = search needs
 
--- src/lookup.rt:44:34
 slice-aggregate-place : tie.Need-slice-aggregate-place
 slice-aggregate-place c = search needs
 
--- src/lookup.rt:44:5
 place-requires : tie.Need-place-requires
 place-requires c κs = search needs
 
--- src/lookup.rt:44:5
 cast-result : tie.Need-cast-result
 unfolding registerNumbers
 cast-result c = omega (arith, c .place .ensures, place-most (c .before .before .packed .result) registerNumbers)
 
--- src/lookup.rt:36:1
 returns-2 : tie.Need-returns-2
 unfolding registerNumbers
 returns-2 c =

@@ -1,3 +1,4 @@
+-- A long word is no name; any other is the word at its number's place among the names' numbers. Assumes nothing.
 use Prim.Native.Nat.{ℕ}
 use mathlib.Core.Path.{sym, ap, _∙_}
 use native.Mathlib.Omega.{arith}
@@ -8,40 +9,28 @@ use Rattle.names.proofs.Places.{statementNumbers, word-found, word-long
 use borrow.Author.Needs.{needs}
 use Rattle.names.proofs.lookup.statement_word.Statement.{statement}
 use Rattle.names.proofs.lookup.statement_word.Tie as tie
-use Rattle.names.proofs.lookup.statement_word.Reads as reads
-use Rattle.names.proofs.lookup.statement_word.Lts as lts
-use Rattle.names.proofs.lookup.packed.Reads as packed-reads
-use Rattle.names.proofs.lookup.place.Reads as place-reads
-use Rattle.names.proofs.lookup.word_at.Reads as word-at-reads
 
--- src/lookup.rt:28:12
 sub-if1 : tie.Need-sub-if1
 sub-if1 c = search needs
 
--- src/lookup.rt:29:9
 returns : tie.Need-returns
 returns c =
     let w = slice (c .before .before .args .start) (c .before .before .args .end) (c .before .before .args .s .now) in
     sym (word-long w (omega (arith, length-slice (c .before .before .args .start) (c .before .before .args .end) (c .before .before .args .s .now) (omega arith))))
 
--- src/lookup.rt:32:19
 packed-requires : tie.Need-packed-requires
 packed-requires c κs = search needs
 
--- src/lookup.rt:32:42
 slice-aggregate-place : tie.Need-slice-aggregate-place
 slice-aggregate-place c = search needs
 
--- src/lookup.rt:32:13
 place-requires : tie.Need-place-requires
 place-requires c κs = search needs
 
--- src/lookup.rt:32:5
 word-at-requires : tie.Need-word-at-requires
 unfolding statementNumbers
 word-at-requires c κs = omega (arith, c .place .ensures, place-most (c .before .before .packed .result) statementNumbers)
 
--- src/lookup.rt:24:1
 returns-2 : tie.Need-returns-2
 unfolding statementNumbers
 returns-2 c =
