@@ -28,8 +28,7 @@ place-requires : tie.Need-place-requires
 place-requires c κs = search needs
 
 cast-result : tie.Need-cast-result
-unfolding registerNumbers
-cast-result c = omega (arith, c .place .ensures, place-most (c .before .before .packed .result) registerNumbers)
+cast-result c = omega (arith, place-most _ _ (c .place .ensures))
 
 returns-2 : tie.Need-returns-2
 unfolding registerNumbers

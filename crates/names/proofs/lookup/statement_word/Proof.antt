@@ -28,8 +28,7 @@ place-requires : tie.Need-place-requires
 place-requires c κs = search needs
 
 word-at-requires : tie.Need-word-at-requires
-unfolding statementNumbers
-word-at-requires c κs = omega (arith, c .place .ensures, place-most (c .before .before .packed .result) statementNumbers)
+word-at-requires c κs = omega (arith, place-most _ _ (c .place .ensures))
 
 returns-2 : tie.Need-returns-2
 unfolding statementNumbers
