@@ -1,3 +1,4 @@
 -- Laws of the definitions, by topic; Top.antt restates what the crate promises.
 pub mod Counts
 pub mod Measures
+pub mod Walks
