@@ -2,3 +2,4 @@
 pub mod Counts
 pub mod Measures
 pub mod Walks
+pub mod Readings
