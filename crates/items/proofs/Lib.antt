@@ -3,3 +3,6 @@ pub mod Counts
 pub mod Measures
 pub mod Walks
 pub mod Readings
+pub mod Verdicts
+pub mod Examples
+pub mod Top
