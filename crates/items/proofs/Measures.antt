@@ -68,10 +68,13 @@ quote-at s at {t} e q = subst (Quote s at) (sym e) here
   where
     u : Token
     u = tokenAt s at
+
     q′ : tokenAt s at .kind ≡ K.Text
     q′ = ap (λ (x : Token). x .kind) (sym e) ∙ q
+
     m : Means s K.Text (tokenAt s at .start) (tokenAt s at .next .at)
     m = subst (λ (k : Kind). Means s k (tokenAt s at .start) (tokenAt s at .next .at)) q′ (token-means s at)
+
     here : Quote s at (tokenAt s at)
     here =
         record {
@@ -95,7 +98,7 @@ module _ (s : List ℕ) (at : ℕ) {t : Token} (e : t ≡ tokenAt s at) (q : t .
   string-measured {r} f =
       let h = quote-at s at e q in
       let p : r + 1 ≡ length (characters (drop (t .start + 1) s) ++ (0 ∷ [])) =
-          rw (h .same, length-append (h .cs) (0 ∷ [])) (omega (arith, f (h .cs) (drop (t .next .at) s) (h .reads))) in
+      rw (h .same, length-append (h .cs) (0 ∷ [])) (omega (arith, f (h .cs) (drop (t .next .at) s) (h .reads))) in
       rw (← e, q) (ap (λ (n : ℕ). Found n true (t .next)) p)
 
 -- ---- an item
@@ -133,6 +136,7 @@ module _ (s : List ℕ) (at : ℕ) where
           let p : length (characters (drop (tokenAt s at .start + 1) s) ++ (0 ∷ [])) ≡ length (h .cs) + 1 = rw (h .same) (length-append (h .cs) (0 ∷ [])) in
           (omega (arith, h .after, h .room), omega (arith, h .after, h .room, p), h .within)
       text (K.Mark b) q = tt
+
       go : (r : ValueRead) → valueAt s at ≡ r → Small (itemBy s at r)
       go (R.Found (Number n) c) e = let h = value-stands s at e in (h .moved, omega (arith, h .moved), h .within)
       go (R.Found (Label w) c) e = tt

@@ -47,6 +47,7 @@ in-line-within line (suc n) at l = go (tokenAt line at .kind) refl (λ m h k. in
         → (tokenAt line at .start < tokenAt line at .next .at) × (tokenAt line at .next .at ≤ length line)
         → ((m : ℕ) → at < m → m ≤ length line → InLine line (tokensFrom line m)) → InLine line (tokensFrom line at)
     some e h f = rw e (spelt line at, f (tokenAt line at .next .at) (omega (arith, token-placed line at .starts)) (h .1))
+
     go : (k : Kind) → tokenAt line at .kind ≡ k → ((m : ℕ) → at < m → m ≤ length line → InLine line (tokensFrom line m))
         → InLine line (tokensFrom line at)
     go K.End q f = rw (row-of line at q) tt

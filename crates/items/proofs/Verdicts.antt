@@ -43,6 +43,7 @@ module _ (line : List ℕ) (ts : List Token) where
       by-range : (is : List Item) (b : Bool) → Items line ts is → allInRange is ≡ b → cond b (Cells (length (cellsOf is))) OutOfRange ≡ r → Says r
       by-range is true i q e = rw (← e) (is, i, q, refl)
       by-range is false i q e = rw (← e) (is, i, q)
+
       go : (x : Result) → walk line item ts ≡ x → judged x ≡ r → Says r
       go (reads is) q e = by-range is (allInRange is) (sound line w q) refl e
       go wrong q e = rw (← e) (wrong-none q)

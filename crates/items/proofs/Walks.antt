@@ -72,6 +72,7 @@ module _ (s : List ℕ) (at : ℕ) where
     where
       no : (k : Kind) → tokenAt s at .kind ≡ k → digitsStep k (tokenAt s at .directly) ≡ halt → walk s digits (tokensFrom s at) ≡ wrong
       no k q h = halted digits k q (λ z. refl) (ap (λ (x : Kind). digitsStep x (tokenAt s at .directly)) q ∙ h)
+
       go : (k : Kind) (d : Bool) → tokenAt s at .kind ≡ k → tokenAt s at .directly ≡ d
           → walk s digits (tokensFrom s at) ≡ valueOn s (minusBy k d (tokenAt s at .next))
       go K.End d q r = no K.End q refl
@@ -91,14 +92,17 @@ module _ (s : List ℕ) (at : ℕ) where
       no : (k : Kind) → tokenAt s at .kind ≡ k → itemStep s k (tokenAt s at) ≡ halt → itemAt s at ≡ none
           → walk s item (tokensFrom s at) ≡ itemOn s (itemAt s at)
       no k q h e = halted s at item k q (λ z. refl) (ap (λ (x : Kind). itemStep s x (tokenAt s at)) q ∙ h) ∙ ap (itemOn s) (sym e)
+
       yes : (i : Item) → tokensFrom s at ≡ tokenAt s at ∷ tokensFrom s (tokenAt s at .next .at) → step s item (tokenAt s at) ≡ to (done i)
           → itemAt s at ≡ stands i (tokenAt s at .next) → walk s item (tokensFrom s at) ≡ itemOn s (itemAt s at)
       yes i e h p = turned s at item {x = to (done i)} e h ∙ ap (itemOn s) (sym p)
+
       -- what follows a `-`, which is no string
       minus : (b : ℕ) → tokenAt s at .kind ≡ K.Mark b → (r : ValueRead) → valueOn s r ≡ itemOn s (itemBy s at r)
       minus b q (R.Found (Number n) c) = refl
       minus b q (R.Found (Label w) c) = refl
       minus b q R.Absent = rw q
+
       mark : (b : ℕ) (y : Bool) → tokenAt s at .kind ≡ K.Mark b → eqb b (code "-") ≡ y → walk s item (tokensFrom s at) ≡ itemOn s (itemAt s at)
       mark b true q e =
           let next = tokenAt s at .next .at in
@@ -108,6 +112,7 @@ module _ (s : List ℕ) (at : ℕ) where
           ∙ minus b q (minusAt s next)
           ∙ ap (itemOn s) (sym p)
       mark b false q e = no (K.Mark b) q (rw e) (rw (q, e, q))
+
       go : (k : Kind) → tokenAt s at .kind ≡ k → walk s item (tokensFrom s at) ≡ itemOn s (itemAt s at)
       go K.End q = no K.End q refl (rw (q, q))
       go K.Stray q = no K.Stray q refl (rw (q, q))
@@ -122,10 +127,12 @@ module _ (s : List ℕ) (at : ℕ) where
     where
       no : (k : Kind) → tokenAt s at .kind ≡ k → (k ≡ K.End → ⊥) → doneStep i k ≡ halt → walk s (done i) (tokensFrom s at) ≡ wrong
       no k q n h = halted s at (done i) k q (λ z. absurd (n z)) (ap (doneStep i) q ∙ h)
+
       mark : (b : ℕ) (y : Bool) → tokenAt s at .kind ≡ K.Mark b → eqb b (code ",") ≡ y
           → walk s (done i) (tokensFrom s at) ≡ followsOn s i (cond y (Comma (tokenAt s at .next)) Neither)
       mark b true q e = turned s at (done i) {x = emit i} (row-of s at q) (rw (q, e))
       mark b false q e = no (K.Mark b) q (λ z. let z′ : _≡_ {A = ℕ} 0 1 = cc in omega arith) (rw e)
+
       go : (k : Kind) → tokenAt s at .kind ≡ k → walk s (done i) (tokensFrom s at) ≡ followsOn s i (followsBy k (tokenAt s at .next))
       go K.End q = rw (row-of s at q)
       go K.Stray q = no K.Stray q (λ z. let z′ : _≡_ {A = ℕ} 0 1 = cc in omega arith) refl
@@ -167,7 +174,7 @@ verdict-cons : (n : ℕ) (f : Bool) (i : Item) (r : Result) → verdict n f (con
 unfolding cellsOf allInRange
 verdict-cons n true i (reads is) =
     let p : n + length (itemCells i ++ cellsOf is) ≡ n + length (itemCells i) + length (cellsOf is) =
-        omega (arith, length-append (itemCells i) (cellsOf is)) in
+    omega (arith, length-append (itemCells i) (cellsOf is)) in
     ap (λ (m : ℕ). cond (itemInRange i && allInRange is) (Cells m) OutOfRange) p
 verdict-cons n false i (reads is) = refl
 verdict-cons n f i wrong = refl

@@ -1,14 +1,11 @@
+-- By the flag.
 use borrow.Author.Needs.{needs}
 use Rattle.items.proofs.reading.reply.Statement.{statement}
 use Rattle.items.proofs.reading.reply.Tie as tie
-use Rattle.items.proofs.reading.reply.Reads as reads
-use Rattle.items.proofs.reading.reply.Lts as lts
 
--- src/reading.rt:28:9
 returns : tie.Need-returns
 returns c = rw (c .if1 .taken)
 
--- src/reading.rt:24:1
 returns-2 : tie.Need-returns-2
 returns-2 c = search needs
 
