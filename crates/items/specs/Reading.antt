@@ -29,13 +29,13 @@ unfoldable mutual
 
 -- what may be next
 pub data State : Type 0 where
-  item : State                       -- an item
-  digits : State                     -- the digits after `-`
-  done : Item → State                -- a comma or the end
+  item : State  -- an item
+  digits : State  -- the digits after `-`
+  done : Item → State  -- a comma or the end
 
 pub data Step : Type 0 where
   to : State → Step
-  emit : Item → Step                 -- a comma ends the item
+  emit : Item → Step  -- a comma ends the item
   halt : Step
 
 pub data Result : Type 0 where
