@@ -1,2 +1,5 @@
 -- Laws of the definitions, by topic; Top.antt restates what the crate promises.
 pub mod Readings
+pub mod Turns
+pub mod Outcomes
+pub mod Lists

@@ -27,7 +27,7 @@ abbrev NoOpening : List Token → Type 0
 NoOpening [] = Unit
 NoOpening (t ∷ ts) = IsMark (code "[") t → ⊥
 
-index-steps : {r : ℕ} {v : Value} {o : Written} → Index r v o → indexStep v r ≡ to (closing o)
+pub index-steps : {r : ℕ} {v : Value} {o : Written} → Index r v o → indexStep v r ≡ to (closing o)
 unfolding indexStep
 index-steps by-IX = refl
 index-steps by-IY = refl
