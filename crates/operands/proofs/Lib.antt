@@ -3,3 +3,4 @@ pub mod Readings
 pub mod Turns
 pub mod Outcomes
 pub mod Lists
+pub mod Judged
