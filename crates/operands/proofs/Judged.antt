@@ -17,7 +17,7 @@ use Rattle.operands.specs.Peeks.{keep, keepAll, noneListed, listed, fits
 use Rattle.operands.specs.declared.InstructionRead.{InstructionRead}
 use Rattle.operands.specs.declared.InstructionRead.the-variants.{WrongForm, WrongOperands}
 use Rattle.operands.specs.declared.ListRead.the-variants as L
-use Rattle.operands.specs.declared.Listed.{Listed}
+use Rattle.operands.specs.declared.FirstTwo.{FirstTwo}
 use Rattle.operands.specs.declared.Written.{Written}
 
 present-most : (k : Kinds) → presentIn k ≤ 1
@@ -58,7 +58,7 @@ listed-judged op (a ∷ b ∷ []) = refl
 listed-judged op (a ∷ b ∷ c ∷ os) = ap (judgedListed op) (keep-no-more a b os) ∙ judged-many op a b c os
 
 -- the answer for what is kept is the answer for what was read
-pub read-judged : (op : Opcode) (r : Result) {all : Listed} → listed noneListed r ≡ L.Read all → judgedListed op all ≡ judgedForm op r
+pub read-judged : (op : Opcode) (r : Result) {all : FirstTwo} → listed noneListed r ≡ L.Read all → judgedListed op all ≡ judgedForm op r
 read-judged op (reads os) {all} e = let q : keepAll noneListed os ≡ all = cc in ap (judgedListed op) (sym q) ∙ listed-judged op os
 read-judged op wrong e = let z : _≡_ {A = ℕ} 0 1 = cc in absurd (omega arith)
 

@@ -19,13 +19,13 @@ use Rattle.operands.specs.Peeks.{markBy, markOf, betweenBy, betweenOf, G
 use Rattle.operands.specs.declared.Between.{Between}
 use Rattle.operands.specs.declared.Between.the-variants as B
 use Rattle.operands.specs.declared.ListRead.the-variants as L
-use Rattle.operands.specs.declared.Listed.{Listed}
+use Rattle.operands.specs.declared.FirstTwo.{FirstTwo}
 use Rattle.operands.specs.declared.MarkRead.the-variants as M
 use Rattle.operands.specs.declared.OperandRead.the-variants as O
 use Rattle.operands.specs.declared.Written.{Written}
 use Rattle.operands.proofs.Turns.{mark-row, on-mark}
 
-listed-cons : (all : Listed) (o : Written) (r : Result) → listed all (cons o r) ≡ listed (keep all o) r
+listed-cons : (all : FirstTwo) (o : Written) (r : Result) → listed all (cons o r) ≡ listed (keep all o) r
 unfolding keepAll
 listed-cons all o (reads os) = refl
 listed-cons all o wrong = refl
@@ -88,7 +88,7 @@ module _ (s : List ℕ) (at : ℕ) where
 
 -- ---- one turn
 
-module _ (s : List ℕ) (all : Listed) (at : ℕ) where
+module _ (s : List ℕ) (all : FirstTwo) (at : ℕ) where
   pub some-wrong : Goes s operand at O.Wrong → listed all (walk s operand (tokensFrom s at)) ≡ L.Wrong
   some-wrong g = ap (λ (r : Result). listed all r) (g .same)
 
@@ -100,7 +100,7 @@ module _ (s : List ℕ) (all : Listed) (at : ℕ) where
     pub some-neither : betweenOf (tokenAt s (c .at)) ≡ B.Neither → listed all (walk s operand (tokensFrom s at)) ≡ L.Wrong
     some-neither e = ap (λ (r : Result). listed all r) (g .same ∙ subst (After s (c .at) o) e (after s (c .at) o))
 
-    pub some-comma : {m : Cursor} {more : Listed} → more ≡ keep all o → betweenOf (tokenAt s (c .at)) ≡ B.Comma m
+    pub some-comma : {m : Cursor} {more : FirstTwo} → more ≡ keep all o → betweenOf (tokenAt s (c .at)) ≡ B.Comma m
         → (listed all (walk s operand (tokensFrom s at)) ≡ listed more (walk s operand (tokensFrom s (m .at)))) × (at < m .at) × (m .at ≤ length s)
     some-comma {m} {more} q e =
         let x : markOf (tokenAt s (c .at)) ≡ M.Is (code ",") m = subst (After s (c .at) o) e (after s (c .at) o) in
@@ -108,5 +108,5 @@ module _ (s : List ℕ) (all : Listed) (at : ℕ) where
         let l : at ≤ c .at = g .on in
         (ap (λ (r : Result). listed all r) (g .same ∙ on-mark s (c .at) (done o) (only (code ",") (emit o)) (λ u. refl) (code ",") m x)
         ∙ listed-cons all o (walk s operand (tokensFrom s (m .at)))
-        ∙ ap (λ (y : Listed). listed y (walk s operand (tokensFrom s (m .at)))) (sym q),
+        ∙ ap (λ (y : FirstTwo). listed y (walk s operand (tokensFrom s (m .at)))) (sym q),
         omega (arith, h .2), h .3)

@@ -23,7 +23,7 @@ use Rattle.operands.specs.declared.InstructionRead.{InstructionRead}
 use Rattle.operands.specs.declared.InstructionRead.the-variants.{WrongOperands}
 use Rattle.operands.specs.declared.ListRead.{ListRead}
 use Rattle.operands.specs.declared.ListRead.the-variants as L
-use Rattle.operands.specs.declared.Listed.{Listed}
+use Rattle.operands.specs.declared.FirstTwo.{FirstTwo}
 use Rattle.operands.specs.declared.MarkRead.{MarkRead}
 use Rattle.operands.specs.declared.MarkRead.the-variants as M
 use Rattle.operands.specs.declared.OperandRead.{OperandRead}
@@ -90,30 +90,30 @@ pub record Goes (line : List ℕ) (st : State) (at : ℕ) (r : OperandRead) : Ty
 
 -- ---- a list
 
-unfoldable pub keep : Listed → Written → Listed
+unfoldable pub keep : FirstTwo → Written → FirstTwo
 keep all o =
     cond (eqb (all .count) 0) (record { count = 1; first = o; second = all .second })
     (cond (eqb (all .count) 1) (record { count = 2; first = all .first; second = o })
     (record { count = 3; first = all .first; second = all .second }))
 
-unfoldable pub keepAll : Listed → List Written → Listed
+unfoldable pub keepAll : FirstTwo → List Written → FirstTwo
 keepAll all [] = all
 keepAll all (o ∷ os) = keepAll (keep all o) os
 
-abbrev pub noneListed : Listed
+abbrev pub noneListed : FirstTwo
 noneListed = record { count = 0; first = Absent; second = Absent }
 
-abbrev pub listed : Listed → Result → ListRead
+abbrev pub listed : FirstTwo → Result → ListRead
 listed all (reads os) = L.Read (keepAll all os)
 listed all wrong = L.Wrong
 
 -- ---- what is judged of a list
 
-unfoldable pub fitsListed : Opcode → Listed → Bool
+unfoldable pub fitsListed : Opcode → FirstTwo → Bool
 fitsListed op all =
     eqb (all .count) (countOf op)
     && (allows (table op .first) (operandWith (all .first) 0) && allows (table op .second) (operandWith (all .second) 0))
 
-unfoldable pub judgedListed : Opcode → Listed → InstructionRead
+unfoldable pub judgedListed : Opcode → FirstTwo → InstructionRead
 judgedListed op all =
     cond (fitsListed op all) (ranged (all .first) (wordOf (all .first)) (all .second) (wordOf (all .second))) WrongOperands

@@ -6,7 +6,7 @@ ghost use Rattle.operands.specs.Peeks.{fitsListed, judgedListed};
 use super::Given;
 use super::InstructionRead;
 use super::ListRead;
-use super::Listed;
+use super::FirstTwo;
 use super::Written;
 use super::listed::operands;
 use super::words::label_in;
@@ -20,7 +20,7 @@ use numerals::Cursor;
 use numerals::Kept;
 
 // As many operands as the opcode has, each of a kind that it allows there.
-fn fit(op: Opcode, all: Listed) -> bool
+fn fit(op: Opcode, all: FirstTwo) -> bool
     ensures { λ r. ⌜ r ≡ fitsListed op all ⌝ }
 {
     let first = all.first;
@@ -62,7 +62,7 @@ fn in_range(a: Written, b: Written) -> InstructionRead
 }
 
 // Number and kinds (5) before ranges (6).
-fn judge(op: Opcode, all: Listed) -> InstructionRead
+fn judge(op: Opcode, all: FirstTwo) -> InstructionRead
     ensures { λ r. ⌜ r ≡ judgedListed op all ⌝ }
 {
     let first = all.first;

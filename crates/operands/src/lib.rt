@@ -69,7 +69,7 @@ enum Between {
 }
 
 // The first two of a list of operands, and how many they are, up to 3: no opcode has three.
-struct Listed {
+struct FirstTwo {
     count: usize,
     first: Written,
     second: Written,
@@ -77,6 +77,6 @@ struct Listed {
 
 // A list of operands up to the line's end.
 enum ListRead {
-    Read(Listed),
+    Read(FirstTwo),
     Wrong,
 }

@@ -6,7 +6,7 @@ ghost use Rattle.operands.specs.Walk as W;
 ghost use Rattle.operands.specs.Peeks.{betweenOf, keep, listed, noneListed};
 use super::Between;
 use super::ListRead;
-use super::Listed;
+use super::FirstTwo;
 use super::OperandRead;
 use super::Written;
 use super::shapes::operand;
@@ -36,26 +36,26 @@ fn between(s: &[u8], from: Cursor) -> Between
     }
 }
 
-fn with_operand(so_far: Listed, o: Written) -> Listed
+fn with_operand(so_far: FirstTwo, o: Written) -> FirstTwo
     ensures { λ r. ⌜ r ≡ keep so_far o ⌝ }
 {
     let first = so_far.first;
     let second = so_far.second;
     if so_far.count == 0 {
-        return Listed {
+        return FirstTwo {
             count: 1,
             first: o,
             second: second,
         };
     }
     if so_far.count == 1 {
-        return Listed {
+        return FirstTwo {
             count: 2,
             first: first,
             second: o,
         };
     }
-    Listed {
+    FirstTwo {
         count: 3,
         first: first,
         second: second,
@@ -63,7 +63,7 @@ fn with_operand(so_far: Listed, o: Written) -> Listed
 }
 
 // One operand or more, parted by commas, up to the line's end.
-fn some_operands(s: &[u8], from: Cursor, none: Listed) -> ListRead
+fn some_operands(s: &[u8], from: Cursor, none: FirstTwo) -> ListRead
     ensures { λ r. ⌜ r ≡ listed none (walk (now (s .entry)) W.operand (tokensFrom (now (s .entry)) (from .at))) ⌝ }
 {
     let mut at = from.at;
@@ -99,7 +99,7 @@ pub(crate) fn operands(s: &[u8], from: Cursor) -> ListRead
     ensures { λ r. ⌜ r ≡ listed noneListed (operandsOf (now (s .entry)) (tokensFrom (now (s .entry)) (from .at))) ⌝ }
 {
     let at = from.at;
-    let none = Listed {
+    let none = FirstTwo {
         count: 0,
         first: Written::Absent,
         second: Written::Absent,
