@@ -138,10 +138,10 @@ module _ (s : List ℕ) (at : ℕ) where
   indirect-not e = name-not s at indirectName asIndirect (λ u. refl) refl (λ r h. rw h) e
 
   module _ (v : Value) where
-    pub index-is : {x : ℕ} {o : Written} {c : Cursor} {r : OperandRead} → registerOf s (tokenAt s at) ≡ R.Named x c → Index x v o
+    pub index-is : {x y : ℕ} {o : Written} {c : Cursor} {r : OperandRead} → registerOf s (tokenAt s at) ≡ R.Named x c → x ≡ y → Index y v o
         → Goes s (closing o) (c .at) r
         → Goes s (indexName v) at r
-    index-is {o = o} e i g = name-is s at (indexName v) (indexStep v) (λ u. refl) (closing o) e (λ h. index-steps i) g
+    index-is {o = o} e q i g = name-is s at (indexName v) (indexStep v) (λ u. refl) (closing o) e (λ h. ap (indexStep v) q ∙ index-steps i) g
 
     pub index-no : {x : ℕ} {c : Cursor} → registerOf s (tokenAt s at) ≡ R.Named x c → (x ≡ IX → ⊥) → (x ≡ IY → ⊥) → (x ≡ SP → ⊥)
         → Goes s (indexName v) at O.Wrong

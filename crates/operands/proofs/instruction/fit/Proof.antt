@@ -1,3 +1,4 @@
+use Rattle.operands.proofs.Judged.{count-differs, first-unfit, second-decides}
 use borrow.Author.Needs.{needs}
 use Rattle.operands.proofs.instruction.fit.Statement.{statement}
 use Rattle.operands.proofs.instruction.fit.Tie as tie
@@ -14,7 +15,7 @@ operand-count-requires c κs = search needs
 
 -- src/instruction.rt:29:9
 returns : tie.Need-returns
-returns c = ?
+returns c = count-differs (c .before .before .before .args .op) (c .before .before .before .args .all) (c .before .before .operand-count .ensures) (c .if1 .taken)
 
 -- src/instruction.rt:31:9
 row-requires : tie.Need-row-requires
@@ -38,11 +39,13 @@ allowed-kind-requires-2 c κs = search needs
 
 -- src/instruction.rt:35:9
 returns-2 : tie.Need-returns-2
-returns-2 c = ?
+returns-2 c =
+    second-decides (c .before .before .before .before .before .before .before .before .before .args .op) (c .before .before .before .before .before .before .before .before .before .args .all) (c .before .before .before .before .before .before .before .before .operand-count .ensures) (c .before .before .before .before .before .before .if1 .left) (c .before .before .before .before .before .row .ensures) (c .before .before .before .before .operand-with .ensures) (c .before .before .before .allowed-kind .ensures)
+    (c .before .before .if2 .taken) (c .before .operand-with2 .ensures) (c .allowed-kind2 .ensures)
 
 -- src/instruction.rt:23:1
 returns-3 : tie.Need-returns-3
-returns-3 c = ?
+returns-3 c = first-unfit (c .before .before .before .before .before .before .before .args .op) (c .before .before .before .before .before .before .before .args .all) (c .before .before .before .before .before .before .operand-count .ensures) (c .before .before .before .before .if1 .left) (c .before .before .before .row .ensures) (c .before .before .operand-with .ensures) (c .before .allowed-kind .ensures) (c .if2 .left)
 
 pub fit-spec : {M : Type 1} → statement M
 fit-spec =

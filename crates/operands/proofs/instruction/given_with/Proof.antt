@@ -1,3 +1,4 @@
+use Rattle.operands.proofs.Judged.{given-is}
 use borrow.Author.Needs.{needs}
 use Rattle.operands.proofs.instruction.given_with.Statement.{statement}
 use Rattle.operands.proofs.instruction.given_with.Tie as tie
@@ -16,7 +17,7 @@ label-in-requires c κs = search needs
 
 -- src/instruction.rt:40:1
 returns : tie.Need-returns
-returns c = ?
+returns c = given-is (c .before .before .args .o) (c .before .before .args .word) (c .before .operand-with .ensures) (c .label-in .ensures)
 
 pub given-with-spec : {M : Type 1} → statement M
 given-with-spec = tie.close (tie.spec operand-with-requires label-in-requires returns)

@@ -1,3 +1,4 @@
+use Rattle.operands.proofs.Judged.{first-out, second-out, cells}
 use borrow.Author.Needs.{needs}
 use Rattle.operands.proofs.instruction.in_range.Statement.{statement}
 use Rattle.operands.proofs.instruction.in_range.Tie as tie
@@ -40,15 +41,15 @@ enum-told-2 c = search needs
 
 -- src/instruction.rt:50:1
 returns : tie.Need-returns
-returns c = ?
+returns c = cells (c .before .before .before .before .before .before .before .before .before .before .args .a) (c .before .before .before .before .before .before .before .before .before .before .args .b) (c .before .before .before .before .before .before .before .before .before .word-of .ensures) (c .before .before .before .before .before .before .before .before .word-of2 .ensures) (c .before .before .before .before .before .before .first .given .1) (c .before .before .before .second .given .1) (c .before .given-with .ensures) (c .given-with2 .ensures)
 
 -- src/instruction.rt:50:1
 returns-2 : tie.Need-returns-2
-returns-2 c = ?
+returns-2 c = second-out (c .before .before .before .before .before .before .before .args .a) (c .before .before .before .before .before .before .before .args .b) (c .before .before .before .before .before .before .word-of .ensures) (c .before .before .before .before .before .word-of2 .ensures) (c .before .before .before .first .given .1) (c .enum-told .given .1)
 
 -- src/instruction.rt:50:1
 returns-3 : tie.Need-returns-3
-returns-3 c = ?
+returns-3 c = first-out (c .before .before .before .before .args .a) (c .before .before .before .before .args .b) (c .before .before .before .word-of .ensures) (c .enum-told2 .given .1)
 
 pub in-range-spec : {M : Type 1} → statement M
 in-range-spec =

@@ -1,3 +1,4 @@
+use Rattle.operands.proofs.Judged.{fitting, not-fitting}
 use borrow.Author.Needs.{needs}
 use Rattle.operands.proofs.instruction.judge.Statement.{statement}
 use Rattle.operands.proofs.instruction.judge.Tie as tie
@@ -16,11 +17,11 @@ in-range-requires c κs = search needs
 
 -- src/instruction.rt:71:9
 returns : tie.Need-returns
-returns c = ?
+returns c = fitting (c .before .before .before .args .op) (c .before .before .before .args .all) (c .before .before .fit .ensures) (c .before .if1 .taken) (c .in-range .ensures)
 
 -- src/instruction.rt:65:1
 returns-2 : tie.Need-returns-2
-returns-2 c = ?
+returns-2 c = not-fitting (c .before .before .args .op) (c .before .before .args .all) (c .before .fit .ensures) (c .if1 .left)
 
 pub judge-spec : {M : Type 1} → statement M
 judge-spec = tie.close (tie.spec fit-requires in-range-requires returns returns-2)

@@ -1,3 +1,4 @@
+use borrow.Author.Tests.{eq-eqb, ne-eqb}
 use borrow.Author.Needs.{needs}
 use Rattle.operands.proofs.listed.between.Statement.{statement}
 use Rattle.operands.proofs.listed.between.Tie as tie
@@ -35,31 +36,31 @@ enum-known-kind c = search needs
 
 -- src/listed.rt:32:17
 returns : tie.Need-returns
-returns c = ?
+returns c = rw (← (c .before .before .before .before .before .next-token .ensures), (c .before .before .kind .given .1), eq-eqb _ _ (c .if1 .taken))
 
 -- src/listed.rt:18:1
 returns-2 : tie.Need-returns-2
-returns-2 c = ?
+returns-2 c = rw (← (c .before .before .before .next-token .ensures), (c .enum-told .given .1))
 
 -- src/listed.rt:18:1
 returns-3 : tie.Need-returns-3
-returns-3 c = ?
+returns-3 c = rw (← (c .before .before .before .next-token .ensures), (c .enum-told2 .given .1))
 
 -- src/listed.rt:18:1
 returns-4 : tie.Need-returns-4
-returns-4 c = ?
+returns-4 c = rw (← (c .before .before .before .next-token .ensures), (c .enum-told3 .given .1))
 
 -- src/listed.rt:18:1
 returns-5 : tie.Need-returns-5
-returns-5 c = ?
+returns-5 c = rw (← (c .before .before .before .next-token .ensures), (c .enum-told4 .given .1))
 
 -- src/listed.rt:18:1
 returns-6 : tie.Need-returns-6
-returns-6 c = ?
+returns-6 c = rw (← (c .before .before .before .next-token .ensures), (c .enum-told5 .given .1))
 
 -- src/listed.rt:18:1
 returns-7 : tie.Need-returns-7
-returns-7 c = ?
+returns-7 c = rw (← (c .before .before .before .before .before .next-token .ensures), (c .before .before .kind .given .1), ne-eqb _ _ (c .if1 .left))
 
 pub between-spec : {M : Type 1} → statement M
 between-spec =

@@ -1,3 +1,7 @@
+use Prim.Native.Char.{code}
+use mathlib.Core.Path.{refl, sym, _∙_}
+use Rattle.operands.specs.Walk.{closing, done}
+use Rattle.operands.proofs.Outcomes.{expect-is, expect-no, expect-not, read-on}
 use borrow.Author.Needs.{needs}
 use Rattle.operands.proofs.shapes.closed.Statement.{statement}
 use Rattle.operands.proofs.shapes.closed.Tie as tie
@@ -15,7 +19,9 @@ enum-known-read c = search needs
 
 -- src/shapes.rt:99:17
 returns : tie.Need-returns
-returns c = ?
+returns c =
+    expect-is (c .before .before .before .before .before .before .args .s .now) (c .before .before .before .before .before .before .args .from .at) (closing (c .before .before .before .before .before .before .args .o)) (code "]") (done (c .before .before .before .before .before .before .args .o)) (λ u. refl) (sym (c .before .before .before .before .mark-at .ensures) ∙ (c .before .before .read .given .1)) (c .if1 .taken)
+    (read-on (c .before .before .before .before .before .before .args .s .now) (c .before .before .before .before .before .before .args .o) _)
 
 -- src/shapes.rt:103:29
 enum-told : tie.Need-enum-told
@@ -23,11 +29,11 @@ enum-told c = search needs
 
 -- src/shapes.rt:92:1
 returns-2 : tie.Need-returns-2
-returns-2 c = ?
+returns-2 c = expect-no (c .before .before .before .before .before .before .args .s .now) (c .before .before .before .before .before .before .args .from .at) (closing (c .before .before .before .before .before .before .args .o)) (code "]") (done (c .before .before .before .before .before .before .args .o)) (λ u. refl) (sym (c .before .before .before .before .mark-at .ensures) ∙ (c .before .before .read .given .1)) (c .if1 .left)
 
 -- src/shapes.rt:92:1
 returns-3 : tie.Need-returns-3
-returns-3 c = ?
+returns-3 c = expect-not (c .before .before .before .before .args .s .now) (c .before .before .before .before .args .from .at) (closing (c .before .before .before .before .args .o)) (code "]") (done (c .before .before .before .before .args .o)) (λ u. refl) refl (sym (c .before .before .mark-at .ensures) ∙ (c .enum-told .given .1))
 
 pub closed-spec : {M : Type 1} → statement M
 closed-spec =

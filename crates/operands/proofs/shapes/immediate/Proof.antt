@@ -1,3 +1,6 @@
+use mathlib.Core.Path.{sym, _∙_}
+use Rattle.operands.specs.Walk.{hash}
+use Rattle.operands.proofs.Outcomes.{hash-is, value-not}
 use borrow.Author.Needs.{needs}
 use Rattle.operands.proofs.shapes.immediate.Statement.{statement}
 use Rattle.operands.proofs.shapes.immediate.Tie as tie
@@ -24,11 +27,11 @@ enum-told c = search needs
 
 -- src/shapes.rt:184:1
 returns : tie.Need-returns
-returns c = ?
+returns c = hash-is (c .before .before .before .before .before .before .args .s .now) (c .before .before .before .before .before .before .args .from .at) (sym (c .before .before .before .before .value .ensures) ∙ (c .before .before .read .given .1)) (c .after-hash .ensures)
 
 -- src/shapes.rt:184:1
 returns-2 : tie.Need-returns-2
-returns-2 c = ?
+returns-2 c = value-not (c .before .before .before .before .args .s .now) (c .before .before .before .before .args .from .at) hash (sym (c .before .before .value .ensures) ∙ (c .enum-told .given .1))
 
 pub immediate-spec : {M : Type 1} → statement M
 immediate-spec =

@@ -1,3 +1,6 @@
+use mathlib.Core.Path.{sym, _∙_}
+use Rattle.operands.specs.Operands.{by-IX, by-IY, by-SP}
+use Rattle.operands.proofs.Outcomes.{index-is, index-no, index-not}
 use borrow.Author.Needs.{needs}
 use Rattle.operands.proofs.shapes.index_name.Statement.{statement}
 use Rattle.operands.proofs.shapes.index_name.Tie as tie
@@ -32,23 +35,23 @@ enum-told c = search needs
 
 -- src/shapes.rt:135:1
 returns : tie.Need-returns
-returns c = ?
+returns c = index-is (c .before .before .before .before .before .before .before .args .s .now) (c .before .before .before .before .before .before .before .args .from .at) (c .before .before .before .before .before .before .before .args .v) (sym (c .before .before .before .before .before .register-at .ensures) ∙ (c .before .before .before .read .given .1)) (c .before .match2 .keys1) by-IX (c .closed .ensures)
 
 -- src/shapes.rt:135:1
 returns-2 : tie.Need-returns-2
-returns-2 c = ?
+returns-2 c = index-is (c .before .before .before .before .before .before .before .args .s .now) (c .before .before .before .before .before .before .before .args .from .at) (c .before .before .before .before .before .before .before .args .v) (sym (c .before .before .before .before .before .register-at .ensures) ∙ (c .before .before .before .read .given .1)) (c .before .match2 .keys2) by-IY (c .closed2 .ensures)
 
 -- src/shapes.rt:135:1
 returns-3 : tie.Need-returns-3
-returns-3 c = ?
+returns-3 c = index-is (c .before .before .before .before .before .before .before .args .s .now) (c .before .before .before .before .before .before .before .args .from .at) (c .before .before .before .before .before .before .before .args .v) (sym (c .before .before .before .before .before .register-at .ensures) ∙ (c .before .before .before .read .given .1)) (c .before .match2 .keys3) by-SP (c .closed3 .ensures)
 
 -- src/shapes.rt:135:1
 returns-4 : tie.Need-returns-4
-returns-4 c = ?
+returns-4 c = index-no (c .before .before .before .before .before .before .args .s .now) (c .before .before .before .before .before .before .args .from .at) (c .before .before .before .before .before .before .args .v) (sym (c .before .before .before .before .register-at .ensures) ∙ (c .before .before .read .given .1)) (c .match2 .rest .0 .0 .1) (c .match2 .rest .0 .1) (c .match2 .rest .1)
 
 -- src/shapes.rt:135:1
 returns-5 : tie.Need-returns-5
-returns-5 c = ?
+returns-5 c = index-not (c .before .before .before .before .args .s .now) (c .before .before .before .before .args .from .at) (c .before .before .before .before .args .v) (sym (c .before .before .register-at .ensures) ∙ (c .enum-told .given .1))
 
 pub index-name-spec : {M : Type 1} → statement M
 index-name-spec =

@@ -1,3 +1,5 @@
+use mathlib.Core.Path.{sym, _∙_}
+use Rattle.operands.proofs.Outcomes.{indirect-is, indirect-not}
 use borrow.Author.Needs.{needs}
 use Rattle.operands.proofs.shapes.indirect_name.Statement.{statement}
 use Rattle.operands.proofs.shapes.indirect_name.Tie as tie
@@ -24,11 +26,11 @@ enum-told c = search needs
 
 -- src/shapes.rt:108:1
 returns : tie.Need-returns
-returns c = ?
+returns c = indirect-is (c .before .before .before .before .before .before .args .s .now) (c .before .before .before .before .before .before .args .from .at) (sym (c .before .before .before .before .register-at .ensures) ∙ (c .before .before .read .given .1)) (c .closed .ensures)
 
 -- src/shapes.rt:108:1
 returns-2 : tie.Need-returns-2
-returns-2 c = ?
+returns-2 c = indirect-not (c .before .before .before .before .args .s .now) (c .before .before .before .before .args .from .at) (sym (c .before .before .register-at .ensures) ∙ (c .enum-told .given .1))
 
 pub indirect-name-spec : {M : Type 1} → statement M
 indirect-name-spec =

@@ -1,3 +1,5 @@
+use mathlib.Core.Path.{sym, _∙_}
+use Rattle.operands.proofs.Outcomes.{register-is, register-not}
 use borrow.Author.Needs.{needs}
 use Rattle.operands.proofs.shapes.register.Statement.{statement}
 use Rattle.operands.proofs.shapes.register.Tie as tie
@@ -19,11 +21,11 @@ enum-told c = search needs
 
 -- src/shapes.rt:81:1
 returns : tie.Need-returns
-returns c = ?
+returns c = register-is (c .before .before .before .before .before .args .s .now) (c .before .before .before .before .before .args .from .at) (sym (c .before .before .before .register-at .ensures) ∙ (c .before .read .given .1))
 
 -- src/shapes.rt:81:1
 returns-2 : tie.Need-returns-2
-returns-2 c = ?
+returns-2 c = register-not (c .before .before .before .before .args .s .now) (c .before .before .before .before .args .from .at) (sym (c .before .before .register-at .ensures) ∙ (c .enum-told .given .1))
 
 pub register-spec : {M : Type 1} → statement M
 register-spec =

@@ -1,3 +1,6 @@
+use mathlib.Core.Path.{sym, ap, _∙_}
+use Rattle.numerals.specs.Numbers.{keptOf}
+use Rattle.operands.specs.Checks.{cellOf}
 use borrow.Author.Needs.{needs}
 use Rattle.operands.proofs.words.number_word.Statement.{statement}
 use Rattle.operands.proofs.words.number_word.Tie as tie
@@ -19,7 +22,7 @@ enum-told c = search needs
 
 -- src/words.rt:31:1
 returns : tie.Need-returns
-returns c = ?
+returns c = (c .kept .ensures) ∙ sym (ap (cellOf keptOf) (c .before .before .v .given .1))
 
 -- src/words.rt:31:1
 returns-2 : tie.Need-returns-2
