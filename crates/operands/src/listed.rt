@@ -36,19 +36,19 @@ fn between(s: &[u8], from: Cursor) -> Between
     }
 }
 
-fn with_operand(so_far: FirstTwo, o: Written) -> FirstTwo
-    ensures { λ r. ⌜ r ≡ keep so_far o ⌝ }
+fn with_operand(all: FirstTwo, o: Written) -> FirstTwo
+    ensures { λ r. ⌜ r ≡ keep all o ⌝ }
 {
-    let first = so_far.first;
-    let second = so_far.second;
-    if so_far.count == 0 {
+    let first = all.first;
+    let second = all.second;
+    if all.count == 0 {
         return FirstTwo {
             count: 1,
             first: o,
             second: second,
         };
     }
-    if so_far.count == 1 {
+    if all.count == 1 {
         return FirstTwo {
             count: 2,
             first: first,
@@ -67,7 +67,7 @@ fn some_operands(s: &[u8], from: Cursor, none: FirstTwo) -> ListRead
     ensures { λ r. ⌜ r ≡ listed none (walk (now (s .entry)) W.operand (tokensFrom (now (s .entry)) (from .at))) ⌝ }
 {
     let mut at = from.at;
-    let mut so_far = none;
+    let mut all = none;
     loop {
         let read = operand(s, Cursor { at: at });
         match read {
@@ -76,11 +76,11 @@ fn some_operands(s: &[u8], from: Cursor, none: FirstTwo) -> ListRead
             }
             OperandRead::Read(o, next) => {
                 let end = next.at;
-                so_far = with_operand(so_far, o);
+                all = with_operand(all, o);
                 let follows = between(s, Cursor { at: end });
                 match follows {
                     Between::Over => {
-                        return ListRead::Read(so_far);
+                        return ListRead::Read(all);
                     }
                     Between::Neither => {
                         return ListRead::Wrong;
