@@ -4,3 +4,6 @@ pub mod Turns
 pub mod Outcomes
 pub mod Lists
 pub mod Judged
+pub mod Exactly
+pub mod Encodes
+pub mod Examples
