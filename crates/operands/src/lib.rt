@@ -42,3 +42,41 @@ pub enum InstructionRead {
     WrongOperands,
     OutOfRange,
 }
+
+// A mark at a cursor, with the cursor after it.
+enum MarkRead {
+    Is(u8, Cursor),
+    Absent,
+}
+
+// A register's name at a cursor: its code, with the cursor after it.
+enum RegisterRead {
+    Named(u16, Cursor),
+    Absent,
+}
+
+// One operand, with the cursor after it.
+enum OperandRead {
+    Read(Written, Cursor),
+    Wrong,
+}
+
+// What stands between operands, or after the last.
+enum Between {
+    Comma(Cursor),
+    Over,
+    Neither,
+}
+
+// The first two of a list of operands, and how many they are, up to 3: no opcode has three.
+struct FirstTwo {
+    count: usize,
+    first: Written,
+    second: Written,
+}
+
+// A list of operands up to the line's end.
+enum ListRead {
+    Read(FirstTwo),
+    Wrong,
+}
