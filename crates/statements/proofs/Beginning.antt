@@ -1,24 +1,22 @@
 -- What a row begins with, by the tokens that `next_token` hands back; laws that the code's proofs cite.
-use Prim.Native.Nat.{ℕ, zero, suc, _≤_, _-_}
+use Prim.Native.Nat.{ℕ, _≤_}
 use mathlib.Core.Bool.{Bool, true, false, cond, _&&_}
 use mathlib.Core.List.{List, [], _∷_}
 use mathlib.Core.Path.{_≡_, refl, sym, ap, subst, _∙_}
-use native.Mathlib.Omega.{arith}
 use lib.Dec.{T}
-use lib.ListN.{length, take, drop}
-use lib.Seq.{slice, take-nil}
+use lib.ListN.{length}
+use lib.Seq.{slice}
 use Rattle.numerals.specs.Bytes.{anyWordByte}
 use Rattle.numerals.specs.Digits.{allBelow}
 use Rattle.tokens.specs.Reading.{tokenAt, afterKind, tokensFrom}
 use Rattle.tokens.specs.declared.Kind.{Kind}
 use Rattle.tokens.specs.declared.Kind.the-variants as K
 use Rattle.tokens.specs.declared.Token.{Token}
-use Rattle.tokens.proofs.Places.{EndsAt, row-unfolds, token-placed}
-use Rattle.tokens.proofs.Meanings.{Means, token-means}
 use Rattle.names.specs.Names.{wordOf}
 use Rattle.names.specs.declared.Word.{Word}
-use Rattle.values.specs.Values.{nameAt}
+use Rattle.values.proofs.Rows.{row-of}
 use Rattle.operands.specs.Operands.{wordAt}
+use Rattle.operands.proofs.Turns.{word-there}
 use Rattle.statements.specs.Reading.{isWord, isColon, labelled, labelRead, afterLabel, byWord, statementRead}
 use Rattle.statements.specs.Parts.{nowhere, LabelDone}
 use Rattle.statements.specs.declared.Labelled.{Labelled}
@@ -26,17 +24,6 @@ use Rattle.statements.specs.declared.LineLabel.the-variants.{Named}
 use Rattle.statements.specs.declared.Statement.{Statement}
 use Rattle.statements.specs.declared.Statement.the-variants.{Nothing, WrongForm}
 use Rattle.statements.proofs.Labelling.{never, word-kind, colon-kind}
-
-module _ (line : List ℕ) (at : ℕ) {k : Kind} where
-  -- the row from a place on, by the kind of the token there
-  pub row-by : tokenAt line at .kind ≡ k → tokensFrom line at ≡ afterKind k (tokenAt line at) (tokensFrom line)
-  row-by e = row-unfolds line at ∙ ap (λ (j : Kind). afterKind j (tokenAt line at) (tokensFrom line)) e
-
-slice-taken : (from end : ℕ) (l : List ℕ) → slice from end l ≡ take (end - from) (drop from l)
-slice-taken zero end l = let e : end - zero ≡ end = omega arith in rw e
-slice-taken (suc from) zero l = let e : zero - suc from ≡ zero = omega arith in rw e
-slice-taken (suc from) (suc end) [] = sym (take-nil (suc end - suc from))
-slice-taken (suc from) (suc end) (x ∷ l) = let e : suc end - suc from ≡ end - from = omega arith in rw e (slice-taken from end l)
 
 -- ---- the statement's word
 
@@ -46,7 +33,7 @@ module _ (line : List ℕ) (at : ℕ) {w : Token} (t : w ≡ tokenAt line at) wh
 
   pub ended : w .kind ≡ K.End → Nothing ≡ statementRead line (tokensFrom line at)
   unfolding statementRead
-  ended e = sym (ap (statementRead line) (row-by line at (kind-at e)))
+  ended e = sym (ap (statementRead line) (row-of line at (kind-at e)))
 
   -- a row of no word first
   no-word-read : (ts : List Token) → isWord (tokenAt line at .kind) ≡ false → statementRead line (tokenAt line at ∷ ts) ≡ WrongForm
@@ -54,7 +41,7 @@ module _ (line : List ℕ) (at : ℕ) {w : Token} (t : w ≡ tokenAt line at) wh
   no-word-read ts f = rw f
 
   pub no-word : (k : Kind) → w .kind ≡ k → isWord k ≡ false → (k ≡ K.End → ⊥) → WrongForm ≡ statementRead line (tokensFrom line at)
-  no-word k e f n = sym (ap (statementRead line) (row-by line at (kind-at e)) ∙ go k (kind-at e) f n)
+  no-word k e f n = sym (ap (statementRead line) (row-of line at (kind-at e)) ∙ go k (kind-at e) f n)
     where
       go : (j : Kind) → tokenAt line at .kind ≡ j → isWord j ≡ false → (j ≡ K.End → ⊥)
           → statementRead line (afterKind j (tokenAt line at) (tokensFrom line)) ≡ WrongForm
@@ -71,21 +58,16 @@ module _ (line : List ℕ) (at : ℕ) {w : Token} (t : w ≡ tokenAt line at) wh
   by-its-word {x} e f = sym (ap (statementRead line) row ∙ rw (e, f))
     where
       row : tokensFrom line at ≡ w ∷ tokensFrom line (w .next .at)
-      row = row-by line at (kind-at e) ∙ ap (λ (v : Token). v ∷ tokensFrom line (v .next .at)) (sym t)
+      row = row-of line at (kind-at e) ∙ ap (λ (v : Token). v ∷ tokensFrom line (v .next .at)) (sym t)
 
   -- what `statement_word` asks for
   pub word-stands : w .kind ≡ K.Word
       → (w .start ≤ w .next .at) × (w .next .at ≤ length line) × T (allBelow anyWordByte (slice (w .start) (w .next .at) line))
   word-stands e =
-      let u = tokenAt line at in
-      let p : EndsAt K.Word (length line) (u .start) (u .next .at)
-          = subst (λ (j : Kind). EndsAt j (length line) (u .start) (u .next .at)) (kind-at e) (token-placed line at .ends) in
-      let m : Means line K.Word (u .start) (u .next .at)
-          = subst (λ (j : Kind). Means line j (u .start) (u .next .at)) (kind-at e) (token-means line at) in
       subst
       (λ (v : Token). (v .start ≤ v .next .at) × (v .next .at ≤ length line) × T (allBelow anyWordByte (slice (v .start) (v .next .at) line)))
       (sym t)
-      (omega arith, p .1, rw (slice-taken (u .start) (u .next .at) line) (m .all))
+      (word-there line at (kind-at e))
 
 -- ---- the label
 
@@ -110,24 +92,24 @@ module _ (line : List ℕ) where
         rest = tokensFrom line (tokenAt line 0 .next .at)
 
         go : (k : Kind) → tokenAt line 0 .kind ≡ k → labelled (tokensFrom line 0) ≡ false
-        go K.End e = ap labelled (row-by line 0 e)
-        go K.Stray e = ap labelled (row-by line 0 e)
+        go K.End e = ap labelled (row-of line 0 e)
+        go K.Stray e = ap labelled (row-of line 0 e)
         go K.Word e = never (cc)
-        go (K.Number v r) e = ap labelled (row-by line 0 e) ∙ not-labelled (tokenAt line 0) rest g
-        go K.Text e = ap labelled (row-by line 0 e) ∙ not-labelled (tokenAt line 0) rest g
-        go (K.Mark b) e = ap labelled (row-by line 0 e) ∙ not-labelled (tokenAt line 0) rest g
+        go (K.Number v r) e = ap labelled (row-of line 0 e) ∙ not-labelled (tokenAt line 0) rest g
+        go K.Text e = ap labelled (row-of line 0 e) ∙ not-labelled (tokenAt line 0) rest g
+        go (K.Mark b) e = ap labelled (row-of line 0 e) ∙ not-labelled (tokenAt line 0) rest g
 
     module _ (f : isWord (w .kind) ≡ true) {c : Token} (u : c ≡ tokenAt line (w .next .at)) where
       row-word : tokensFrom line 0 ≡ w ∷ tokensFrom line (w .next .at)
       row-word =
-          row-by line 0 (ap (λ (v : Token). v .kind) (sym t) ∙ word-kind (w .kind) f)
+          row-of line 0 (ap (λ (v : Token). v .kind) (sym t) ∙ word-kind (w .kind) f)
           ∙ ap (λ (v : Token). v ∷ tokensFrom line (v .next .at)) (sym t)
 
       row-two : {k : Kind} → c .kind ≡ k → tokensFrom line 0 ≡ w ∷ afterKind k c (tokensFrom line)
       row-two {k} e =
           row-word
           ∙ ap (λ (ts : List Token). w ∷ ts)
-          (row-by line (w .next .at) (ap (λ (v : Token). v .kind) (sym u) ∙ e) ∙ ap (λ (v : Token). afterKind k v (tokensFrom line)) (sym u))
+          (row-of line (w .next .at) (ap (λ (v : Token). v .kind) (sym u) ∙ e) ∙ ap (λ (v : Token). afterKind k v (tokensFrom line)) (sym u))
 
       labelled-by : labelled (tokensFrom line 0) ≡ (isColon (c .kind) && c .directly)
       labelled-by = go (c .kind) refl

@@ -2,7 +2,6 @@
 use Prim.Native.Nat.{ℕ}
 use mathlib.Core.Bool.{Bool, true, false, cond}
 use mathlib.Core.List.{List, [], _∷_}
-use mathlib.Core.Logic.{_↔_}
 use mathlib.Core.Path.{_≡_, refl, sym, ap, subst, _∙_}
 use native.Mathlib.Omega.{arith}
 use lib.Dec.{leb}
@@ -30,9 +29,11 @@ use Rattle.operands.specs.Walk.{operandsOf}
 use Rattle.operands.specs.Walk as Walk
 use Rattle.operands.specs.Checks as Operands
 use Rattle.operands.specs.declared.Written.{Written}
+use Rattle.operands.proofs.Exactly.{reads-exactly}
 use Rattle.items.specs.Items.{Item, Items, cellsOf, allInRange}
 use Rattle.items.specs.Reading as Listed
 use Rattle.items.specs.declared.ItemsRead.the-variants as I
+use Rattle.items.proofs.Top.{items-exactly}
 use Rattle.statements.specs.Statements.{Reading, nothing, instruction, org, equ, res, cells, end, StatementWord, Body, empty, opcode, origin, equals, reserve, items, ends}
 use Rattle.statements.specs.Checks.{leastUnsigned, leastSigned, worthResult, treeResult, instructionResult, judged}
 use Rattle.statements.specs.Reading.{isWord, expressionResult, itemsResult, byWord, statementRead}
@@ -115,13 +116,7 @@ cells-result c is = go (allInRange is)
     go true = refl
     go false = refl
 
-module _
-  (operands-exactly : (line : List ℕ) (ts : List Token) (os : List Written) → (operandsOf line ts ≡ Walk.reads os) ↔ OperandField line ts os)
-  (items-exactly : (line : List ℕ) (at : ℕ) (is : List Item)
-      → (Listed.walk line Listed.item (tokensFrom line at) ≡ Listed.reads is) ↔ Items line (tokensFrom line at) is)
-  (line : List ℕ)
-  where
-
+module _ (line : List ℕ) where
   -- ---- by the statement's word
 
   module _ (w : Token) (k : w .kind ≡ K.Word) where
@@ -169,13 +164,13 @@ module _
       where
         go : (o : Walk.Result) → operandsOf line ts ≡ o → Found line (w ∷ ts)
         go (Walk.reads os) f =
-            says (instruction op os) (opcode (word-is (W.Instructs op) e) (operands-exactly line ts os .0 f))
-            (λ r b. let h = by-is (W.Instructs op) e r b in let g = operands-exactly line ts (h .0) .1 (h .1) in cc (h .2, g, f))
+            says (instruction op os) (opcode (word-is (W.Instructs op) e) (reads-exactly line ts .0 f))
+            (λ r b. let h = by-is (W.Instructs op) e r b in let g = reads-exactly line ts .1 (h .1) in cc (h .2, g, f))
             (known (W.Instructs op) e (λ z. never (cc)))
             (goes-by (W.Instructs op) e ∙ operands-result line op ts f)
         go Walk.wrong f =
             wrong (known (W.Instructs op) e (λ z. never (cc)))
-            (λ r b. let h = by-is (W.Instructs op) e r b in let g = operands-exactly line ts (h .0) .1 (h .1) in never (cc))
+            (λ r b. let h = by-is (W.Instructs op) e r b in let g = reads-exactly line ts .1 (h .1) in never (cc))
             (goes-by (W.Instructs op) e ∙ operands-result line op ts f)
 
     by-items : wordOf (wordAt line w) ≡ W.Data → Found line (w ∷ ts)
@@ -183,13 +178,13 @@ module _
       where
         go : (o : Listed.Result) → Listed.walk line Listed.item ts ≡ o → Found line (w ∷ ts)
         go (Listed.reads is) f =
-            says (cells (w .next) is) (items (word-is W.Data e) (items-exactly line (w .next .at) is .0 f))
-            (λ r b. let h = by-is W.Data e r b in let g = items-exactly line (w .next .at) (h .0) .1 (h .1) in cc (h .2, g, f))
+            says (cells (w .next) is) (items (word-is W.Data e) (items-exactly line (w .next .at) .0 f))
+            (λ r b. let h = by-is W.Data e r b in let g = items-exactly line (w .next .at) .1 (h .1) in cc (h .2, g, f))
             (known W.Data e (λ z. never (cc)))
             (goes-by W.Data e ∙ items-result line (w .next) ts f ∙ cells-result (w .next) is)
         go Listed.wrong f =
             wrong (known W.Data e (λ z. never (cc)))
-            (λ r b. let h = by-is W.Data e r b in let g = items-exactly line (w .next .at) (h .0) .1 (h .1) in never (cc))
+            (λ r b. let h = by-is W.Data e r b in let g = items-exactly line (w .next .at) .1 (h .1) in never (cc))
             (goes-by W.Data e ∙ items-result line (w .next) ts f)
 
     by-word : (x : Word) → wordOf (wordAt line w) ≡ x → Found line (w ∷ ts)

@@ -3,17 +3,18 @@ use Prim.Native.Nat.{ℕ}
 use Prim.Native.Char.{code}
 use mathlib.Core.Bool.{Bool, true, false, cond, _&&_}
 use mathlib.Core.List.{List, [], _∷_}
-use mathlib.Core.Path.{_≡_, refl, sym, ap, subst, _∙_}
+use mathlib.Core.Logic.{_⊎_, inl, inr}
+use mathlib.Core.Path.{_≡_, refl, sym, ap, _∙_}
 use native.Mathlib.Omega.{arith}
 use lib.Dec.{eqb}
-use borrow.Author.Tests.{eqb-true, eq-eqb}
-use Rattle.tokens.specs.Reading.{tokenAt, afterKind, tokensFrom}
+use borrow.Author.Tests.{eqb-true}
+use Rattle.tokens.specs.Reading.{tokenAt, tokensFrom}
 use Rattle.tokens.specs.declared.Kind.{Kind}
 use Rattle.tokens.specs.declared.Kind.the-variants as K
 use Rattle.tokens.specs.declared.Token.{Token}
-use Rattle.tokens.proofs.Places.{row-unfolds}
 use Rattle.values.specs.Values.{nameAt}
 use Rattle.values.specs.declared.Name.{Name}
+use Rattle.values.proofs.Rows.{row-head}
 use Rattle.statements.specs.Statements.{Label, label}
 use Rattle.statements.specs.Reading.{isWord, isColon, labelled, labelRead, afterLabel}
 use Rattle.statements.specs.declared.LineLabel.the-variants.{Absent, Named}
@@ -89,15 +90,11 @@ labels (w ∷ c ∷ ts) = go (labelled (w ∷ c ∷ ts)) refl
 -- a token of a row that is not stray: the row goes on behind it
 pub goes-on : (line : List ℕ) (at : ℕ) {t : Token} {ts : List Token} → tokensFrom line at ≡ t ∷ ts → (t .kind ≡ K.Stray → ⊥)
     → ts ≡ tokensFrom line (t .next .at)
-goes-on line at {t} {ts} e n = go (tokenAt line at .kind) refl (sym (row-unfolds line at) ∙ e)
+goes-on line at {t} {ts} e n = go (row-head line at e .0) (row-head line at e .1)
   where
-    go : (k : Kind) → tokenAt line at .kind ≡ k → afterKind k (tokenAt line at) (tokensFrom line) ≡ t ∷ ts → ts ≡ tokensFrom line (t .next .at)
-    go K.End f g = never (cc)
-    go K.Stray f g = absurd (n (cc))
-    go K.Word f g = cc
-    go (K.Number v k) f g = cc
-    go K.Text f g = cc
-    go (K.Mark b) f g = cc
+    go : tokenAt line at ≡ t → ((tokenAt line at .kind ≡ K.Stray) ⊎ (tokensFrom line (tokenAt line at .next .at) ≡ ts)) → ts ≡ tokensFrom line (t .next .at)
+    go p (inl s) = absurd (n (ap (λ (v : Token). v .kind) (sym p) ∙ s))
+    go p (inr q) = sym q ∙ ap (λ (v : Token). tokensFrom line (v .next .at)) p
 
 -- what comes after a label is a row of the line too
 pub behind-label : (line : List ℕ) (at : ℕ) {us : List Token} {n : Name} → Label (tokensFrom line at) n us

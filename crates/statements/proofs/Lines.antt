@@ -19,7 +19,7 @@ use Rattle.statements.specs.declared.Statement.{Statement}
 use Rattle.statements.specs.declared.Statement.the-variants.{UnknownWord, WrongForm}
 use Rattle.statements.proofs.Labelling.{never, Labels, label-is, none-is, labels, label-read, label-after, label-once, behind-label}
 use Rattle.statements.proofs.Later.{later, judged-later}
-use Rattle.statements.proofs.Bodies.{UnknownHere, here, Found, says, unknown, wrong}
+use Rattle.statements.proofs.Bodies.{UnknownHere, here, Found, says, unknown, wrong, found}
 
 abbrev pub NoLabel : List Token → Type 0
 NoLabel ts = (n : Name) (us : List Token) → Label ts n us → ⊥
@@ -92,7 +92,7 @@ module _ (line : List ℕ) where
 abbrev pub row : List ℕ → List Token
 row line = tokensFrom line 0
 
-module _ (found : (line : List ℕ) (at : ℕ) → Found line (tokensFrom line at)) (line : List ℕ) where
+module _ (line : List ℕ) where
   pub verdict : Verdict line (row line)
   verdict = go (labels (row line))
     where

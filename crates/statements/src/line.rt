@@ -5,7 +5,7 @@ ghost use Rattle.statements.specs.Reading.{byWord, statementRead, lineRe
 use super::LineRead;
 use super::Statement;
 use super::labels::label;
-use super::results::data;
+use super::results::cells;
 use super::results::equ;
 use super::results::instructs;
 use super::results::org;
@@ -27,7 +27,7 @@ fn by_word(s: &[u8], word: Word, w: Token) -> Statement
         Word::Org => org(s, from),
         Word::Equ => equ(s, from),
         Word::Res => res(s, from),
-        Word::Data => data(s, from),
+        Word::Data => cells(s, from),
         Word::End => Statement::End,
         Word::Unknown => Statement::UnknownWord,
     }

@@ -95,7 +95,7 @@ pub(crate) fn instructs(s: &[u8], op: Opcode, from: Cursor) -> Statement
 }
 
 // DATA with the items that follow it.
-pub(crate) fn data(s: &[u8], from: Cursor) -> Statement
+pub(crate) fn cells(s: &[u8], from: Cursor) -> Statement
     ensures { λ r. ⌜ r ≡ itemsResult from (itemsRead (now (s .entry)) (tokensFrom (now (s .entry)) (from .at))) ⌝ }
 {
     match items(s, from) {
