@@ -7,7 +7,7 @@ use Rattle.replay_lines.proofs.cases.answer_all.Statement.{statement}
 use Rattle.replay_lines.proofs.cases.answer_all.Tie as tie
 
 abbrev Inv-loop : tie.InvT-loop
-Inv-loop line₀ bytes₀ now₀ turns₀ line bytes now turns = (32768 ≡ length line) × (4096 ≡ length bytes)
+Inv-loop line₀ bytes₀ now₀ turns₀ line bytes now turns = (33000 ≡ length line) × (4096 ≡ length bytes)
 
 abbrev μ-loop : tie.MeasureT-loop
 μ-loop line₀ bytes₀ now₀ turns₀ line bytes now turns = turns
