@@ -3,6 +3,7 @@ ghost use mathlib.Core.Path.{_≡_};
 ghost use Prim.Native.Nat.{_≤_, _<_};
 ghost use lib.ListN.{length};
 use super::answers::answer;
+use super::texts::room;
 
 // What is next.
 enum Next {
@@ -139,7 +140,7 @@ fn read_some(part: &mut [u8]) -> usize
 // Answers all of standard input. A proved loop has to end, so it counts its turns down from a number that no run uses up.
 pub(crate) fn answer_all() {
     let mut line = longest();
-    let mut bytes = io::buffer();
+    let mut bytes = room();
     let mut now = after(0, Next::Letter);
     let mut turns = u64::MAX;
     while 0 < turns {

@@ -2,7 +2,7 @@
 ghost use mathlib.Core.Path.{_≡_};
 ghost use lib.ListN.{length};
 
-// Sixteen numbers of 20 digits, with blanks.
+// Room for a reply, sixteen numbers of 20 digits with blanks; as much is read at once.
 pub(crate) fn room() -> [u8; 512]
     ensures { λ r. ⌜ 512 ≡ length r ⌝ }
 {

@@ -7,7 +7,7 @@ use Rattle.replay_lines.proofs.cases.answer_all.Statement.{statement}
 use Rattle.replay_lines.proofs.cases.answer_all.Tie as tie
 
 abbrev Inv-loop : tie.InvT-loop
-Inv-loop line₀ bytes₀ now₀ turns₀ line bytes now turns = (33000 ≡ length line) × (4096 ≡ length bytes)
+Inv-loop line₀ bytes₀ now₀ turns₀ line bytes now turns = (33000 ≡ length line) × (512 ≡ length bytes)
 
 abbrev μ-loop : tie.MeasureT-loop
 μ-loop line₀ bytes₀ now₀ turns₀ line bytes now turns = turns
@@ -15,8 +15,8 @@ abbrev μ-loop : tie.MeasureT-loop
 longest-requires : tie.Need-longest-requires Inv-loop μ-loop
 longest-requires c κs = search needs
 
-buffer-requires : tie.Need-buffer-requires Inv-loop μ-loop
-buffer-requires c κs = search needs
+room-requires : tie.Need-room-requires Inv-loop μ-loop
+room-requires c κs = search needs
 
 after-requires : tie.Need-after-requires Inv-loop μ-loop
 after-requires c κs = search needs
@@ -64,7 +64,7 @@ answer-all-spec =
     Inv-loop
     μ-loop
     longest-requires
-    buffer-requires
+    room-requires
     after-requires
     loop-holds
     slice-aggregate-read-some
