@@ -136,7 +136,7 @@ module _ (line : List ℕ) where
   pub never : {is : List Item} → _≡_ {A = Result} wrong (reads is) → ⊥
   never e = let z : _≡_ {A = ℕ} 0 1 = cc in omega arith
 
-  un-cons : (i : Item) (r : Result) (is : List Item) → cons i r ≡ reads is → (us : List Item) × (r ≡ reads us) × (is ≡ i ∷ us)
+  pub un-cons : (i : Item) (r : Result) (is : List Item) → cons i r ≡ reads is → (us : List Item) × (r ≡ reads us) × (is ≡ i ∷ us)
   un-cons i (reads us) is e = (us, refl, cc)
   un-cons i wrong is e = absurd (never e)
 
