@@ -1,5 +1,5 @@
 -- By what `value` hands back: a number, a label, or a string at most (Measures.antt).
-use mathlib.Core.Path.{_≡_, sym, ap, _∙_}
+use mathlib.Core.Path.{sym, ap, _∙_}
 use Rattle.values.specs.declared.Value.{Value}
 use Rattle.values.specs.declared.ValueRead.the-variants as R
 use Rattle.items.proofs.Measures.{number-measured, label-measured, other-measured}

@@ -1,5 +1,4 @@
 -- By the kind of the token after the `-`: decimal digits that follow directly, or no number.
-use mathlib.Core.Path.{_≡_, refl, sym, ap, subst, _∙_}
 use Rattle.values.specs.Reading.{minusAt}
 use borrow.Author.Needs.{needs}
 use Rattle.values.proofs.reading.below_zero.Statement.{statement}
