@@ -40,7 +40,9 @@ no-reading line at = (Verdicts.wrong-none line (tokensFrom line at), Verdicts.no
 pub cells-exactly : (line : List ℕ) (at : ℕ) {n : ℕ}
     → (itemsRead line (tokensFrom line at) ≡ Cells n)
     ↔ ((is : List Item) × Items line (tokensFrom line at) is × (allInRange is ≡ true) × (n ≡ length (cellsOf is)))
-cells-exactly line at {n} = (Verdicts.reply-says line (tokensFrom line at) (in-line line at), Verdicts.says-reply line (tokensFrom line at) (in-line line at) (Cells n))
+cells-exactly line at {n} =
+    let ts = tokensFrom line at in
+    (Verdicts.reply-says line ts (in-line line at), Verdicts.says-reply line ts (in-line line at) (Cells n))
 
 -- They are no more than the bytes that are left of the line: a caller can count on.
 pub few-cells : (line : List ℕ) (at : ℕ) {n : ℕ} → itemsRead line (tokensFrom line at) ≡ Cells n → at + n ≤ length line
@@ -52,12 +54,16 @@ few-cells line at e =
 pub range-exactly : (line : List ℕ) (at : ℕ)
     → (itemsRead line (tokensFrom line at) ≡ OutOfRange)
     ↔ ((is : List Item) × Items line (tokensFrom line at) is × (allInRange is ≡ false))
-range-exactly line at = (Verdicts.reply-says line (tokensFrom line at) (in-line line at), Verdicts.says-reply line (tokensFrom line at) (in-line line at) OutOfRange)
+range-exactly line at =
+    let ts = tokensFrom line at in
+    (Verdicts.reply-says line ts (in-line line at), Verdicts.says-reply line ts (in-line line at) OutOfRange)
 
 -- Refusal 3, exactly where there are no items.
 pub form-exactly : (line : List ℕ) (at : ℕ)
     → (itemsRead line (tokensFrom line at) ≡ WrongForm) ↔ ((is : List Item) → Items line (tokensFrom line at) is → ⊥)
-form-exactly line at = (Verdicts.reply-says line (tokensFrom line at) (in-line line at), Verdicts.says-reply line (tokensFrom line at) (in-line line at) WrongForm)
+form-exactly line at =
+    let ts = tokensFrom line at in
+    (Verdicts.reply-says line ts (in-line line at), Verdicts.says-reply line ts (in-line line at) WrongForm)
 
 -- ---- examples, and one reply
 
