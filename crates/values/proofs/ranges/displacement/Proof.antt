@@ -1,48 +1,37 @@
 -- A decimal displacement is tested against 32767; any other number is kept as it is (Displaced.antt).
 use mathlib.Core.Path.{sym, _∙_}
+use native.Mathlib.Omega.{arith}
 use Rattle.values.proofs.Displaced.{displaced-minus, displaced-plus, displaced-high, displaced-hexadecimal}
 use borrow.Author.Needs.{needs}
 use Rattle.values.proofs.ranges.displacement.Statement.{statement}
 use Rattle.values.proofs.ranges.displacement.Tie as tie
-use Rattle.values.proofs.ranges.displacement.Reads as reads
-use Rattle.values.proofs.ranges.displacement.Lts as lts
-use Rattle.numerals.proofs.reading.kept.Reads as kept-reads
 
--- src/ranges.rt:15:16
 enum-told : tie.Need-enum-told
 enum-told c = search needs
 
--- src/ranges.rt:16:17
 kept-requires : tie.Need-kept-requires
 kept-requires c κs = search needs
 
--- src/ranges.rt:16:17
 returns : tie.Need-returns
-returns c = (c .kept .ensures) ∙ sym (displaced-minus (c .before .before .before .before .args .n) ((c .before .before .enum-told .given) .1) (c .before .if1 .taken))
+returns c = c .kept .ensures ∙ sym (displaced-minus (c .before .before .before .before .args .n) (c .before .before .enum-told .given .1) (c .before .if1 .taken))
 
--- src/ranges.rt:19:17
 returns-2 : tie.Need-returns-2
-returns-2 c = sym (displaced-high (c .before .before .before .before .before .args .n) ((c .before .before .before .enum-told .given) .1) (c .before .before .if1 .left) (c .if2 .taken))
+returns-2 c = sym (displaced-high (c .before .before .before .before .before .args .n) (c .before .before .before .enum-told .given .1) (c .before .before .if1 .left) (omega arith))
 
--- src/ranges.rt:21:13
 kept-requires-2 : tie.Need-kept-requires-2
 kept-requires-2 c κs = search needs
 
--- src/ranges.rt:23:31
 enum-told-2 : tie.Need-enum-told-2
 enum-told-2 c = search needs
 
--- src/ranges.rt:23:31
 kept-requires-3 : tie.Need-kept-requires-3
 kept-requires-3 c κs = search needs
 
--- src/ranges.rt:9:1
 returns-3 : tie.Need-returns-3
-returns-3 c = (c .kept2 .ensures) ∙ sym (displaced-plus (c .before .before .before .before .before .before .args .n) ((c .before .before .before .before .enum-told .given) .1) (c .before .before .before .if1 .left) (c .before .if2 .left))
+returns-3 c = c .kept2 .ensures ∙ sym (displaced-plus (c .before .before .before .before .before .before .args .n) (c .before .before .before .before .enum-told .given .1) (c .before .before .before .if1 .left) (omega arith))
 
--- src/ranges.rt:9:1
 returns-4 : tie.Need-returns-4
-returns-4 c = (c .kept3 .ensures) ∙ sym (displaced-hexadecimal (c .before .before .before .args .n) ((c .before .enum-told2 .given) .1))
+returns-4 c = c .kept3 .ensures ∙ sym (displaced-hexadecimal (c .before .before .before .args .n) (c .before .enum-told2 .given .1))
 
 pub displacement-spec : {M : Type 1} → statement M
 displacement-spec =

@@ -1,81 +1,61 @@
 -- By the kind of the token at the cursor; after a `-` it is what `below_zero` hands back.
-use mathlib.Core.Path.{_≡_, refl, sym, ap, subst, _∙_}
 use borrow.Author.Tests.{eq-eqb, ne-eqb}
 use Rattle.values.specs.Reading.{valueAt}
 use borrow.Author.Needs.{needs}
 use Rattle.values.proofs.reading.value.Statement.{statement}
 use Rattle.values.proofs.reading.value.Tie as tie
-use Rattle.values.proofs.reading.value.Reads as reads
-use Rattle.values.proofs.reading.value.Lts as lts
-use Rattle.tokens.proofs.tokens.next_token.Reads as next-token-reads
-use Rattle.values.proofs.reading.below_zero.Reads as below-zero-reads
 
--- src/reading.rt:49:9
 next-token-requires : tie.Need-next-token-requires
 next-token-requires c κs = search needs
 
--- src/reading.rt:54:22
 enum-told : tie.Need-enum-told
 enum-told c = search needs
 
--- src/reading.rt:55:24
 enum-told-2 : tie.Need-enum-told-2
 enum-told-2 c = search needs
 
--- src/reading.rt:57:26
 enum-told-3 : tie.Need-enum-told-3
 enum-told-3 c = search needs
 
--- src/reading.rt:63:22
 enum-known-kind : tie.Need-enum-known-kind
 enum-known-kind c = search needs
 
--- src/reading.rt:71:23
 enum-told-4 : tie.Need-enum-told-4
 enum-told-4 c = search needs
 
--- src/reading.rt:72:20
 enum-known-kind-2 : tie.Need-enum-known-kind-2
 enum-known-kind-2 c = search needs
 
--- src/reading.rt:74:17
 below-zero-requires : tie.Need-below-zero-requires
 below-zero-requires c κs = search needs
 
--- src/reading.rt:74:17
 returns : tie.Need-returns
 unfolding valueAt
-returns c = rw (← (c .before .before .before .before .before .before .next-token .ensures), (c .before .before .before .kind2 .given) .1, eq-eqb _ _ (c .before .if1 .taken)) (c .below-zero .ensures)
+returns c = rw (← c .before .before .before .before .before .before .next-token .ensures, c .before .before .before .kind2 .given .1, eq-eqb _ _ (c .before .if1 .taken)) (c .below-zero .ensures)
 
--- src/reading.rt:46:1
 returns-2 : tie.Need-returns-2
 unfolding valueAt
-returns-2 c = rw (← (c .before .before .before .next-token .ensures), (c .enum-told .given) .1)
+returns-2 c = rw (← c .before .before .before .next-token .ensures, c .enum-told .given .1)
 
--- src/reading.rt:46:1
 returns-3 : tie.Need-returns-3
 unfolding valueAt
-returns-3 c = rw (← (c .before .before .before .next-token .ensures), (c .enum-told2 .given) .1)
+returns-3 c = rw (← c .before .before .before .next-token .ensures, c .enum-told2 .given .1)
 
--- src/reading.rt:46:1
 returns-4 : tie.Need-returns-4
 unfolding valueAt
-returns-4 c = rw (← (c .before .before .before .next-token .ensures), (c .enum-told3 .given) .1)
+returns-4 c = rw (← c .before .before .before .next-token .ensures, c .enum-told3 .given .1)
 
--- src/reading.rt:46:1
 returns-5 : tie.Need-returns-5
 unfolding valueAt
-returns-5 c = rw (← (c .before .before .before .before .next-token .ensures), (c .before .kind .given) .1)
+returns-5 c = rw (← c .before .before .before .before .next-token .ensures, c .before .kind .given .1)
 
--- src/reading.rt:46:1
 returns-6 : tie.Need-returns-6
 unfolding valueAt
-returns-6 c = rw (← (c .before .before .before .next-token .ensures), (c .enum-told4 .given) .1)
+returns-6 c = rw (← c .before .before .before .next-token .ensures, c .enum-told4 .given .1)
 
--- src/reading.rt:46:1
 returns-7 : tie.Need-returns-7
 unfolding valueAt
-returns-7 c = rw (← (c .before .before .before .before .before .next-token .ensures), (c .before .before .kind2 .given) .1, ne-eqb _ _ (c .if1 .left))
+returns-7 c = rw (← c .before .before .before .before .before .next-token .ensures, c .before .before .kind2 .given .1, ne-eqb _ _ (c .if1 .left))
 
 pub value-spec : {M : Type 1} → statement M
 value-spec =
