@@ -33,14 +33,18 @@ pub place-end : (n : ℕ) (ms : List ℕ) (i : ℕ) → length ms ≤ i → plac
 unfolding placeOf
 place-end n ms i h = rw (drop-of-length-le ms h)
 
-pub place-most : (n : ℕ) (ms : List ℕ) → placeOf n ms ≤ length ms
+place-within : (n : ℕ) (ms : List ℕ) → placeOf n ms ≤ length ms
 unfolding placeOf
-place-most n [] = omega arith
-place-most n (m ∷ ms) = go (eqb m n) (place-most n ms)
+place-within n [] = omega arith
+place-within n (m ∷ ms) = go (eqb m n) (place-within n ms)
   where
     go : (b : Bool) → placeOf n ms ≤ length ms → cond b 0 (suc (placeOf n ms)) ≤ suc (length ms)
     go true h = omega arith
     go false h = omega arith
+
+-- a place that was found is at most the table's length, whatever the table holds
+pub place-most : {r : ℕ} (n : ℕ) (ms : List ℕ) → r ≡ placeOf n ms → r ≤ length ms
+place-most n ms e = omega (arith, place-within n ms)
 
 -- ---- the number of a word
 

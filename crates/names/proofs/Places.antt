@@ -1,4 +1,4 @@
--- What a word is, by its place among the names: the tables of the code are the names' numbers, in the names' order.
+-- What a word is, by its place among the names and so by its number's place among their numbers.
 use Prim.Native.Nat.{ℕ, zero, suc, _+_, _-_, _≤_, _<_}
 use mathlib.Core.Bool.{Bool, true, false, cond}
 use mathlib.Core.List.{List, [], _∷_, _++_, map}
@@ -17,29 +17,9 @@ use Rattle.names.specs.Names.{capital, isNamed, Entry, statementWords, w
 use Rattle.names.specs.Packing.{pack, placeOf, wordAt, directives, directiveAt}
 use Rattle.names.proofs.Packs.{numbers, place-number, place-long}
 
--- the tables of src/lookup.rt
-unfoldable pub statementNumbers : List ℕ
-statementNumbers =
-    5263182 ∷ 1414283592 ∷ 1163284301 ∷ 1213420880 ∷ 5263184 ∷ 4473921 ∷ 4347219 ∷ 5002573 ∷ 5654852 ∷ 4476749 ∷ 4410953 ∷
-    4408644 ∷ 4670798 ∷ 5262659 ∷ 4476481 ∷ 21071 ∷ 5394264 ∷ 5525326 ∷ 21058 ∷ 23106 ∷ 5918274 ∷ 20546 ∷ 5262914 ∷ 20034 ∷
-    5131842 ∷ 22082 ∷ 5656130 ∷ 17218 ∷ 4410946 ∷ 17730 ∷ 20290 ∷ 1280065859 ∷ 5522770 ∷ 90440338722377 ∷ 362090679881 ∷
-    353602063945 ∷ 90440338723415 ∷ 362090680919 ∷ 353602064983 ∷ 4674127 ∷ 5591365 ∷ 5457234 ∷ 1096040772 ∷ 4476485 ∷ []
-
-unfoldable pub registerNumbers : List ℕ
-registerNumbers =
-    12370 ∷ 12626 ∷ 12882 ∷ 13138 ∷ 13394 ∷ 13650 ∷ 13906 ∷ 14162 ∷ 14418 ∷ 14674 ∷ 65 ∷ 21075 ∷ 22601 ∷ 22857 ∷ 20563 ∷
-    17232 ∷ []
-
+-- the names of the 44 words
 unfoldable pub statementNames : List String
 statementNames = map (λ (e : Entry). e .name) statementWords
-
-statement-numbers : numbers statementNames ≡ statementNumbers
-unfolding statementNumbers statementNames statementWords opcodes table pack
-statement-numbers = refl
-
-register-numbers : numbers registers ≡ registerNumbers
-unfolding registerNumbers registers pack
-register-numbers = refl
 
 word-by-place : (w : List ℕ) (es : List Entry)
     → wordIn w es ≡ getD (map (λ (e : Entry). e .word) es) (placeIn w (map (λ (e : Entry). e .name) es)) Unknown
@@ -58,13 +38,13 @@ module _ (w : List ℕ) where
   unfolding wordOf wordAt statementNames
   word-at-place = word-by-place w statementWords
 
-  pub word-found : T (allBelow 17 w) → wordOf w ≡ wordAt (placeOf (pack (map capital w)) statementNumbers)
+  pub word-found : T (allBelow 17 w) → wordOf w ≡ wordAt (placeOf (pack (map capital w)) (numbers statementNames))
   unfolding statementNames statementWords opcodes table
-  word-found t = word-at-place ∙ ap wordAt (place-number w statementNames t tt ∙ ap (placeOf (pack (map capital w))) statement-numbers)
+  word-found t = word-at-place ∙ ap wordAt (place-number w statementNames t tt)
 
-  pub register-found : T (allBelow 17 w) → registerCode w ≡ placeOf (pack (map capital w)) registerNumbers
+  pub register-found : T (allBelow 17 w) → registerCode w ≡ placeOf (pack (map capital w)) (numbers registers)
   unfolding registerCode registers
-  register-found t = place-number w registers t tt ∙ ap (placeOf (pack (map capital w))) register-numbers
+  register-found t = place-number w registers t tt
 
   pub word-long : 6 < length w → wordOf w ≡ Unknown
   unfolding wordAt statementNames statementWords opcodes table

@@ -1,11 +1,13 @@
--- A long word is no name; of any other, its number's place among the registers' numbers is its code. Assumes nothing.
+-- A long word is no name; of any other, its number's place in the table, which holds the names' numbers, by computing, is its code.
+-- Assumes nothing.
 use Prim.Native.Nat.{ℕ}
 use mathlib.Core.Path.{sym, ap, _∙_}
 use native.Mathlib.Omega.{arith}
 use lib.Seq.{slice, length-slice}
-use Rattle.names.specs.Packing.{placeOf}
-use Rattle.names.proofs.Packs.{place-most}
-use Rattle.names.proofs.Places.{registerNumbers, register-found, register-long}
+use Rattle.names.specs.Names.{registers}
+use Rattle.names.specs.Packing.{pack, placeOf}
+use Rattle.names.proofs.Packs.{numbers, place-most}
+use Rattle.names.proofs.Places.{register-found, register-long}
 use borrow.Author.Needs.{needs}
 use Rattle.names.proofs.lookup.register_code.Statement.{statement}
 use Rattle.names.proofs.lookup.register_code.Tie as tie
@@ -28,14 +30,13 @@ place-requires : tie.Need-place-requires
 place-requires c κs = search needs
 
 cast-result : tie.Need-cast-result
-unfolding registerNumbers
-cast-result c = omega (arith, c .place .ensures, place-most (c .before .before .packed .result) registerNumbers)
+cast-result c = omega (arith, place-most _ _ (c .place .ensures))
 
 returns-2 : tie.Need-returns-2
-unfolding registerNumbers
+unfolding registers pack
 returns-2 c =
     let w = slice (c .before .before .before .before .before .args .start) (c .before .before .before .before .before .args .end) (c .before .before .before .before .before .args .s .now) in
-    c .place .ensures ∙ ap (λ (n : ℕ). placeOf n registerNumbers) (c .before .before .packed .ensures) ∙ sym (register-found w ((c .before .before .before .before .before .pre) .2))
+    c .place .ensures ∙ ap (λ (n : ℕ). placeOf n (numbers registers)) (c .before .before .packed .ensures) ∙ sym (register-found w ((c .before .before .before .before .before .pre) .2))
 
 pub register-code-spec : {M : Type 1} → statement M
 register-code-spec =
