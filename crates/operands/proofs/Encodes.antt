@@ -1,8 +1,8 @@
 -- What is accepted can be encoded, whatever values its labels get.
 use Prim.Native.Nat.{ℕ}
-use mathlib.Core.Bool.{Bool, true, cond, _&&_}
-use mathlib.Core.List.{List, [], _∷_}
-use mathlib.Core.Path.{_≡_, refl, sym, ap, ap₂, subst, _∙_}
+use mathlib.Core.Bool.{Bool, true, cond}
+use mathlib.Core.List.{List}
+use mathlib.Core.Path.{_≡_, refl, sym, ap, _∙_}
 use lib.Dec.{T, ltb→lt}
 use borrow.Author.Tests.{lt-ltb}
 use Rattle.numerals.specs.declared.Kept.the-variants as N

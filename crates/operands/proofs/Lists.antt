@@ -14,7 +14,7 @@ use Rattle.tokens.specs.declared.Kind.{Kind}
 use Rattle.tokens.specs.declared.Kind.the-variants as K
 use Rattle.tokens.specs.declared.Token.{Token}
 use Rattle.values.proofs.Rows.{row-of}
-use Rattle.operands.specs.Walk.{State, operand, done, Step, emit, halt, Result, reads, wrong, onMark, only, cons, step, walk, operandsOf}
+use Rattle.operands.specs.Walk.{operand, done, emit, Result, reads, wrong, only, cons, walk, operandsOf}
 use Rattle.operands.specs.Peeks.{markBy, markOf, betweenBy, betweenOf, Goes, keep, keepAll, noneListed, listed}
 use Rattle.operands.specs.declared.Between.{Between}
 use Rattle.operands.specs.declared.Between.the-variants as B

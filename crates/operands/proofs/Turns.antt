@@ -13,7 +13,7 @@ use Rattle.numerals.specs.Digits.{allBelow}
 use Rattle.numerals.specs.declared.Cursor.{Cursor}
 use Rattle.numerals.specs.declared.Radix.the-variants.{Decimal, Hexadecimal}
 use Rattle.isa.specs.Registers.{isRegister}
-use Rattle.tokens.specs.Reading.{tokenAt, afterKind, tokensFrom}
+use Rattle.tokens.specs.Reading.{tokenAt, tokensFrom}
 use Rattle.tokens.specs.declared.Kind.{Kind}
 use Rattle.tokens.specs.declared.Kind.the-variants as K
 use Rattle.tokens.specs.declared.Token.{Token}
@@ -25,7 +25,7 @@ use Rattle.values.specs.declared.Value.the-variants.{Number, Label}
 use Rattle.values.specs.declared.ValueRead.{ValueRead}
 use Rattle.values.specs.declared.ValueRead.the-variants as V′
 use Rattle.values.proofs.Rows.{row-of, ends-of}
-use Rattle.operands.specs.Walk.{Shape, State, value, digits, put, Step, to, halt, Result, wrong, onMark, onWord, only, valueStep, digitsStep, finish, stepped, codeAt, step, walk}
+use Rattle.operands.specs.Walk.{Shape, State, value, digits, put, Step, to, halt, Result, wrong, onMark, onWord, valueStep, digitsStep, finish, stepped, codeAt, step, walk}
 use Rattle.operands.specs.Peeks.{markBy, markOf, registerBy, registerOf}
 use Rattle.operands.specs.declared.MarkRead.the-variants as M
 use Rattle.operands.specs.declared.RegisterRead.the-variants as R

@@ -2,10 +2,9 @@
 -- `proofs/Top.antt` shows that it finds exactly the rule's operands.
 use Prim.Native.Nat.{ℕ}
 use Prim.Native.Char.{code}
-use mathlib.Core.Bool.{Bool, true, false, cond, _&&_, _||_}
+use mathlib.Core.Bool.{Bool, true, false, cond}
 use mathlib.Core.List.{List, [], _∷_}
-use lib.Dec.{ltb, eqb}
-use Rattle.numerals.specs.declared.Radix.{Radix}
+use lib.Dec.{eqb}
 use Rattle.numerals.specs.declared.Radix.the-variants.{Decimal, Hexadecimal}
 use Rattle.isa.specs.Registers.{IX, IY, SP, isRegister}
 use Rattle.names.specs.Names.{registerCode}
