@@ -1,14 +1,13 @@
 -- Strings: how many characters they have, and that these are the reader's.
 use Prim.Native.Nat.{ℕ, _+_, _≤_, _<_}
 use mathlib.Core.List.{List, [], _∷_}
-use mathlib.Core.Path.{_≡_, refl, sym, ap, subst, _∙_}
+use mathlib.Core.Path.{_≡_, refl, ap, subst}
 use native.Mathlib.Omega.{arith}
 use lib.Ieee.Bits.{is-true}
 use lib.ListN.{length, drop, drop-of-length-le}
 use Rattle.numerals.specs.declared.Cursor.{Cursor}
 use Rattle.tokens.specs.Strings.{isPlain, Characters, closed, plain, newline}
 use Rattle.tokens.specs.Reading.{characterAt}
-use Rattle.tokens.specs.declared.Character.{Character}
 use Rattle.tokens.specs.declared.Character.the-variants.{Stands, Closed, Broken}
 use Rattle.tokens.proofs.Quoted.{plain-is, Inside, character-means, ReadAt, characters-read}
 use Rattle.items.specs.Reading.{characters}

@@ -1,5 +1,4 @@
 -- Rows of DATA that are easily misread, settled one by one by computing them.
-use Prim.Native.Nat.{ℕ}
 use Prim.Native.String.{String}
 use mathlib.Core.Bool.{true, false}
 use mathlib.Core.List.{List, [], _∷_, _++_}

@@ -3,6 +3,7 @@ pub mod Counts
 pub mod Measures
 pub mod Walks
 pub mod Readings
+pub mod Bounds
 pub mod Verdicts
 pub mod Examples
 pub mod Top

@@ -9,7 +9,6 @@ use mir.Syntax.{w16}
 use mir.Val.{ofZ}
 use Rattle.numerals.specs.Numbers.{valueOf, inRange, keptOf}
 use Rattle.numerals.specs.declared.Cursor.{Cursor}
-use Rattle.numerals.specs.declared.Kept.{Kept}
 use Rattle.numerals.specs.declared.Kept.the-variants.{Cell, OutOfRange}
 use Rattle.numerals.specs.declared.Numeral.{Numeral}
 use Rattle.tokens.specs.Strings.{Characters}
@@ -26,7 +25,7 @@ use Rattle.values.specs.declared.ValueRead.{ValueRead}
 use Rattle.values.specs.declared.ValueRead.the-variants as R
 use Rattle.values.proofs.Finds.{value-stands}
 use Rattle.values.proofs.Rows.{ends-of}
-use Rattle.items.specs.Items.{Item, number, string, itemCells, itemInRange}
+use Rattle.items.specs.Items.{Item, itemCells, itemInRange}
 use Rattle.items.specs.Reading.{characters}
 use Rattle.items.specs.Turns.{Standing, stands, none, stringBy, stringAt, itemBy, itemAt, measured}
 use Rattle.items.specs.declared.ItemRead.{ItemRead}

@@ -8,18 +8,17 @@ use native.Mathlib.Omega.{arith}
 use lib.Dec.{eqb}
 use lib.ListN.{length, drop}
 use borrow.Author.Tests.{eqb-true}
-use Rattle.numerals.specs.declared.Numeral.{Numeral}
 use Rattle.numerals.specs.declared.Radix.the-variants.{Decimal, Hexadecimal}
 use Rattle.tokens.specs.Strings.{Characters}
-use Rattle.tokens.specs.Reading.{tokenAt, afterKind, tokensFrom}
+use Rattle.tokens.specs.Reading.{tokenAt, tokensFrom}
 use Rattle.tokens.specs.declared.Kind.{Kind}
 use Rattle.tokens.specs.declared.Kind.the-variants as K
 use Rattle.tokens.specs.declared.Token.{Token}
 use Rattle.tokens.proofs.Places.{token-placed}
-use Rattle.values.specs.Values.{IsMark, numeral, NumberText, plain, minus}
+use Rattle.values.specs.Values.{IsMark, numeral, plain, minus}
 use Rattle.values.proofs.Rows.{row-of, ends-of}
-use Rattle.items.specs.Items.{Item, number, string, ItemText, is-number, is-string, Items, one, more}
-use Rattle.items.specs.Reading.{characters, State, item, digits, done, Step, to, emit, halt, Result, reads, wrong, only, digitsStep, doneStep, cons, finish, stepped, itemStep, step, walk}
+use Rattle.items.specs.Items.{Item, number, ItemText, is-number, is-string, Items, one, more}
+use Rattle.items.specs.Reading.{characters, State, item, digits, done, Step, to, emit, halt, Result, reads, wrong, only, digitsStep, doneStep, cons, stepped, itemStep, step, walk}
 use Rattle.items.proofs.Counts.{characters-of}
 use Rattle.items.proofs.Measures.{quote-at}
 
@@ -136,7 +135,7 @@ module _ (line : List ℕ) where
   pub never : {is : List Item} → _≡_ {A = Result} wrong (reads is) → ⊥
   never e = let z : _≡_ {A = ℕ} 0 1 = cc in omega arith
 
-  un-cons : (i : Item) (r : Result) (is : List Item) → cons i r ≡ reads is → (us : List Item) × (r ≡ reads us) × (is ≡ i ∷ us)
+  pub un-cons : (i : Item) (r : Result) (is : List Item) → cons i r ≡ reads is → (us : List Item) × (r ≡ reads us) × (is ≡ i ∷ us)
   un-cons i (reads us) is e = (us, refl, cc)
   un-cons i wrong is e = absurd (never e)
 

@@ -3,15 +3,14 @@ use Prim.Native.Nat.{ℕ, _+_, _≤_, _<_}
 use Prim.Native.Char.{code}
 use mathlib.Core.Bool.{Bool, true, false, cond, _&&_, and-true}
 use mathlib.Core.List.{List, [], _∷_, _++_}
-use mathlib.Core.Path.{_≡_, refl, sym, ap, subst, _∙_}
+use mathlib.Core.Path.{_≡_, refl, sym, ap, _∙_}
 use native.Mathlib.Nat.{add-zero}
 use native.Mathlib.Omega.{arith}
 use lib.Dec.{eqb}
 use lib.ListN.{length, drop, length-append}
-use borrow.Author.Tests.{eqb-true}
 use Rattle.numerals.specs.declared.Cursor.{Cursor}
 use Rattle.numerals.specs.declared.Radix.the-variants.{Decimal, Hexadecimal}
-use Rattle.tokens.specs.Reading.{tokenAt, afterKind, tokensFrom}
+use Rattle.tokens.specs.Reading.{tokenAt, tokensFrom}
 use Rattle.tokens.specs.declared.Kind.{Kind}
 use Rattle.tokens.specs.declared.Kind.the-variants as K
 use Rattle.tokens.specs.declared.Token.{Token}
@@ -24,7 +23,7 @@ use Rattle.values.specs.declared.ValueRead.the-variants as R
 use Rattle.values.proofs.Rows.{row-of, ends-of}
 use Rattle.items.specs.Items.{Item, number, string, itemCells, itemInRange, cellsOf, allInRange}
 use Rattle.items.specs.Reading.{characters, State, item, digits, done, Step, to, emit, halt, Result, reads, wrong, digitsStep, doneStep, cons, finish, stepped, itemStep, step, walk, judged, itemsRead}
-use Rattle.items.specs.Turns.{Standing, stands, none, stringBy, itemBy, itemAt, measured, followsBy, followsOf, verdict}
+use Rattle.items.specs.Turns.{Standing, stands, none, itemBy, itemAt, measured, followsBy, followsOf, verdict}
 use Rattle.items.specs.declared.Follows.{Follows}
 use Rattle.items.specs.declared.Follows.the-variants.{Comma, Over, Neither}
 use Rattle.items.specs.declared.ItemRead.the-variants.{Absent}

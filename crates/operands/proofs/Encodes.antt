@@ -1,8 +1,8 @@
 -- What is accepted can be encoded, whatever values its labels get.
 use Prim.Native.Nat.{ℕ}
-use mathlib.Core.Bool.{Bool, true, cond, _&&_}
-use mathlib.Core.List.{List, [], _∷_}
-use mathlib.Core.Path.{_≡_, refl, sym, ap, ap₂, subst, _∙_}
+use mathlib.Core.Bool.{Bool, true, cond}
+use mathlib.Core.List.{List}
+use mathlib.Core.Path.{_≡_, refl, sym, ap, _∙_}
 use lib.Dec.{T, ltb→lt}
 use borrow.Author.Tests.{lt-ltb}
 use Rattle.numerals.specs.declared.Kept.the-variants as N
@@ -142,15 +142,15 @@ module _ (line : List ℕ) (ts : List Token) (op : Opcode) where
       let p = operandAt (h .operands) 1 in
       let f = fits-exactly op (h .operands) .0 (h .fitting) in
       let k₁ : allows (table op .first) (settled a v) ≡ true =
-          ap (λ (g : Given). allows (table op .first) (settled g v)) (h .first-given) ∙ kind-kept (table op .first) o (h .first-word) v ∙ f .first-kind in
+      ap (λ (g : Given). allows (table op .first) (settled g v)) (h .first-given) ∙ kind-kept (table op .first) o (h .first-word) v ∙ f .first-kind in
       let k₂ : allows (table op .second) (settled b w) ≡ true =
-          ap (λ (g : Given). allows (table op .second) (settled g w)) (h .second-given) ∙ kind-kept (table op .second) p (h .second-word) w ∙ f .second-kind in
+      ap (λ (g : Given). allows (table op .second) (settled g w)) (h .second-given) ∙ kind-kept (table op .second) p (h .second-word) w ∙ f .second-kind in
       let r₁ : registerThere (settled a v) ≡ true =
-          ap (λ (g : Given). registerThere (settled g v)) (h .first-given)
-          ∙ there-settled o (h .first-word) v (first-known line (h .reading)) (h .first-in-range) in
+      ap (λ (g : Given). registerThere (settled g v)) (h .first-given)
+      ∙ there-settled o (h .first-word) v (first-known line (h .reading)) (h .first-in-range) in
       let r₂ : registerThere (settled b w) ≡ true =
-          ap (λ (g : Given). registerThere (settled g w)) (h .second-given)
-          ∙ there-settled p (h .second-word) w (second-known line (h .reading)) (h .second-in-range) in
+      ap (λ (g : Given). registerThere (settled g w)) (h .second-given)
+      ∙ there-settled p (h .second-word) w (second-known line (h .reading)) (h .second-in-range) in
       rw (k₁, k₂, r₁, r₂)
 
   pub encodes : {a b : Given} → Accepted line ts op a b → (v w : ℕ) → refusalOf (encodeOf (settledInstruction op a b v w)) ≡ 0

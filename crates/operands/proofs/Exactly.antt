@@ -39,14 +39,18 @@ fits-exactly op os = (there, back)
     all-true true true false e = let z : _≡_ {A = ℕ} 0 1 = cc in absurd (omega arith)
     all-true true false c e = let z : _≡_ {A = ℕ} 0 1 = cc in absurd (omega arith)
     all-true false b c e = let z : _≡_ {A = ℕ} 0 1 = cc in absurd (omega arith)
+
     first : Bool
     first = allows (table op .first) (operandWith (operandAt os 0) 0)
+
     second : Bool
     second = allows (table op .second) (operandWith (operandAt os 1) 0)
+
     there : (eqb (length os) (countOf op) && (first && second)) ≡ true → Fits op os
     there e =
         let h = all-true (eqb (length os) (countOf op)) first second e in
         record { as-many = eqb-true (length os) (countOf op) (h .0); first-kind = h .1; second-kind = h .2 }
+
     back : Fits op os → (eqb (length os) (countOf op) && (first && second)) ≡ true
     back h = rw (eq-eqb (length os) (countOf op) (h .as-many), h .first-kind, h .second-kind)
 
@@ -120,8 +124,10 @@ module _ (line : List ℕ) (ts : List Token) where
       where
         a : Written
         a = operandAt os 0
+
         b : Written
         b = operandAt os 1
+
         by-words : fits op os ≡ true → (k l : Kept) → wordOf a ≡ k → wordOf b ≡ l → Tells (ranged a k b l)
         by-words e (N.Cell x) (N.Cell y) p q =
             record {
@@ -137,6 +143,7 @@ module _ (line : List ℕ) (ts : List Token) where
             }
         by-words e (N.Cell x) N.OutOfRange p q = record { operands = os; reading = r; fitting = e; out-of-range = inr q }
         by-words e N.OutOfRange l p q = record { operands = os; reading = r; fitting = e; out-of-range = inl p }
+
         by-fit : (t : Bool) → fits op os ≡ t → Tells (cond t (ranged a (wordOf a) b (wordOf b)) WrongOperands)
         by-fit true e = by-words e (wordOf a) (wordOf b) refl refl
         by-fit false e = record { operands = os; reading = r; not-fitting = e }
@@ -166,8 +173,10 @@ module _ (line : List ℕ) (ts : List Token) where
       where
         a : Written
         a = operandAt (h .operands) 0
+
         b : Written
         b = operandAt (h .operands) 1
+
         out : (k : Kept) → wordOf a ≡ k → ((wordOf a ≡ N.OutOfRange) ⊎ (wordOf b ≡ N.OutOfRange)) → ranged a k b (wordOf b) ≡ OutOfRange
         out N.OutOfRange p e = refl
         out (N.Cell x) p (inl e) = let z : _≡_ {A = ℕ} 0 1 = cc in absurd (omega arith)

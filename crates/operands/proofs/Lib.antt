@@ -7,3 +7,4 @@ pub mod Judged
 pub mod Exactly
 pub mod Encodes
 pub mod Examples
+pub mod Top

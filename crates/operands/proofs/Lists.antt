@@ -14,7 +14,7 @@ use Rattle.tokens.specs.declared.Kind.{Kind}
 use Rattle.tokens.specs.declared.Kind.the-variants as K
 use Rattle.tokens.specs.declared.Token.{Token}
 use Rattle.values.proofs.Rows.{row-of}
-use Rattle.operands.specs.Walk.{State, operand, done, Step, emit, halt, Result, reads, wrong, onMark, only, cons, step, walk, operandsOf}
+use Rattle.operands.specs.Walk.{operand, done, emit, Result, reads, wrong, only, cons, walk, operandsOf}
 use Rattle.operands.specs.Peeks.{markBy, markOf, betweenBy, betweenOf, Goes, keep, keepAll, noneListed, listed}
 use Rattle.operands.specs.declared.Between.{Between}
 use Rattle.operands.specs.declared.Between.the-variants as B
@@ -105,8 +105,10 @@ module _ (s : List ℕ) (all : FirstTwo) (at : ℕ) where
     some-comma {m} {more} q e =
         let x : markOf (tokenAt s (c .at)) ≡ M.Is (code ",") m = subst (After s (c .at) o) e (after s (c .at) o) in
         let h = mark-row s (c .at) (code ",") m x in
-        let l : at ≤ c .at = g .on in
-        (ap (λ (r : Result). listed all r) (g .same ∙ on-mark s (c .at) (done o) (only (code ",") (emit o)) (λ u. refl) (code ",") m x)
-        ∙ listed-cons all o (walk s operand (tokensFrom s (m .at)))
-        ∙ ap (λ (y : FirstTwo). listed y (walk s operand (tokensFrom s (m .at)))) (sym q),
-        omega (arith, h .2), h .3)
+        let l : at ≤ c .at = g .on in (
+          ap (λ (r : Result). listed all r) (g .same ∙ on-mark s (c .at) (done o) (only (code ",") (emit o)) (λ u. refl) (code ",") m x)
+              ∙ listed-cons all o (walk s operand (tokensFrom s (m .at)))
+              ∙ ap (λ (y : FirstTwo). listed y (walk s operand (tokensFrom s (m .at)))) (sym q),
+          omega (arith, h .2),
+          h .3,
+        )

@@ -1,12 +1,12 @@
 -- What each outcome of a function of shapes.rt says of the walk.
-use Prim.Native.Nat.{ℕ, _≤_, _<_}
+use Prim.Native.Nat.{ℕ, _≤_}
 use Prim.Native.Char.{code}
-use mathlib.Core.Bool.{Bool, true, false, cond}
+use mathlib.Core.Bool.{true, false, cond}
 use mathlib.Core.List.{List}
 use mathlib.Core.Path.{_≡_, refl, sym, ap, subst, _∙_}
 use native.Mathlib.Omega.{arith}
 use lib.Dec.{eqb}
-use borrow.Author.Tests.{eq-eqb, ne-eqb, le-ltb, ltb-false}
+use borrow.Author.Tests.{eq-eqb, ne-eqb, ltb-false}
 use Rattle.numerals.specs.declared.Cursor.{Cursor}
 use Rattle.isa.specs.Registers.{IX, IY, SP, isRegister}
 use Rattle.tokens.specs.Reading.{tokenAt, tokensFrom}
@@ -19,8 +19,8 @@ use Rattle.values.specs.declared.ValueRead.{ValueRead}
 use Rattle.values.specs.declared.ValueRead.the-variants as V′
 use Rattle.values.proofs.Rows.{row-of}
 use Rattle.operands.specs.Operands.{Index}
-use Rattle.operands.specs.Walk.{Shape, hash, slash, dollar, State, operand, value, afterHash, indexDot, indexName, registerName, indirectName, closing, done, Step, to, emit, halt, Result, wrong, onMark, onWord, only, starts, indexStep, finish, stepped, codeAt, step, walk}
-use Rattle.operands.specs.Peeks.{markBy, markOf, registerOf, goesOn, Onward, Goes}
+use Rattle.operands.specs.Walk.{Shape, hash, slash, dollar, State, operand, value, afterHash, indexDot, indexName, registerName, indirectName, closing, done, Step, to, emit, halt, wrong, onMark, onWord, only, starts, indexStep, finish, stepped, codeAt, step, walk}
+use Rattle.operands.specs.Peeks.{markBy, markOf, registerOf, Onward, Goes}
 use Rattle.operands.specs.declared.MarkRead.the-variants as M
 use Rattle.operands.specs.declared.OperandRead.{OperandRead}
 use Rattle.operands.specs.declared.OperandRead.the-variants as O

@@ -194,8 +194,10 @@ module _ (line : List ℕ) where
     where
       r : ℕ
       r = codeAt line t
+
       closes : (x : ℕ) (o : Written) → r ≡ x → T (isRegister x) → Index x v o → Passed (closing o) (cur ++ t ∷ [])
       closes x o q known i = λ z ez. rw append-assoc (h t z x o (record { word = e; names = q; known = known }) i ez)
+
       go : (b₁ b₂ b₃ : Bool) → eqb r IX ≡ b₁ → eqb r IY ≡ b₂ → eqb r SP ≡ b₃
           → Stepped t cur (cond b₁ (to (closing (IndexedX v))) (cond b₂ (to (closing (IndexedY v))) (cond b₃ (to (closing (IndexedSp v))) halt)))
       go true b₂ b₃ q₁ q₂ q₃ = closes IX (IndexedX v) (eqb-true r IX q₁) tt by-IX

@@ -13,7 +13,7 @@ use Rattle.numerals.specs.Digits.{allBelow}
 use Rattle.numerals.specs.declared.Cursor.{Cursor}
 use Rattle.numerals.specs.declared.Radix.the-variants.{Decimal, Hexadecimal}
 use Rattle.isa.specs.Registers.{isRegister}
-use Rattle.tokens.specs.Reading.{tokenAt, afterKind, tokensFrom}
+use Rattle.tokens.specs.Reading.{tokenAt, tokensFrom}
 use Rattle.tokens.specs.declared.Kind.{Kind}
 use Rattle.tokens.specs.declared.Kind.the-variants as K
 use Rattle.tokens.specs.declared.Token.{Token}
@@ -25,7 +25,7 @@ use Rattle.values.specs.declared.Value.the-variants.{Number, Label}
 use Rattle.values.specs.declared.ValueRead.{ValueRead}
 use Rattle.values.specs.declared.ValueRead.the-variants as V′
 use Rattle.values.proofs.Rows.{row-of, ends-of}
-use Rattle.operands.specs.Walk.{Shape, State, value, digits, put, Step, to, halt, Result, wrong, onMark, onWord, only, valueStep, digitsStep, finish, stepped, codeAt, step, walk}
+use Rattle.operands.specs.Walk.{Shape, State, value, digits, put, Step, to, halt, Result, wrong, onMark, onWord, valueStep, digitsStep, finish, stepped, codeAt, step, walk}
 use Rattle.operands.specs.Peeks.{markBy, markOf, registerBy, registerOf}
 use Rattle.operands.specs.declared.MarkRead.the-variants as M
 use Rattle.operands.specs.declared.RegisterRead.the-variants as R
@@ -60,6 +60,7 @@ module _ (s : List ℕ) (at : ℕ) where
     where
       one : (ts : List Token) → tokensFrom s at ≡ tokenAt s at ∷ ts → walk s st (tokensFrom s at) ≡ wrong
       one ts e = rw e (ap (λ (x : Step). stepped x (λ y. walk s y ts)) h)
+
       go : (k : Kind) → tokenAt s at .kind ≡ k → walk s st (tokensFrom s at) ≡ wrong
       go K.End q = rw (row-of s at q) z
       go K.Stray q = one [] (row-of s at q)
@@ -153,6 +154,7 @@ module _ (s : List ℕ) (at : ℕ) where
       where
         r : ℕ
         r = codeAt s (tokenAt s at)
+
         go : (k : Kind) → registerBy r k (tokenAt s at .next) ≡ R.Absent → onWord (f r) k ≡ halt
         go K.End e = refl
         go K.Stray e = refl
@@ -179,6 +181,7 @@ digits-turn s at k = go (tokenAt s at .kind) (tokenAt s at .directly) refl refl
   where
     no : (j : Kind) → tokenAt s at .kind ≡ j → digitsStep k j (tokenAt s at .directly) ≡ halt → walk s (digits k) (tokensFrom s at) ≡ wrong
     no j q h = halted s at (digits k) refl (ap (λ (x : Kind). digitsStep k x (tokenAt s at .directly)) q ∙ h)
+
     go : (j : Kind) (d : Bool) → tokenAt s at .kind ≡ j → tokenAt s at .directly ≡ d
         → (walk s (digits k) (tokensFrom s at) ≡ valueOn s k (minusBy j d (tokenAt s at .next))) × ValueOnward at (minusBy j d (tokenAt s at .next))
     go K.End d q r = (no K.End q refl, tt)
@@ -198,9 +201,11 @@ value-turn s at k = go (tokenAt s at .kind) refl
   where
     no : (j : Kind) → tokenAt s at .kind ≡ j → valueStep k j (tokenAt s at) ≡ halt → walk s (value k) (tokensFrom s at) ≡ wrong
     no j q h = halted s at (value k) refl (ap (λ (x : Kind). valueStep k x (tokenAt s at)) q ∙ h)
+
     later : (n : ℕ) (r : ValueRead) → at ≤ n → ValueOnward n r → ValueOnward at r
     later n (V′.Found v c) h o = omega arith
     later n V′.Absent h o = tt
+
     go : (j : Kind) → tokenAt s at .kind ≡ j
         → (walk s (value k) (tokensFrom s at) ≡ valueOn s k (valueBy s j (tokenAt s at))) × ValueOnward at (valueBy s j (tokenAt s at))
     go K.End q = (no K.End q refl, tt)
@@ -214,6 +219,7 @@ value-turn s at k = go (tokenAt s at .kind) refl
       where
         next : ℕ
         next = tokenAt s at .next .at
+
         mark : (y : Bool) → eqb b (code "-") ≡ y
             → (walk s (value k) (tokensFrom s at) ≡ valueOn s k (cond y (minusAt s next) V′.Absent)) × ValueOnward at (cond y (minusAt s next) V′.Absent)
         mark true e =

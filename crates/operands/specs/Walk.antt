@@ -2,10 +2,9 @@
 -- `proofs/Top.antt` shows that it finds exactly the rule's operands.
 use Prim.Native.Nat.{ℕ}
 use Prim.Native.Char.{code}
-use mathlib.Core.Bool.{Bool, true, false, cond, _&&_, _||_}
+use mathlib.Core.Bool.{Bool, true, false, cond}
 use mathlib.Core.List.{List, [], _∷_}
-use lib.Dec.{ltb, eqb}
-use Rattle.numerals.specs.declared.Radix.{Radix}
+use lib.Dec.{eqb}
 use Rattle.numerals.specs.declared.Radix.the-variants.{Decimal, Hexadecimal}
 use Rattle.isa.specs.Registers.{IX, IY, SP, isRegister}
 use Rattle.names.specs.Names.{registerCode}
@@ -25,21 +24,21 @@ pub data Shape : Type 0 where
 
 -- what may be next
 pub data State : Type 0 where
-  operand : State                    -- an operand's first mark
-  value : Shape → State              -- a value
-  digits : Shape → State             -- the digits after `-`
-  afterHash : Value → State          -- `[`, a comma or the end, after `#v`
-  indexDot : Value → State           -- `.` after `#v[`
-  indexName : Value → State          -- IX, IY or SP after `#v[.`
-  registerName : State               -- a register after `.`
-  indirectDot : State                -- `.` after `[`
-  indirectName : State               -- a register after `[.`
-  closing : Written → State          -- `]`
-  done : Written → State             -- a comma or the end
+  operand : State  -- an operand's first mark
+  value : Shape → State  -- a value
+  digits : Shape → State  -- the digits after `-`
+  afterHash : Value → State  -- `[`, a comma or the end, after `#v`
+  indexDot : Value → State  -- `.` after `#v[`
+  indexName : Value → State  -- IX, IY or SP after `#v[.`
+  registerName : State  -- a register after `.`
+  indirectDot : State  -- `.` after `[`
+  indirectName : State  -- a register after `[.`
+  closing : Written → State  -- `]`
+  done : Written → State  -- a comma or the end
 
 pub data Step : Type 0 where
   to : State → Step
-  emit : Written → Step              -- a comma ends the operand
+  emit : Written → Step  -- a comma ends the operand
   halt : Step
 
 pub data Result : Type 0 where

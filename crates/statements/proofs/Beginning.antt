@@ -1,6 +1,6 @@
 -- What a row begins with, by the tokens that `next_token` hands back; laws that the code's proofs cite.
 use Prim.Native.Nat.{ℕ, _≤_}
-use mathlib.Core.Bool.{Bool, true, false, cond, _&&_}
+use mathlib.Core.Bool.{true, false, _&&_}
 use mathlib.Core.List.{List, [], _∷_}
 use mathlib.Core.Path.{_≡_, refl, sym, ap, subst, _∙_}
 use lib.Dec.{T}
@@ -27,6 +27,11 @@ use Rattle.statements.proofs.Labelling.{never, word-kind, colon-kind}
 
 -- ---- the statement's word
 
+-- what the code says by the word that it found
+pub said-by : (line : List ℕ) (w : Token) {x y : Word} {st : Statement} → st ≡ byWord line y w (tokensFrom line (w .next .at)) → x ≡ y
+    → st ≡ byWord line x w (tokensFrom line (w .next .at))
+said-by line w e f = e ∙ sym (ap (λ (z : Word). byWord line z w (tokensFrom line (w .next .at))) f)
+
 module _ (line : List ℕ) (at : ℕ) {w : Token} (t : w ≡ tokenAt line at) where
   kind-at : {k : Kind} → w .kind ≡ k → tokenAt line at .kind ≡ k
   kind-at e = ap (λ (v : Token). v .kind) (sym t) ∙ e
@@ -52,10 +57,10 @@ module _ (line : List ℕ) (at : ℕ) {w : Token} (t : w ≡ tokenAt line at) wh
       go K.Text e f n = no-word-read (tokensFrom line (tokenAt line at .next .at)) (ap isWord e ∙ f)
       go (K.Mark b) e f n = no-word-read (tokensFrom line (tokenAt line at .next .at)) (ap isWord e ∙ f)
 
-  pub by-its-word : {x : Word} → w .kind ≡ K.Word → x ≡ wordOf (wordAt line w)
-      → byWord line x w (tokensFrom line (w .next .at)) ≡ statementRead line (tokensFrom line at)
+  pub by-its-word : {x : Word} {st : Statement} → w .kind ≡ K.Word → x ≡ wordOf (wordAt line w) → st ≡ byWord line x w (tokensFrom line (w .next .at))
+      → st ≡ statementRead line (tokensFrom line at)
   unfolding statementRead
-  by-its-word {x} e f = sym (ap (statementRead line) row ∙ rw (e, f))
+  by-its-word {x} e f g = g ∙ sym (ap (statementRead line) row ∙ rw (e, f))
     where
       row : tokensFrom line at ≡ w ∷ tokensFrom line (w .next .at)
       row = row-of line at (kind-at e) ∙ ap (λ (v : Token). v ∷ tokensFrom line (v .next .at)) (sym t)

@@ -29,7 +29,7 @@ use Rattle.operands.specs.Walk.{operandsOf}
 use Rattle.operands.specs.Walk as Walk
 use Rattle.operands.specs.Checks as Operands
 use Rattle.operands.specs.declared.Written.{Written}
-use Rattle.operands.proofs.Exactly.{reads-exactly}
+use Rattle.operands.proofs.Top.{reads-exactly}
 use Rattle.items.specs.Items.{Item, Items, cellsOf, allInRange}
 use Rattle.items.specs.Reading as Listed
 use Rattle.items.specs.declared.ItemsRead.the-variants as I
@@ -38,7 +38,7 @@ use Rattle.statements.specs.Statements.{Reading, nothing, instruction, o
 use Rattle.statements.specs.Checks.{leastUnsigned, leastSigned, worthResult, treeResult, instructionResult, judged}
 use Rattle.statements.specs.Reading.{isWord, expressionResult, itemsResult, byWord, statementRead}
 use Rattle.statements.specs.declared.Statement.{Statement}
-use Rattle.statements.specs.declared.Statement.the-variants.{Nothing, Org, Equ, Res, Data, End, UnknownWord, WrongForm, TooDeep, OutOfRange}
+use Rattle.statements.specs.declared.Statement.the-variants.{Org, Equ, Res, Data, End, UnknownWord, WrongForm, TooDeep, OutOfRange}
 use Rattle.statements.proofs.Labelling.{never}
 
 module _ (line : List ℕ) where

@@ -1,14 +1,13 @@
 -- A whole line: it has one reading, or an unknown word, or wrong form, and the reader answers accordingly. Top.antt restates these.
 use Prim.Native.Nat.{ℕ}
-use mathlib.Core.Bool.{Bool, true, false}
-use mathlib.Core.List.{List, [], _∷_}
+use mathlib.Core.Bool.{true, false}
+use mathlib.Core.List.{List, _∷_}
 use mathlib.Core.Logic.{_↔_, _⊎_, inl, inr}
 use mathlib.Core.Path.{_≡_, refl, sym, ap, subst, _∙_}
 use Rattle.tokens.specs.Reading.{tokensFrom}
 use Rattle.tokens.specs.declared.Token.{Token}
-use Rattle.names.specs.declared.Word.the-variants as W
 use Rattle.values.specs.declared.Name.{Name}
-use Rattle.statements.specs.Statements.{Reading, Label, StatementWord, Body, LineText, labelled, unlabelled, behind, first}
+use Rattle.statements.specs.Statements.{Reading, Label, Body, LineText, labelled, unlabelled, behind, first}
 use Rattle.statements.specs.Statements as Rule
 use Rattle.statements.specs.Checks.{judged, refusalOf}
 use Rattle.statements.specs.Reading.{labelRead, afterLabel, statementRead, lineRead}

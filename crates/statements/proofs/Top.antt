@@ -1,9 +1,9 @@
 -- What this crate promises, beyond the equation at `read_line`: what that equation's right side means.
 use Prim.Native.Nat.{ℕ, _≤_, _<_}
 use mathlib.Core.Bool.{true, false, cond, _&&_}
-use mathlib.Core.List.{List, [], _∷_}
+use mathlib.Core.List.{List, _∷_}
 use mathlib.Core.Logic.{_↔_, _⊎_}
-use mathlib.Core.Path.{_≡_, refl, sym, subst, _∙_}
+use mathlib.Core.Path.{_≡_, sym, subst, _∙_}
 use lib.IntN.{ℤ, pos}
 use lib.ListN.{length}
 use lib.Signed.{leZ}
@@ -95,8 +95,8 @@ module _ (line : List ℕ) where
 -- ---- "5; 8; 6 or 7 ..; then the statement's result"
 
 -- "5 opcode's operand count, or kind not allowed": whatever the operands' numbers.
-pub operands-first : (op : Opcode) (os : List Written) → fits op os ≡ false → judged (instruction op os) ≡ WrongOperands
-operands-first = Order.operands-wrong
+pub operands-first : (op : Opcode) (os : List Written) → (judged (instruction op os) ≡ WrongOperands) ↔ (fits op os ≡ false)
+operands-first = Order.operands-exactly
 
 -- then each operand's number, 6 where one is out of range
 pub then-numbers : (op : Opcode) (os : List Written) (x y : Kept) → fits op os ≡ true → wordOf (operandAt os 0) ≡ x → wordOf (operandAt os 1) ≡ y
@@ -105,8 +105,8 @@ then-numbers = Order.operand-out
 
 -- ORG, EQU and RES, with the least result of each: "8 too deep" whatever the expression is worth, then its 6 or 7, then the result's range.
 module _ {r : Reading} {least : ℤ} {makes : ℕ → Statement} {e : Tree} (a : Asks r least makes e) where
-  pub depth-first : deepest < depth e → judged r ≡ TooDeep
-  depth-first = Order.deep a
+  pub depth-first : (judged r ≡ TooDeep) ↔ (deepest < depth e)
+  depth-first = Order.deep-exactly a
 
   pub then-worth-6 : depth e ≤ deepest → worthOf e ≡ E.OutOfRange → judged r ≡ OutOfRange
   then-worth-6 = Order.out-of-range a

@@ -16,7 +16,7 @@ use Rattle.tokens.specs.declared.Kind.{Kind}
 use Rattle.tokens.specs.declared.Kind.the-variants as K
 use Rattle.tokens.specs.declared.Token.{Token}
 use Rattle.tokens.proofs.Places.{token-placed}
-use Rattle.values.specs.Values.{IsMark, numeral, NumberText, plain, minus, nameAt, ValueText, number, label}
+use Rattle.values.specs.Values.{plain, minus, nameAt, ValueText, number, label}
 use Rattle.values.specs.Reading.{minusBy, minusAt, valueBy, valueAt}
 use Rattle.values.specs.declared.Value.{Value}
 use Rattle.values.specs.declared.Value.the-variants as V′

@@ -14,7 +14,8 @@ use Rattle.items.proofs.reading.items.Statement.{statement}
 use Rattle.items.proofs.reading.items.Tie as tie
 
 abbrev Inv-loop : tie.InvT-loop
-Inv-loop s at₀ cells₀ fit₀ at cells fit = (cells ≤ at) × (itemsRead s (tokensFrom s at₀) ≡ verdict cells fit (walk s item (tokensFrom s at)))
+Inv-loop s at₀ cells₀ fit₀ at cells fit =
+    (cells ≤ at) × (itemsRead s (tokensFrom s at₀) ≡ verdict cells fit (walk s item (tokensFrom s at)))
 
 abbrev μ-loop : tie.MeasureT-loop
 μ-loop s at₀ cells₀ fit₀ at cells fit = length s - at
@@ -34,16 +35,18 @@ returns : tie.Need-returns Inv-loop μ-loop
 returns c =
     let a = c .before .before .before .before .before .args in
     let l = c .before .before .before .loop in
-    sym (l .inv .1 ∙ turn-absent (a .s .now) (l .at) (l .cells) (l .fit) (sym (c .before .before .item .ensures) ∙ c .enum-told .given .1))
+    let e = sym (c .before .before .item .ensures) ∙ c .enum-told .given .1 in
+    sym (l .inv .1 ∙ turn-absent (a .s .now) (l .at) (l .cells) (l .fit) e)
 
 enum-known-n : tie.Need-enum-known-n Inv-loop μ-loop
 enum-known-n c = search needs
 
 add-cells : tie.Need-add-cells Inv-loop μ-loop
 add-cells c =
-    let a = c .before .before .before .before .before .before .args in
-    let l = c .before .before .before .before .loop in
-    omega (arith, found-item (a .s .now) (l .at) (sym (c .before .before .before .item .ensures) ∙ c .before .n .given .1))
+    let d = c .before in
+    let a = d .before .before .before .before .before .args in
+    let l = d .before .before .before .loop in
+    omega (arith, found-item (a .s .now) (l .at) (sym (d .before .before .item .ensures) ∙ d .n .given .1))
 
 both-requires : tie.Need-both-requires Inv-loop μ-loop
 both-requires c κs = search needs
@@ -59,40 +62,46 @@ reply-requires c κs = search needs
 
 returns-2 : tie.Need-returns-2 Inv-loop μ-loop
 returns-2 c =
-    let a = c .before .before .before .before .before .before .before .before .before .before .before .args in
-    let l = c .before .before .before .before .before .before .before .before .before .loop in
-    let h = found-item (a .s .now) (l .at) (sym (c .before .before .before .before .before .before .before .before .item .ensures) ∙ c .before .before .before .before .before .before .n .given .1) in
-    c .reply .ensures
-    ∙ sym (l .inv .1 ∙ turn-over (a .s .now) (l .at) (l .cells) (l .fit) h (sym (c .before .before .before .follows .ensures) ∙ c .before .enum-told2 .given .1) (c .before .before .before .before .both .ensures))
+    let d = c .before .before .before .before .before .before in
+    let a = d .before .before .before .before .before .args in
+    let l = d .before .before .before .loop in
+    let h = found-item (a .s .now) (l .at) (sym (d .before .before .item .ensures) ∙ d .n .given .1) in
+    let e = sym (c .before .before .before .follows .ensures) ∙ c .before .enum-told2 .given .1 in
+    c .reply .ensures ∙ sym (l .inv .1 ∙ turn-over (a .s .now) (l .at) (l .cells) (l .fit) h e (c .before .before .before .before .both .ensures))
 
 enum-told-3 : tie.Need-enum-told-3 Inv-loop μ-loop
 enum-told-3 c = search needs
 
 returns-3 : tie.Need-returns-3 Inv-loop μ-loop
 returns-3 c =
-    let a = c .before .before .before .before .before .before .before .before .before .before .args in
-    let l = c .before .before .before .before .before .before .before .before .loop in
-    let h = found-item (a .s .now) (l .at) (sym (c .before .before .before .before .before .before .before .item .ensures) ∙ c .before .before .before .before .before .n .given .1) in
-    sym (l .inv .1 ∙ turn-neither (a .s .now) (l .at) (l .cells) (l .fit) h (sym (c .before .before .follows .ensures) ∙ c .enum-told3 .given .1))
+    let d = c .before .before .before .before .before in
+    let a = d .before .before .before .before .before .args in
+    let l = d .before .before .before .loop in
+    let h = found-item (a .s .now) (l .at) (sym (d .before .before .item .ensures) ∙ d .n .given .1) in
+    let e = sym (c .before .before .follows .ensures) ∙ c .enum-told3 .given .1 in
+    sym (l .inv .1 ∙ turn-neither (a .s .now) (l .at) (l .cells) (l .fit) h e)
 
 enum-known-after : tie.Need-enum-known-after Inv-loop μ-loop
 enum-known-after c = search needs
 
 loop-less : tie.Need-loop-less Inv-loop μ-loop
 loop-less c =
-    let a = c .before .before .before .before .before .before .before .before .before .before .before .args in
-    let l = c .before .before .before .before .before .before .before .before .before .loop in
-    let h = found-item (a .s .now) (l .at) (sym (c .before .before .before .before .before .before .before .before .item .ensures) ∙ c .before .before .before .before .before .before .n .given .1) in
-    let k = comma-moves (a .s .now) (c .before .before .before .before .before .before .n .given .0 .1 .1 .0 .at) (sym (c .before .before .before .follows .ensures) ∙ c .before .after .given .1) in
+    let d = c .before .before .before .before .before .before in
+    let a = d .before .before .before .before .before .args in
+    let l = d .before .before .before .loop in
+    let h = found-item (a .s .now) (l .at) (sym (d .before .before .item .ensures) ∙ d .n .given .1) in
+    let e = sym (c .before .before .before .follows .ensures) ∙ c .before .after .given .1 in
+    let k = comma-moves (a .s .now) (d .n .given .0 .1 .1 .0 .at) e in
     omega (arith, h .moved, k)
 
 loop-again : tie.Need-loop-again Inv-loop μ-loop
 loop-again c =
-    let a = c .before .before .before .before .before .before .before .before .before .before .before .args in
-    let l = c .before .before .before .before .before .before .before .before .before .loop in
-    let h = found-item (a .s .now) (l .at) (sym (c .before .before .before .before .before .before .before .before .item .ensures) ∙ c .before .before .before .before .before .before .n .given .1) in
+    let d = c .before .before .before .before .before .before in
+    let a = d .before .before .before .before .before .args in
+    let l = d .before .before .before .loop in
+    let h = found-item (a .s .now) (l .at) (sym (d .before .before .item .ensures) ∙ d .n .given .1) in
     let e = sym (c .before .before .before .follows .ensures) ∙ c .before .after .given .1 in
-    let k = comma-moves (a .s .now) (c .before .before .before .before .before .before .n .given .0 .1 .1 .0 .at) e in
+    let k = comma-moves (a .s .now) (d .n .given .0 .1 .1 .0 .at) e in
     (omega (arith, h .few, k), l .inv .1 ∙ turn-comma (a .s .now) (l .at) (l .cells) (l .fit) h e (c .before .before .before .before .both .ensures))
 
 pub items-spec : {M : Type 1} → statement M

@@ -1,5 +1,5 @@
 -- By what `value` hands back: a number, a label, or a string at most (Measures.antt).
-use mathlib.Core.Path.{_≡_, sym, ap, _∙_}
+use mathlib.Core.Path.{sym, ap, _∙_}
 use Rattle.values.specs.declared.Value.{Value}
 use Rattle.values.specs.declared.ValueRead.the-variants as R
 use Rattle.items.proofs.Measures.{number-measured, label-measured, other-measured}
@@ -30,16 +30,17 @@ string-item-requires c κs = search needs
 
 returns : tie.Need-returns
 returns c =
-    let a = c .before .before .before .before .before .before .before .before .before .args in
-    number-measured (a .s .now) (a .from .at)
-    (sym (c .before .before .before .before .before .before .before .value .ensures) ∙ c .before .before .before .before .before .v .given .1 ∙ ap (λ (x : Value). R.Found x (c .before .before .before .before .before .v .given .0 .1 .0)) (c .before .before .v2 .given .1))
-    (c .is-in-range .ensures)
+    let d = c .before .before .before .before .before in
+    let a = d .before .before .before .before .args in
+    let e = ap (λ (x : Value). R.Found x (d .v .given .0 .1 .0)) (c .before .before .v2 .given .1) in
+    number-measured (a .s .now) (a .from .at) (sym (d .before .before .value .ensures) ∙ d .v .given .1 ∙ e) (c .is-in-range .ensures)
 
 returns-2 : tie.Need-returns-2
 returns-2 c =
-    let a = c .before .before .before .before .before .before .before .args in
-    label-measured (a .s .now) (a .from .at)
-    (sym (c .before .before .before .before .before .value .ensures) ∙ c .before .before .before .v .given .1 ∙ ap (λ (x : Value). R.Found x (c .before .before .before .v .given .0 .1 .0)) (c .enum-told .given .1))
+    let d = c .before .before .before in
+    let a = d .before .before .before .before .args in
+    let e = ap (λ (x : Value). R.Found x (d .v .given .0 .1 .0)) (c .enum-told .given .1) in
+    label-measured (a .s .now) (a .from .at) (sym (d .before .before .value .ensures) ∙ d .v .given .1 ∙ e)
 
 returns-3 : tie.Need-returns-3
 returns-3 c =

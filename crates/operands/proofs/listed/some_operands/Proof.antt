@@ -21,37 +21,44 @@ abbrev μ-loop : tie.MeasureT-loop
 
 returns : tie.Need-returns Inv-loop μ-loop
 returns c =
-    let s = (c .before .before .before .before .before .args .s .now) in
-    sym
-    ((c .before .before .before .loop .inv)
-    ∙ some-wrong s (c .before .before .before .loop .all) (c .before .before .before .loop .at) (subst (λ (r : OperandRead). Goes s operand (c .before .before .before .loop .at) r) (c .enum-told .given .1) (c .before .before .operand .ensures)))
+    let l = c .before .before .before in
+    let s = l .before .before .args .s .now in
+    let g = subst (λ (r : OperandRead). Goes s operand (l .loop .at) r) (c .enum-told .given .1) (c .before .before .operand .ensures) in
+    sym (l .loop .inv ∙ some-wrong s (l .loop .all) (l .loop .at) g)
 
 returns-2 : tie.Need-returns-2 Inv-loop μ-loop
 returns-2 c =
-    let s = (c .before .before .before .before .before .before .before .before .before .before .args .s .now) in
-    let g = subst (λ (r : OperandRead). Goes s operand (c .before .before .before .before .before .before .before .before .loop .at) r) (c .before .before .before .before .before .read .given .1) (c .before .before .before .before .before .before .before .operand .ensures) in
-    ap L.Read (c .before .before .before .with-operand .ensures)
-    ∙ sym ((c .before .before .before .before .before .before .before .before .loop .inv) ∙ some-over s (c .before .before .before .before .before .before .before .before .loop .all) (c .before .before .before .before .before .before .before .before .loop .at) g (sym (c .before .before .between .ensures) ∙ (c .enum-told2 .given .1)))
+    let l = c .before .before .before .before .before .before .before .before in
+    let s = l .before .before .args .s .now in
+    let g = subst (λ (r : OperandRead). Goes s operand (l .loop .at) r) (c .before .before .before .before .before .read .given .1) (c .before .before .before .before .before .before .before .operand .ensures) in
+    let e = sym (c .before .before .between .ensures) ∙ c .enum-told2 .given .1 in
+    ap L.Read (c .before .before .before .with-operand .ensures) ∙ sym (l .loop .inv ∙ some-over s (l .loop .all) (l .loop .at) g e)
 
 returns-3 : tie.Need-returns-3 Inv-loop μ-loop
 returns-3 c =
-    let s = (c .before .before .before .before .before .before .before .before .before .before .args .s .now) in
-    let g = subst (λ (r : OperandRead). Goes s operand (c .before .before .before .before .before .before .before .before .loop .at) r) (c .before .before .before .before .before .read .given .1) (c .before .before .before .before .before .before .before .operand .ensures) in
-    sym ((c .before .before .before .before .before .before .before .before .loop .inv) ∙ some-neither s (c .before .before .before .before .before .before .before .before .loop .all) (c .before .before .before .before .before .before .before .before .loop .at) g (sym (c .before .before .between .ensures) ∙ (c .enum-told3 .given .1)))
+    let l = c .before .before .before .before .before .before .before .before in
+    let s = l .before .before .args .s .now in
+    let g = subst (λ (r : OperandRead). Goes s operand (l .loop .at) r) (c .before .before .before .before .before .read .given .1) (c .before .before .before .before .before .before .before .operand .ensures) in
+    let e = sym (c .before .before .between .ensures) ∙ c .enum-told3 .given .1 in
+    sym (l .loop .inv ∙ some-neither s (l .loop .all) (l .loop .at) g e)
 
 loop-less : tie.Need-loop-less Inv-loop μ-loop
 loop-less c =
-    let s = (c .before .before .before .before .before .before .before .before .before .before .before .args .s .now) in
-    let g = subst (λ (r : OperandRead). Goes s operand (c .before .before .before .before .before .before .before .before .before .loop .at) r) (c .before .before .before .before .before .before .read .given .1) (c .before .before .before .before .before .before .before .before .operand .ensures) in
-    let h = some-comma s (c .before .before .before .before .before .before .before .before .before .loop .all) (c .before .before .before .before .before .before .before .before .before .loop .at) g (c .before .before .before .before .with-operand .ensures) (sym (c .before .before .before .between .ensures) ∙ (c .before .follows .given .1)) in
+    let l = c .before .before .before .before .before .before .before .before .before in
+    let s = l .before .before .args .s .now in
+    let g = subst (λ (r : OperandRead). Goes s operand (l .loop .at) r) (c .before .before .before .before .before .before .read .given .1) (c .before .before .before .before .before .before .before .before .operand .ensures) in
+    let e = sym (c .before .before .before .between .ensures) ∙ c .before .follows .given .1 in
+    let h = some-comma s (l .loop .all) (l .loop .at) g (c .before .before .before .before .with-operand .ensures) e in
     omega (arith, h .1, h .2)
 
 loop-again : tie.Need-loop-again Inv-loop μ-loop
 loop-again c =
-    let s = (c .before .before .before .before .before .before .before .before .before .before .before .args .s .now) in
-    let g = subst (λ (r : OperandRead). Goes s operand (c .before .before .before .before .before .before .before .before .before .loop .at) r) (c .before .before .before .before .before .before .read .given .1) (c .before .before .before .before .before .before .before .before .operand .ensures) in
-    let h = some-comma s (c .before .before .before .before .before .before .before .before .before .loop .all) (c .before .before .before .before .before .before .before .before .before .loop .at) g (c .before .before .before .before .with-operand .ensures) (sym (c .before .before .before .between .ensures) ∙ (c .before .follows .given .1)) in
-    (c .before .before .before .before .before .before .before .before .before .loop .inv) ∙ h .0
+    let l = c .before .before .before .before .before .before .before .before .before in
+    let s = l .before .before .args .s .now in
+    let g = subst (λ (r : OperandRead). Goes s operand (l .loop .at) r) (c .before .before .before .before .before .before .read .given .1) (c .before .before .before .before .before .before .before .before .operand .ensures) in
+    let e = sym (c .before .before .before .between .ensures) ∙ c .before .follows .given .1 in
+    let h = some-comma s (l .loop .all) (l .loop .at) g (c .before .before .before .before .with-operand .ensures) e in
+    l .loop .inv ∙ h .0
 
 pub some-operands-spec : {M : Type 1} → statement M
 some-operands-spec =

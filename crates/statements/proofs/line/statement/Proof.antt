@@ -1,6 +1,6 @@
 -- The first token's kind says what the row begins with; a word of the line is what `statement_word` asks for.
 use borrow.Author.Needs.{needs}
-use mathlib.Core.Path.{refl, _∙_}
+use mathlib.Core.Path.{refl}
 use Rattle.statements.proofs.Labelling.{never}
 use Rattle.statements.proofs.Beginning.{ended, no-word, by-its-word, word-stands}
 use Rattle.statements.proofs.line.statement.Statement.{statement}
@@ -28,8 +28,7 @@ returns-3 : tie.Need-returns-3
 returns-3 c =
     let w = c .before .before .before .before .before in
     let a = w .before .before .args in
-    c .by-word .ensures
-    ∙ by-its-word (a .s .now) (a .from .at) (w .next-token .ensures) (c .before .before .enum-told3 .given .1) (c .before .statement-word .ensures)
+    by-its-word (a .s .now) (a .from .at) (w .next-token .ensures) (c .before .before .enum-told3 .given .1) (c .before .statement-word .ensures) (c .by-word .ensures)
 
 returns-4 : tie.Need-returns-4
 returns-4 c =

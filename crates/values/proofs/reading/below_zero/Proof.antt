@@ -1,5 +1,4 @@
 -- By the kind of the token after the `-`: decimal digits that follow directly, or no number.
-use mathlib.Core.Path.{_≡_, refl, sym, ap, subst, _∙_}
 use Rattle.values.specs.Reading.{minusAt}
 use borrow.Author.Needs.{needs}
 use Rattle.values.proofs.reading.below_zero.Statement.{statement}
@@ -25,7 +24,7 @@ enum-told-4 c = search needs
 
 returns : tie.Need-returns
 unfolding minusAt
-returns c = rw (← c .before .before .before .before .before .before .before .next-token .ensures, c .before .before .before .before .kind .given .1, c .before .enum-told4 .given .1, (c .if1 .taken))
+returns c = rw (← c .before .before .before .before .before .before .before .next-token .ensures, c .before .before .before .before .kind .given .1, c .before .enum-told4 .given .1, c .if1 .taken)
 
 enum-told-5 : tie.Need-enum-told-5
 enum-told-5 c = search needs
@@ -50,7 +49,7 @@ returns-4 c = rw (← c .before .before .before .next-token .ensures, c .enum-to
 
 returns-5 : tie.Need-returns-5
 unfolding minusAt
-returns-5 c = rw (← c .before .before .before .before .before .before .before .next-token .ensures, c .before .before .before .before .kind .given .1, c .before .enum-told4 .given .1, (c .if1 .left))
+returns-5 c = rw (← c .before .before .before .before .before .before .before .next-token .ensures, c .before .before .before .before .kind .given .1, c .before .enum-told4 .given .1, c .if1 .left)
 
 returns-6 : tie.Need-returns-6
 unfolding minusAt

@@ -1,5 +1,4 @@
 -- By the kind of the token at the cursor; after a `-` it is what `below_zero` hands back.
-use mathlib.Core.Path.{_≡_, refl, sym, ap, subst, _∙_}
 use borrow.Author.Tests.{eq-eqb, ne-eqb}
 use Rattle.values.specs.Reading.{valueAt}
 use borrow.Author.Needs.{needs}
