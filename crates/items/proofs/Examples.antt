@@ -1,0 +1,92 @@
+-- Rows of DATA that are easily misread, settled one by one by computing them.
+use Prim.Native.String.{String}
+use mathlib.Core.Bool.{true, false}
+use mathlib.Core.List.{List, [], _∷_, _++_}
+use mathlib.Core.Path.{_≡_, refl}
+use Rattle.numerals.specs.Bytes.{bytes, rank}
+use Rattle.numerals.specs.Digits.{worthAfter}
+use Rattle.numerals.specs.Reading.{run, digitsAt, radixAt, unsignedAt}
+use Rattle.numerals.specs.declared.Radix.the-variants.{Decimal}
+use Rattle.tokens.specs.Bytes.{isBlank, isMark}
+use Rattle.tokens.specs.Reading.{blanks, closing, tokenHere, tokenAt, tokensWithin, tokensFrom}
+use Rattle.values.specs.Values.{numeral}
+use Rattle.items.specs.Items.{Item, number, string, Items, cellsOf, allInRange}
+use Rattle.items.specs.Reading.{characters, item, reads, walk, itemsRead}
+use Rattle.items.specs.declared.ItemsRead.{ItemsRead}
+use Rattle.items.specs.declared.ItemsRead.the-variants.{Cells, WrongForm, OutOfRange}
+use Rattle.items.proofs.Readings.{in-line, sound}
+
+-- what follows the word DATA at a line's start
+abbrev pub ItemsIn : String → List Item → Type 0
+ItemsIn line is = Items (bytes line) (tokensFrom (bytes line) 4) is
+
+abbrev pub dataIn : String → ItemsRead
+dataIn line = itemsRead (bytes line) (tokensFrom (bytes line) 4)
+
+read-in : (line : String) {is : List Item} → walk (bytes line) item (tokensFrom (bytes line) 4) ≡ reads is → ItemsIn line is
+read-in line e = sound (bytes line) (in-line (bytes line) 4) e
+
+-- the marked row
+abbrev pub texto : List Item
+texto = string (bytes "texto" ++ (10 ∷ [])) ∷ number (numeral false Decimal 33) ∷ []
+
+pub record Examples : Type 0 where
+  -- "`\"texto\\n\",33` is eight cells"
+  pub marked-items : ItemsIn "DATA \"texto\\n\",33" texto
+  pub marked-cells : cellsOf texto ≡ bytes "texto" ++ (10 ∷ 0 ∷ 33 ∷ [])
+  pub marked-eight : dataIn "DATA \"texto\\n\",33" ≡ Cells 8
+  -- "DATA \"a\",-1" of the first program takes cells 6, 7 and 8
+  pub minus-one-items : ItemsIn "DATA \"a\",-1" (string (bytes "a") ∷ number (numeral true Decimal 1) ∷ [])
+  pub minus-one-cells : cellsOf (string (bytes "a") ∷ number (numeral true Decimal 1) ∷ []) ≡ 97 ∷ 0 ∷ 65535 ∷ []
+  pub empty-string : dataIn "DATA \"\"" ≡ Cells 1
+  pub comma-in-a-string : dataIn "DATA\"a,b;\" , 0xFFFF ; 1, 2" ≡ Cells 6
+  -- "one or more numbers and strings by commas"
+  pub no-item : dataIn "DATA" ≡ WrongForm
+  pub only-a-comment : dataIn "DATA ; 1" ≡ WrongForm
+  pub trailing-comma : dataIn "DATA 1," ≡ WrongForm
+  pub leading-comma : dataIn "DATA ,1" ≡ WrongForm
+  pub no-comma : dataIn "DATA 1 2" ≡ WrongForm
+  pub difference : dataIn "DATA 5-3" ≡ WrongForm
+  pub label : dataIn "DATA x" ≡ WrongForm
+  pub minus-apart : dataIn "DATA - 5" ≡ WrongForm
+  pub minus-hexadecimal : dataIn "DATA -0x5" ≡ WrongForm
+  pub broken-string : dataIn "DATA 1,\"a" ≡ WrongForm
+  -- "Range -32768..65535"
+  pub highest : dataIn "DATA 65535" ≡ Cells 1
+  pub too-high : dataIn "DATA 65536" ≡ OutOfRange
+  pub lowest : dataIn "DATA -32768" ≡ Cells 1
+  pub too-low : dataIn "DATA -32769" ≡ OutOfRange
+  pub too-high-in-the-midst : dataIn "DATA 1,99999,\"a\"" ≡ OutOfRange
+  -- form 3 comes before range 6
+  pub form-first : dataIn "DATA -32769," ≡ WrongForm
+  pub form-first-of-the-rest : dataIn "DATA 99999,x" ≡ WrongForm
+
+pub examples : Examples
+unfolding itemsRead walk characters cellsOf allInRange tokensFrom tokensWithin tokenAt tokenHere blanks closing isBlank isMark unsignedAt digitsAt radixAt run rank worthAfter
+examples =
+    record {
+      marked-items = read-in "DATA \"texto\\n\",33" refl;
+      marked-cells = refl;
+      marked-eight = refl;
+      minus-one-items = read-in "DATA \"a\",-1" refl;
+      minus-one-cells = refl;
+      empty-string = refl;
+      comma-in-a-string = refl;
+      no-item = refl;
+      only-a-comment = refl;
+      trailing-comma = refl;
+      leading-comma = refl;
+      no-comma = refl;
+      difference = refl;
+      label = refl;
+      minus-apart = refl;
+      minus-hexadecimal = refl;
+      broken-string = refl;
+      highest = refl;
+      too-high = refl;
+      lowest = refl;
+      too-low = refl;
+      too-high-in-the-midst = refl;
+      form-first = refl;
+      form-first-of-the-rest = refl;
+    }

@@ -1,0 +1,9 @@
+-- Laws of the definitions, by topic; Top.antt restates what the crate promises.
+pub mod Counts
+pub mod Measures
+pub mod Walks
+pub mod Readings
+pub mod Bounds
+pub mod Verdicts
+pub mod Examples
+pub mod Top

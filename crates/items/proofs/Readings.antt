@@ -1,0 +1,159 @@
+-- The walk reads what the rule gives and nothing else.
+use Prim.Native.Nat.{ℕ, zero, suc, _+_, _-_, _≤_, _<_}
+use Prim.Native.Char.{code}
+use mathlib.Core.Bool.{Bool, true, false, cond}
+use mathlib.Core.List.{List, [], _∷_, _++_, append-assoc, append-nil}
+use mathlib.Core.Path.{_≡_, refl, sym, ap, subst, _∙_}
+use native.Mathlib.Omega.{arith}
+use lib.Dec.{eqb}
+use lib.ListN.{length, drop}
+use borrow.Author.Tests.{eqb-true}
+use Rattle.numerals.specs.declared.Radix.the-variants.{Decimal, Hexadecimal}
+use Rattle.tokens.specs.Strings.{Characters}
+use Rattle.tokens.specs.Reading.{tokenAt, tokensFrom}
+use Rattle.tokens.specs.declared.Kind.{Kind}
+use Rattle.tokens.specs.declared.Kind.the-variants as K
+use Rattle.tokens.specs.declared.Token.{Token}
+use Rattle.tokens.proofs.Places.{token-placed}
+use Rattle.values.specs.Values.{IsMark, numeral, plain, minus}
+use Rattle.values.proofs.Rows.{row-of, ends-of}
+use Rattle.items.specs.Items.{Item, number, ItemText, is-number, is-string, Items, one, more}
+use Rattle.items.specs.Reading.{characters, State, item, digits, done, Step, to, emit, halt, Result, reads, wrong, only, digitsStep, doneStep, cons, stepped, itemStep, step, walk}
+use Rattle.items.proofs.Counts.{characters-of}
+use Rattle.items.proofs.Measures.{quote-at}
+
+-- ---- the strings of a row stand in its line
+
+-- the characters of a token that is a string
+abbrev Spelt : List ℕ → Token → Type 0
+Spelt line t = t .kind ≡ K.Text → Characters (drop (t .start + 1) line) (characters (drop (t .start + 1) line)) (drop (t .next .at) line)
+
+abbrev pub InLine : List ℕ → List Token → Type 0
+InLine line [] = Unit
+InLine line (t ∷ ts) = Spelt line t × InLine line ts
+
+spelt : (line : List ℕ) (at : ℕ) → Spelt line (tokenAt line at)
+spelt line at e =
+    let t = tokenAt line at in
+    let h = quote-at line at refl e in
+    subst (λ (cs : List ℕ). Characters (drop (t .start + 1) line) cs (drop (t .next .at) line)) (sym (h .same)) (h .reads)
+
+in-line-within : (line : List ℕ) (n at : ℕ) → length line - at < n → InLine line (tokensFrom line at)
+in-line-within line zero at l = absurd (omega arith)
+in-line-within line (suc n) at l = go (tokenAt line at .kind) refl (λ m h k. in-line-within line n m (omega arith))
+  where
+    some : tokensFrom line at ≡ tokenAt line at ∷ tokensFrom line (tokenAt line at .next .at)
+        → (tokenAt line at .start < tokenAt line at .next .at) × (tokenAt line at .next .at ≤ length line)
+        → ((m : ℕ) → at < m → m ≤ length line → InLine line (tokensFrom line m)) → InLine line (tokensFrom line at)
+    some e h f = rw e (spelt line at, f (tokenAt line at .next .at) (omega (arith, token-placed line at .starts)) (h .1))
+
+    go : (k : Kind) → tokenAt line at .kind ≡ k → ((m : ℕ) → at < m → m ≤ length line → InLine line (tokensFrom line m))
+        → InLine line (tokensFrom line at)
+    go K.End q f = rw (row-of line at q) tt
+    go K.Stray q f = rw (row-of line at q) (spelt line at, tt)
+    go K.Word q f = some (row-of line at q) (ends-of line at q) f
+    go (K.Number v k) q f = some (row-of line at q) (ends-of line at q) f
+    go K.Text q f = some (row-of line at q) (ends-of line at q) f
+    go (K.Mark b) q f = some (row-of line at q) (ends-of line at q) f
+
+pub in-line : (line : List ℕ) (at : ℕ) → InLine line (tokensFrom line at)
+in-line line at = in-line-within line (suc (length line - at)) at (omega arith)
+
+module _ (line : List ℕ) where
+  -- ---- what the rule gives is read
+
+  item-complete : {ts : List Token} {i : Item} → ItemText line ts i → (rest : List Token) → walk line item (ts ++ rest) ≡ walk line (done i) rest
+  unfolding walk
+  item-complete (is-number (plain e)) rest = rw e
+  item-complete (is-number (minus m e d)) rest = rw (m, e, d)
+  item-complete (is-string {t} {cs} e r) rest = rw (e, characters-of r)
+
+  comma : (i : Item) (c : Token) (us : List Token) → IsMark (code ",") c → walk line (done i) (c ∷ us) ≡ cons i (walk line item us)
+  unfolding walk
+  comma i c us e = rw e
+
+  pub complete : {ts : List Token} {is : List Item} → Items line ts is → walk line item ts ≡ reads is
+  unfolding walk
+  complete (one {ts} u) = rw (append-nil ts) at (item-complete u [])
+  complete (more {ts} {us} {i} c u e r) = item-complete u (c ∷ us) ∙ comma i c us e ∙ ap (cons i) (complete r)
+
+  pub once : {ts : List Token} {is is′ : List Item} → Items line ts is → Items line ts is′ → is ≡ is′
+  once r q = let e = complete r in let f = complete q in cc
+
+  -- ---- what is read the rule gives
+
+  -- what has been read of an item, by the state: what may follow makes it one
+  abbrev Read : State → List Token → Type 0
+  Read item cur = cur ≡ []
+  Read digits cur = (t : Token) (v : ℕ) → t .kind ≡ K.Number v Decimal → t .directly ≡ true
+      → ItemText line (cur ++ t ∷ []) (number (numeral true Decimal v))
+  Read (done i) cur = ItemText line cur i
+
+  abbrev Stepped : Token → List Token → Step → Type 0
+  Stepped t cur (to st) = Read st (cur ++ t ∷ [])
+  Stepped t cur (emit i) = ItemText line cur i × IsMark (code ",") t
+  Stepped t cur halt = Unit
+
+  only-case : (t : Token) (cur : List Token) (x b : ℕ) (f : Step) → IsMark b t → (IsMark x t → Stepped t cur f) → Stepped t cur (only x f b)
+  only-case t cur x b f e h = go (eqb b x) refl
+    where
+      go : (y : Bool) → eqb b x ≡ y → Stepped t cur (cond y f halt)
+      go true q = h (e ∙ ap K.Mark (eqb-true b x q))
+      go false q = tt
+
+  step-read : (st : State) (t : Token) (cur : List Token) → Spelt line t → Read st cur → Stepped t cur (step line st t)
+  step-read item t cur w h = rw h (go (t .kind) refl)
+    where
+      go : (k : Kind) → t .kind ≡ k → Stepped t [] (itemStep line k t)
+      go K.End q = tt
+      go K.Stray q = tt
+      go K.Word q = tt
+      go (K.Number v k) q = is-number (plain q)
+      go K.Text q = is-string q (w q)
+      go (K.Mark b) q = only-case t [] (code "-") b (to digits) q (λ e u v x d. is-number (minus e x d))
+  step-read digits t cur w h = go (t .kind) (t .directly) refl refl
+    where
+      go : (k : Kind) (d : Bool) → t .kind ≡ k → t .directly ≡ d → Stepped t cur (digitsStep k d)
+      go K.End d q r = tt
+      go K.Stray d q r = tt
+      go K.Word d q r = tt
+      go (K.Number v Decimal) true q r = h t v q r
+      go (K.Number v Decimal) false q r = tt
+      go (K.Number v Hexadecimal) d q r = tt
+      go K.Text d q r = tt
+      go (K.Mark b) d q r = tt
+  step-read (done i) t cur w h = go (t .kind) refl
+    where
+      go : (k : Kind) → t .kind ≡ k → Stepped t cur (doneStep i k)
+      go K.End q = tt
+      go K.Stray q = tt
+      go K.Word q = tt
+      go (K.Number v k) q = tt
+      go K.Text q = tt
+      go (K.Mark b) q = only-case t cur (code ",") b (emit i) q (λ e. (h, e))
+
+  pub never : {is : List Item} → _≡_ {A = Result} wrong (reads is) → ⊥
+  never e = let z : _≡_ {A = ℕ} 0 1 = cc in omega arith
+
+  pub un-cons : (i : Item) (r : Result) (is : List Item) → cons i r ≡ reads is → (us : List Item) × (r ≡ reads us) × (is ≡ i ∷ us)
+  un-cons i (reads us) is e = (us, refl, cc)
+  un-cons i wrong is e = absurd (never e)
+
+  walk-sound : (ts : List Token) (st : State) (cur : List Token) (is : List Item) → InLine line ts → Read st cur → walk line st ts ≡ reads is
+      → Items line (cur ++ ts) is
+  unfolding walk
+  walk-sound [] item cur is w h e = absurd (never e)
+  walk-sound [] digits cur is w h e = absurd (never e)
+  walk-sound [] (done i) cur is w h e = let q : i ∷ [] ≡ is = cc in rw (append-nil cur, ← q) (one h)
+  walk-sound (t ∷ ts) st cur is w h e =
+      go (step line st t) (step-read st t cur (w .0) h) e (λ st′ cur′ is′ h′ e′. walk-sound ts st′ cur′ is′ (w .1) h′ e′)
+    where
+      go : (x : Step) → Stepped t cur x → stepped x (λ next. walk line next ts) ≡ reads is
+          → ((st′ : State) (cur′ : List Token) (is′ : List Item) → Read st′ cur′ → walk line st′ ts ≡ reads is′ → Items line (cur′ ++ ts) is′)
+          → Items line (cur ++ t ∷ ts) is
+      go (to st′) c e f = rw append-assoc at (f st′ (cur ++ t ∷ []) is c e)
+      go (emit i) c e f = let u = un-cons i (walk line item ts) is e in rw (u .2) (more t (c .0) (c .1) (f item [] (u .0) refl (u .1)))
+      go halt c e f = absurd (never e)
+
+  pub sound : {ts : List Token} {is : List Item} → InLine line ts → walk line item ts ≡ reads is → Items line ts is
+  sound {ts} {is} w e = walk-sound ts item [] is w refl e

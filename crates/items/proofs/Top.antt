@@ -1,0 +1,76 @@
+-- What this crate promises, beyond the equations at its functions: what those equations' right sides mean.
+use Prim.Native.Nat.{ℕ, _+_, _≤_}
+use mathlib.Core.Bool.{true, false}
+use mathlib.Core.List.{List}
+use mathlib.Core.Logic.{_↔_}
+use mathlib.Core.Path.{_≡_, sym, _∙_}
+use native.Mathlib.Omega.{arith}
+use lib.ListN.{length}
+use Rattle.tokens.specs.Reading.{tokensFrom}
+use Rattle.tokens.specs.declared.Token.{Token}
+use Rattle.items.specs.Items.{Item, Items, cellsOf, allInRange}
+use Rattle.items.specs.Reading.{item, reads, wrong, walk, itemsRead}
+use Rattle.items.specs.declared.ItemsRead.the-variants.{Cells, WrongForm, OutOfRange}
+use Rattle.items.proofs.Readings as Readings
+use Rattle.items.proofs.Readings.{in-line}
+use Rattle.items.proofs.Bounds as Bounds
+use Rattle.items.proofs.Verdicts as Verdicts
+use Rattle.items.proofs.Examples as Examples
+use Rattle.items.proofs.Examples.{Examples}
+
+-- ---- the walk over a line's tokens from a place on
+
+-- It reads exactly the rule's items.
+pub items-exactly : (line : List ℕ) (at : ℕ) {is : List Item}
+    → (walk line item (tokensFrom line at) ≡ reads is) ↔ Items line (tokensFrom line at) is
+items-exactly line at = (Readings.sound line (in-line line at), Readings.complete line)
+
+-- No row has two readings.
+pub one-reading : (line : List ℕ) {ts : List Token} {is is′ : List Item} → Items line ts is → Items line ts is′ → is ≡ is′
+one-reading line = Readings.once line
+
+-- It is wrong exactly where there is no reading.
+pub no-reading : (line : List ℕ) (at : ℕ)
+    → (walk line item (tokensFrom line at) ≡ wrong) ↔ ((is : List Item) → Items line (tokensFrom line at) is → ⊥)
+no-reading line at = (Verdicts.wrong-none line (tokensFrom line at), Verdicts.none-wrong line (tokensFrom line at) (in-line line at))
+
+-- ---- what `items` hands back
+
+-- So many cells, exactly where there are items, every number of them in range, that take so many cells.
+pub cells-exactly : (line : List ℕ) (at : ℕ) {n : ℕ}
+    → (itemsRead line (tokensFrom line at) ≡ Cells n)
+    ↔ ((is : List Item) × Items line (tokensFrom line at) is × (allInRange is ≡ true) × (n ≡ length (cellsOf is)))
+cells-exactly line at {n} =
+    let ts = tokensFrom line at in
+    (Verdicts.reply-says line ts (in-line line at), Verdicts.says-reply line ts (in-line line at) (Cells n))
+
+-- They are no more than the bytes that are left of the line: a caller can count on.
+pub few-cells : (line : List ℕ) (at : ℕ) {n : ℕ} → itemsRead line (tokensFrom line at) ≡ Cells n → at + n ≤ length line
+few-cells line at e =
+    let h = cells-exactly line at .0 e in
+    omega (arith, h .3, Bounds.few-cells line at (items-exactly line at .1 (h .1)))
+
+-- Refusal 6, exactly where there are items and a number of them is out of range.
+pub range-exactly : (line : List ℕ) (at : ℕ)
+    → (itemsRead line (tokensFrom line at) ≡ OutOfRange)
+    ↔ ((is : List Item) × Items line (tokensFrom line at) is × (allInRange is ≡ false))
+range-exactly line at =
+    let ts = tokensFrom line at in
+    (Verdicts.reply-says line ts (in-line line at), Verdicts.says-reply line ts (in-line line at) OutOfRange)
+
+-- Refusal 3, exactly where there are no items.
+pub form-exactly : (line : List ℕ) (at : ℕ)
+    → (itemsRead line (tokensFrom line at) ≡ WrongForm) ↔ ((is : List Item) → Items line (tokensFrom line at) is → ⊥)
+form-exactly line at =
+    let ts = tokensFrom line at in
+    (Verdicts.reply-says line ts (in-line line at), Verdicts.says-reply line ts (in-line line at) WrongForm)
+
+-- ---- examples, and one reply
+
+-- Rows that are easily misread.
+pub examples : Examples
+examples = Examples.examples
+
+-- Every promise of this crate is an equation with its meaning: two replies that meet it coincide.
+pub coincide : {A : Type 0} {meaning r r′ : A} → r ≡ meaning → r′ ≡ meaning → r ≡ r′
+coincide p q = p ∙ sym q

@@ -1,0 +1,4 @@
+-- DATA's items (01, "Rules of writing"). Items.antt is the rule, Reading.antt the reader as a function, Turns.antt a turn of its loop.
+pub mod Items
+pub mod Reading
+pub mod Turns

@@ -1,0 +1,71 @@
+-- One turn of the reader's loop: the item at a place, and what follows it.
+use Prim.Native.Nat.{ℕ, _+_}
+use Prim.Native.Char.{code}
+use mathlib.Core.Bool.{Bool, cond, _&&_}
+use mathlib.Core.List.{List}
+use lib.Dec.{eqb}
+use lib.ListN.{length, drop}
+use Rattle.numerals.specs.declared.Cursor.{Cursor}
+use Rattle.tokens.specs.Reading.{tokenAt}
+use Rattle.tokens.specs.declared.Kind.{Kind}
+use Rattle.tokens.specs.declared.Kind.the-variants as K
+use Rattle.tokens.specs.declared.Token.{Token}
+use Rattle.values.specs.Reading.{valueAt}
+use Rattle.values.specs.declared.Value.the-variants.{Number, Label}
+use Rattle.values.specs.declared.ValueRead.{ValueRead}
+use Rattle.values.specs.declared.ValueRead.the-variants as R
+use Rattle.items.specs.Items.{Item, number, string, itemCells, itemInRange, cellsOf, allInRange}
+use Rattle.items.specs.Reading.{characters, Result, reads, wrong}
+use Rattle.items.specs.declared.Follows.{Follows}
+use Rattle.items.specs.declared.Follows.the-variants.{Comma, Over, Neither}
+use Rattle.items.specs.declared.ItemRead.{ItemRead}
+use Rattle.items.specs.declared.ItemRead.the-variants.{Found, Absent}
+use Rattle.items.specs.declared.ItemsRead.{ItemsRead}
+use Rattle.items.specs.declared.ItemsRead.the-variants.{Cells, WrongForm, OutOfRange}
+
+-- an item with the cursor after it, or none
+pub data Standing : Type 0 where
+  stands : Item → Cursor → Standing
+  none : Standing
+
+abbrev pub stringBy : List ℕ → Kind → Token → Standing
+stringBy s K.End t = none
+stringBy s K.Stray t = none
+stringBy s K.Word t = none
+stringBy s (K.Number v k) t = none
+stringBy s K.Text t = stands (string (characters (drop (t .start + 1) s))) (t .next)
+stringBy s (K.Mark b) t = none
+
+abbrev pub stringAt : List ℕ → Token → Standing
+stringAt s t = stringBy s (t .kind) t
+
+-- a value that is a number, or a string
+abbrev pub itemBy : List ℕ → ℕ → ValueRead → Standing
+itemBy s at (R.Found (Number n) c) = stands (number n) c
+itemBy s at (R.Found (Label w) c) = none
+itemBy s at R.Absent = stringAt s (tokenAt s at)
+
+unfoldable pub itemAt : List ℕ → ℕ → Standing
+itemAt s at = itemBy s at (valueAt s at)
+
+-- what the code keeps of an item
+abbrev pub measured : Standing → ItemRead
+measured (stands i c) = Found (length (itemCells i)) (itemInRange i) c
+measured none = Absent
+
+-- "by commas"
+abbrev pub followsBy : Kind → Cursor → Follows
+followsBy K.End c = Over
+followsBy K.Stray c = Neither
+followsBy K.Word c = Neither
+followsBy (K.Number v k) c = Neither
+followsBy K.Text c = Neither
+followsBy (K.Mark b) c = cond (eqb b (code ",")) (Comma c) Neither
+
+abbrev pub followsOf : Token → Follows
+followsOf t = followsBy (t .kind) (t .next)
+
+-- the verdict on what is left, with the cells and the ranges of what is read
+abbrev pub verdict : ℕ → Bool → Result → ItemsRead
+verdict n fit (reads is) = cond (fit && allInRange is) (Cells (n + length (cellsOf is))) OutOfRange
+verdict n fit wrong = WrongForm

@@ -1,0 +1,27 @@
+// DATA's items (document 01, "Rules of writing"): numbers and strings by commas, and the cells they take. The meaning is in
+// specs/Items.antt.
+use numerals::Cursor;
+
+pub mod reading; // the items that follow DATA
+pub mod single; // one item, and what follows it
+pub mod strings; // how many characters a string has
+
+// What the tokens after DATA are: so many cells, or refusal 3 or 6.
+pub enum ItemsRead {
+    Cells(usize),
+    WrongForm,
+    OutOfRange,
+}
+
+// An item at a cursor: the cells it takes, whether it is in range, and the cursor after it; or no item.
+pub enum ItemRead {
+    Found(usize, bool, Cursor),
+    Absent,
+}
+
+// What follows an item: a comma, with the cursor after it, the end, or neither.
+pub enum Follows {
+    Comma(Cursor),
+    Over,
+    Neither,
+}

@@ -1,0 +1,6 @@
+-- Laws of the definitions, by topic; Top.antt restates what the crate promises.
+pub mod Packs
+pub mod Places
+pub mod Exactly
+pub mod Examples
+pub mod Top

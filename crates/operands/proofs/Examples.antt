@@ -1,0 +1,98 @@
+-- Lines that are easily misread, settled one by one by computing them.
+use Prim.Native.Nat.{ℕ}
+use Prim.Native.String.{String}
+use mathlib.Core.List.{List, [], _∷_}
+use mathlib.Core.Path.{_≡_, refl}
+use Rattle.numerals.specs.Bytes.{bytes, rank}
+use Rattle.numerals.specs.Digits.{worthAfter}
+use Rattle.numerals.specs.Numbers.{keptOf}
+use Rattle.numerals.specs.Reading.{run, digitsAt, radixAt, unsignedAt}
+use Rattle.isa.specs.Opcodes.{table, countOf}
+use Rattle.isa.specs.Operands.{allows}
+use Rattle.isa.specs.declared.Opcode.{Opcode}
+use Rattle.isa.specs.declared.Opcode.the-variants.{NOP, MOVE, PUSH, INC, BR, BZ, INSTR}
+use Rattle.isa.specs.declared.Operand.{Operand}
+use Rattle.isa.specs.declared.Operand.the-variants.{Absent, Immediate, Memory, Indirect, IndexedX, IndexedSp, Relative}
+use Rattle.names.specs.Names.{capital, isNamed, registers, placeIn, registerCode}
+use Rattle.tokens.specs.Bytes.{isBlank, isMark}
+use Rattle.tokens.specs.Reading.{blanks, closing, tokenHere, tokenAt, tokensWithin, tokensFrom}
+use Rattle.values.specs.Ranges.{displacementOf}
+use Rattle.operands.specs.Walk.{starts, indexStep, walk, operandsOf}
+use Rattle.operands.specs.Checks.{fits, wordOf, labelIn, judged, instructionRead}
+use Rattle.operands.specs.declared.Given.{Given}
+use Rattle.operands.specs.declared.InstructionRead.{InstructionRead}
+use Rattle.operands.specs.declared.InstructionRead.the-variants.{Read, WrongForm, WrongOperands, OutOfRange}
+use Rattle.operands.specs.declared.LabelIn.the-variants as L
+
+-- what a line of operands alone is, after an opcode
+abbrev pub Says : Opcode → String → InstructionRead → Type 0
+Says op text r = instructionRead (bytes text) op (tokensFrom (bytes text) 0) ≡ r
+
+abbrev pub plain : Operand → Given
+plain o = record { operand = o; label = L.Absent }
+
+-- an operand with the label from a place to another
+abbrev pub labelled : Operand → ℕ → ℕ → Given
+labelled o start end = record { operand = o; label = L.Named (record { start = start; end = end }) }
+
+-- each of these lines is of wrong form
+abbrev pub WrongForms : List String → Type 0
+WrongForms [] = Unit {0}
+WrongForms (text ∷ texts) = Says PUSH text WrongForm × WrongForms texts
+
+pub record Examples : Type 0 where
+  -- "blanks may stand between" tokens; "Labels keep case; other words don't"
+  pub blanks-between : Says MOVE "# -5 [ . ix ] , [ . A ]" (Read (plain (IndexedX 65531)) (plain (Indirect 10)))
+  pub nothing : Says NOP " ; no operand" (Read (plain Absent) (plain Absent))
+  -- "`/-30` is 65506"
+  pub memory : Says PUSH "/-30" (Read (plain (Memory 65506)) (plain Absent))
+  -- a register's name without `.` is a label
+  pub label : Says PUSH "#R1" (Read (labelled (Immediate 0) 1 3) (plain Absent))
+  pub label-target : Says BR "$loop" (Read (labelled (Relative 0) 1 5) (plain Absent))
+  -- 3: form
+  pub wrong-forms : WrongForms ("#- 5" ∷ "#5[.R1]" ∷ "#1," ∷ ",#1" ∷ "#1 #2" ∷ ".R10" ∷ "R1" ∷ "[R1]" ∷ "/1[.IX]" ∷ "#5[.IX" ∷ "#-0x5" ∷ "5" ∷ "#\"a\"" ∷ [])
+  pub form-first : Says NOP ".A,.A,.X" WrongForm
+  -- 5: number and kinds; "Testing mode 7 by code lets `INC $3` pass as SP-indexed"
+  pub relative : Says INC "$3" WrongOperands
+  pub indexed : Says BR "#3[.SP]" WrongOperands
+  pub indexed-there : Says INC "#3[.SP]" (Read (plain (IndexedSp 3)) (plain Absent))
+  -- "Its `BZ .R3` is refused: the opcode's own list decides"
+  pub branch : Says BZ ".R3" WrongOperands
+  pub three : Says MOVE ".A,.A,.A" WrongOperands
+  pub none-given : Says PUSH "" WrongOperands
+  pub register-for-a-place : Says INSTR ".A" WrongOperands
+  pub kind-before-range : Says INC "$40000" WrongOperands
+  pub count-before-range : Says INC "/99999,/99999" WrongOperands
+  -- 6: ranges; "A decimal displacement .. lies in -32768..32767; a hex one .. is a bit pattern"
+  pub decimal-displacement : Says BR "$32768" OutOfRange
+  pub hexadecimal-displacement : Says BR "$0x8000" (Read (plain (Relative 32768)) (plain Absent))
+  pub indexed-displacement : Says PUSH "#40000[.IX]" OutOfRange
+  pub second-out-of-range : Says MOVE "#1,/65536" OutOfRange
+  pub immediate : Says PUSH "#40000" (Read (plain (Immediate 40000)) (plain Absent))
+
+pub examples : Examples
+unfolding rank worthAfter keptOf run digitsAt radixAt unsignedAt table countOf allows capital isNamed registers placeIn registerCode isBlank isMark blanks closing tokenHere tokenAt tokensWithin tokensFrom displacementOf starts indexStep walk operandsOf fits wordOf labelIn judged instructionRead
+examples =
+    record {
+      blanks-between = refl;
+      nothing = refl;
+      memory = refl;
+      label = refl;
+      label-target = refl;
+      wrong-forms = (refl, (refl, (refl, (refl, (refl, (refl, (refl, (refl, (refl, (refl, (refl, (refl, (refl, tt)))))))))))));
+      form-first = refl;
+      relative = refl;
+      indexed = refl;
+      indexed-there = refl;
+      branch = refl;
+      three = refl;
+      none-given = refl;
+      register-for-a-place = refl;
+      kind-before-range = refl;
+      count-before-range = refl;
+      decimal-displacement = refl;
+      hexadecimal-displacement = refl;
+      indexed-displacement = refl;
+      second-out-of-range = refl;
+      immediate = refl;
+    }

@@ -1,0 +1,10 @@
+-- Laws of the definitions, by topic; Top.antt restates what the crate promises.
+pub mod Readings
+pub mod Turns
+pub mod Outcomes
+pub mod Lists
+pub mod Judged
+pub mod Exactly
+pub mod Encodes
+pub mod Examples
+pub mod Top

@@ -1,0 +1,74 @@
+-- What this crate promises, beyond the equation at `instruction`: what that equation's right side means.
+use Prim.Native.Nat.{ℕ}
+use mathlib.Core.Bool.{true}
+use mathlib.Core.List.{List}
+use mathlib.Core.Logic.{_↔_}
+use mathlib.Core.Path.{_≡_, sym, _∙_}
+use Rattle.isa.specs.Encoding.{encodeOf, refusalOf}
+use Rattle.isa.specs.declared.Opcode.{Opcode}
+use Rattle.tokens.specs.declared.Token.{Token}
+use Rattle.operands.specs.Operands.{OperandField}
+use Rattle.operands.specs.Walk.{reads, wrong, operandsOf}
+use Rattle.operands.specs.Checks.{fits, instructionRead}
+use Rattle.operands.specs.declared.Given.{Given}
+use Rattle.operands.specs.declared.InstructionRead.the-variants.{Read, WrongForm, WrongOperands, OutOfRange}
+use Rattle.operands.specs.declared.Written.{Written}
+use Rattle.operands.proofs.Readings as Readings
+use Rattle.operands.proofs.Exactly as Exactly
+use Rattle.operands.proofs.Exactly.{Fits, Accepted, Unfit, Unranged}
+use Rattle.operands.proofs.Encodes as Encodes
+use Rattle.operands.proofs.Encodes.{settledInstruction}
+use Rattle.operands.proofs.Examples as Examples
+use Rattle.operands.proofs.Examples.{Examples}
+
+-- ---- form
+
+-- "`#v` immediate, `.reg`, `/v` memory, `[.reg]` indirect, `#v[.IX]`, `#v[.IY]`, `#v[.SP]`, `$v` relative. .. Operands are parted by
+-- commas": the reader finds operands exactly where the rule has them.
+pub reads-exactly : (line : List ℕ) (ts : List Token) {os : List Written} → (operandsOf line ts ≡ reads os) ↔ OperandField line ts os
+reads-exactly = Exactly.reads-exactly
+
+pub wrong-exactly : (line : List ℕ) (ts : List Token) → (operandsOf line ts ≡ wrong) ↔ ((os : List Written) → OperandField line ts os → ⊥)
+wrong-exactly = Exactly.no-reading
+
+-- A row of tokens has one reading at most.
+pub one-reading : (line : List ℕ) {ts : List Token} {os os′ : List Written} → OperandField line ts os → OperandField line ts os′ → os ≡ os′
+one-reading = Readings.once
+
+-- ---- the four answers of `instruction`, which thereby come in the order 3, 5, 6
+
+-- "5 opcode's operand count, or kind not allowed": what it is to fit.
+pub fits-exactly : (op : Opcode) (os : List Written) → (fits op os ≡ true) ↔ Fits op os
+fits-exactly = Exactly.fits-exactly
+
+module _ (line : List ℕ) (ts : List Token) (op : Opcode) where
+  -- An instruction is read exactly where the row has a reading that fits and whose numbers are all in range; the operands handed
+  -- back are that reading's, each with its word and its label.
+  pub read-exactly : {a b : Given} → (instructionRead line op ts ≡ Read a b) ↔ Accepted line ts op a b
+  read-exactly = (Exactly.tells line ts op, Exactly.accepted-back line ts op)
+
+  -- 3: no reading at all, whatever the opcode.
+  pub form-exactly : (instructionRead line op ts ≡ WrongForm) ↔ ((os : List Written) → OperandField line ts os → ⊥)
+  form-exactly = (Exactly.tells line ts op, Exactly.form-back line ts op)
+
+  -- 5: a reading that does not fit, whatever its numbers.
+  pub operands-exactly : (instructionRead line op ts ≡ WrongOperands) ↔ Unfit line ts op
+  operands-exactly = (Exactly.tells line ts op, Exactly.unfit-back line ts op)
+
+  -- 6: a reading that fits, and a number out of its range.
+  pub range-exactly : (instructionRead line op ts ≡ OutOfRange) ↔ Unranged line ts op
+  range-exactly = (Exactly.tells line ts op, Exactly.unranged-back line ts op)
+
+  -- What is read is encoded: with any words in its labels' places, the encoder does not refuse it.
+  pub encodes : {a b : Given} → instructionRead line op ts ≡ Read a b → (v w : ℕ) → refusalOf (encodeOf (settledInstruction op a b v w)) ≡ 0
+  encodes e = Encodes.encodes line ts op (Exactly.tells line ts op e)
+
+-- ---- examples, and one reply
+
+-- Lines that are easily misread.
+pub examples : Examples
+examples = Examples.examples
+
+-- The promise of `instruction` is an equation with its meaning: two replies that meet it coincide.
+pub coincide : {A : Type 0} {meaning r r′ : A} → r ≡ meaning → r′ ≡ meaning → r ≡ r′
+coincide p q = p ∙ sym q

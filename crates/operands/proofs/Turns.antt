@@ -1,0 +1,228 @@
+-- One token of the code is one turn of the walk.
+use Prim.Native.Nat.{ℕ, zero, suc, _-_, _≤_, _<_}
+use Prim.Native.Char.{code}
+use mathlib.Core.Bool.{Bool, true, false, cond}
+use mathlib.Core.List.{List, [], _∷_}
+use mathlib.Core.Path.{_≡_, refl, sym, ap, subst, _∙_}
+use native.Mathlib.Omega.{arith}
+use lib.Dec.{eqb, T}
+use lib.ListN.{length, take, drop}
+use lib.Seq.{slice, take-nil}
+use Rattle.numerals.specs.Bytes.{anyWordByte}
+use Rattle.numerals.specs.Digits.{allBelow}
+use Rattle.numerals.specs.declared.Cursor.{Cursor}
+use Rattle.numerals.specs.declared.Radix.the-variants.{Decimal, Hexadecimal}
+use Rattle.isa.specs.Registers.{isRegister}
+use Rattle.tokens.specs.Reading.{tokenAt, tokensFrom}
+use Rattle.tokens.specs.declared.Kind.{Kind}
+use Rattle.tokens.specs.declared.Kind.the-variants as K
+use Rattle.tokens.specs.declared.Token.{Token}
+use Rattle.tokens.proofs.Meanings.{Means, token-means}
+use Rattle.tokens.proofs.Places.{token-placed}
+use Rattle.values.specs.Values.{numeral, nameAt}
+use Rattle.values.specs.Reading.{minusBy, minusAt, valueBy, valueAt}
+use Rattle.values.specs.declared.Value.the-variants.{Number, Label}
+use Rattle.values.specs.declared.ValueRead.{ValueRead}
+use Rattle.values.specs.declared.ValueRead.the-variants as V′
+use Rattle.values.proofs.Rows.{row-of, ends-of}
+use Rattle.operands.specs.Walk.{Shape, State, value, digits, put, Step, to, halt, Result, wrong, onMark, onWord, valueStep, digitsStep, finish, stepped, codeAt, step, walk}
+use Rattle.operands.specs.Peeks.{markBy, markOf, registerBy, registerOf}
+use Rattle.operands.specs.declared.MarkRead.the-variants as M
+use Rattle.operands.specs.declared.RegisterRead.the-variants as R
+
+-- what the answer for a value says of the walk
+abbrev pub valueOn : List ℕ → Shape → ValueRead → Result
+valueOn s k (V′.Found v c) = walk s (put k v) (tokensFrom s (c .at))
+valueOn s k V′.Absent = wrong
+
+abbrev pub ValueOnward : ℕ → ValueRead → Type 0
+ValueOnward at (V′.Found v c) = at ≤ c .at
+ValueOnward at V′.Absent = Unit
+
+-- a part in the middle, taken from where it begins
+slice-taken : (from end : ℕ) (l : List ℕ) → slice from end l ≡ take (end - from) (drop from l)
+slice-taken zero end l = let e : end - zero ≡ end = omega arith in rw e
+slice-taken (suc from) zero l = let e : zero - suc from ≡ zero = omega arith in rw e
+slice-taken (suc from) (suc end) [] = sym (take-nil (suc end - suc from))
+slice-taken (suc from) (suc end) (x ∷ l) = let e : suc end - suc from ≡ end - from = omega arith in rw e (slice-taken from end l)
+
+module _ (s : List ℕ) (at : ℕ) where
+  -- ---- a token that the walk takes, and one that it does not
+
+  pub taken : (st x : State) (ts : List Token) → tokensFrom s at ≡ tokenAt s at ∷ ts → step s st (tokenAt s at) ≡ to x
+      → walk s st (tokensFrom s at) ≡ walk s x ts
+  unfolding walk
+  taken st x ts e h = rw e (ap (λ (y : Step). stepped y (λ z. walk s z ts)) h)
+
+  pub halted : (st : State) → finish st ≡ wrong → step s st (tokenAt s at) ≡ halt → walk s st (tokensFrom s at) ≡ wrong
+  unfolding walk
+  halted st z h = go (tokenAt s at .kind) refl
+    where
+      one : (ts : List Token) → tokensFrom s at ≡ tokenAt s at ∷ ts → walk s st (tokensFrom s at) ≡ wrong
+      one ts e = rw e (ap (λ (x : Step). stepped x (λ y. walk s y ts)) h)
+
+      go : (k : Kind) → tokenAt s at .kind ≡ k → walk s st (tokensFrom s at) ≡ wrong
+      go K.End q = rw (row-of s at q) z
+      go K.Stray q = one [] (row-of s at q)
+      go K.Word q = one (tokensFrom s (tokenAt s at .next .at)) (row-of s at q)
+      go (K.Number v x) q = one (tokensFrom s (tokenAt s at .next .at)) (row-of s at q)
+      go K.Text q = one (tokensFrom s (tokenAt s at .next .at)) (row-of s at q)
+      go (K.Mark b) q = one (tokensFrom s (tokenAt s at .next .at)) (row-of s at q)
+
+  -- ---- marks
+
+  marked : (k : Kind) (b : ℕ) (c n : Cursor) → markBy k n ≡ M.Is b c → (k ≡ K.Mark b) × (n ≡ c)
+  marked K.End b c n e = let z : _≡_ {A = ℕ} 0 1 = cc in absurd (omega arith)
+  marked K.Stray b c n e = let z : _≡_ {A = ℕ} 0 1 = cc in absurd (omega arith)
+  marked K.Word b c n e = let z : _≡_ {A = ℕ} 0 1 = cc in absurd (omega arith)
+  marked (K.Number v h) b c n e = let z : _≡_ {A = ℕ} 0 1 = cc in absurd (omega arith)
+  marked K.Text b c n e = let z : _≡_ {A = ℕ} 0 1 = cc in absurd (omega arith)
+  marked (K.Mark x) b c n e = let y : x ≡ b = cc in (ap K.Mark y, cc)
+
+  -- a mark: the row is it and the row after it
+  pub mark-row : (b : ℕ) (c : Cursor) → markOf (tokenAt s at) ≡ M.Is b c
+      → (tokensFrom s at ≡ tokenAt s at ∷ tokensFrom s (c .at)) × (tokenAt s at .kind ≡ K.Mark b) × (at < c .at) × (c .at ≤ length s)
+  mark-row b c e =
+      let m = marked (tokenAt s at .kind) b c (tokenAt s at .next) e in
+      let q : tokenAt s at .next .at ≡ c .at = ap (λ (x : Cursor). x .at) (m .1) in
+      let g = ends-of s at (m .0) in
+      let p = token-placed s at .starts in
+      (row-of s at (m .0) ∙ ap (λ (n : ℕ). tokenAt s at ∷ tokensFrom s n) q, m .0, omega arith, omega arith)
+
+  module _ (st : State) (f : ℕ → Step) (p : (u : Token) → step s st u ≡ onMark f (u .kind)) where
+    pub on-mark : (b : ℕ) (c : Cursor) → markOf (tokenAt s at) ≡ M.Is b c
+        → walk s st (tokensFrom s at) ≡ stepped (f b) (λ x. walk s x (tokensFrom s (c .at)))
+    unfolding walk
+    on-mark b c e =
+        let h = mark-row b c e in
+        let q : step s st (tokenAt s at) ≡ f b = p (tokenAt s at) ∙ ap (λ (k : Kind). onMark f k) (h .1) in
+        rw (h .0) (ap (λ (x : Step). stepped x (λ y. walk s y (tokensFrom s (c .at)))) q)
+
+    -- no mark, where only a mark may be
+    pub off-mark : finish st ≡ wrong → markOf (tokenAt s at) ≡ M.Absent → walk s st (tokensFrom s at) ≡ wrong
+    off-mark z e = halted st z (p (tokenAt s at) ∙ go (tokenAt s at .kind) e)
+      where
+        go : (k : Kind) → markBy k (tokenAt s at .next) ≡ M.Absent → onMark f k ≡ halt
+        go K.End e = refl
+        go K.Stray e = refl
+        go K.Word e = refl
+        go (K.Number v h) e = refl
+        go K.Text e = refl
+        go (K.Mark b) e = let z : _≡_ {A = ℕ} 0 1 = cc in absurd (omega arith)
+
+  -- ---- words, and registers' names
+
+  -- a word is what a look-up asks for
+  pub word-there : tokenAt s at .kind ≡ K.Word
+      → (tokenAt s at .start ≤ tokenAt s at .next .at) × (tokenAt s at .next .at ≤ length s)
+      × T (allBelow anyWordByte (slice (tokenAt s at .start) (tokenAt s at .next .at) s))
+  word-there e =
+      let w = subst (λ (k : Kind). Means s k (tokenAt s at .start) (tokenAt s at .next .at)) e (token-means s at) in
+      let g = ends-of s at e in
+      (omega arith, omega arith, rw (slice-taken (tokenAt s at .start) (tokenAt s at .next .at) s) (w .all))
+
+  named-is : (k : Kind) (r x : ℕ) (c n : Cursor) → registerBy r k n ≡ R.Named x c → (k ≡ K.Word) × (r ≡ x) × (n ≡ c) × (isRegister x ≡ true)
+  named-is K.End r x c n e = let z : _≡_ {A = ℕ} 0 1 = cc in absurd (omega arith)
+  named-is K.Stray r x c n e = let z : _≡_ {A = ℕ} 0 1 = cc in absurd (omega arith)
+  named-is K.Word r x c n e = go (isRegister r) refl e
+    where
+      go : (b : Bool) → isRegister r ≡ b → cond b (R.Named r n) R.Absent ≡ R.Named x c
+          → (K.Word ≡ K.Word) × (r ≡ x) × (n ≡ c) × (isRegister x ≡ true)
+      go true q e = let y : r ≡ x = cc in (refl, y, cc, ap isRegister (sym y) ∙ q)
+      go false q e = let z : _≡_ {A = ℕ} 0 1 = cc in absurd (omega arith)
+  named-is (K.Number v h) r x c n e = let z : _≡_ {A = ℕ} 0 1 = cc in absurd (omega arith)
+  named-is K.Text r x c n e = let z : _≡_ {A = ℕ} 0 1 = cc in absurd (omega arith)
+  named-is (K.Mark b) r x c n e = let z : _≡_ {A = ℕ} 0 1 = cc in absurd (omega arith)
+
+  module _ (st : State) (f : ℕ → Step) (p : (u : Token) → step s st u ≡ onWord (f (codeAt s u)) (u .kind)) where
+    pub on-name : (x : ℕ) (c : Cursor) → registerOf s (tokenAt s at) ≡ R.Named x c
+        → (walk s st (tokensFrom s at) ≡ stepped (f x) (λ y. walk s y (tokensFrom s (c .at)))) × (at < c .at) × (isRegister x ≡ true)
+    unfolding walk
+    on-name x c e =
+        let m = named-is (tokenAt s at .kind) (codeAt s (tokenAt s at)) x c (tokenAt s at .next) e in
+        let q : tokenAt s at .next .at ≡ c .at = ap (λ (y : Cursor). y .at) (m .2) in
+        let w : tokensFrom s at ≡ tokenAt s at ∷ tokensFrom s (c .at) = row-of s at (m .0) ∙ ap (λ (n : ℕ). tokenAt s at ∷ tokensFrom s n) q in
+        let g = ends-of s at (m .0) in
+        let l = token-placed s at .starts in
+        let z : step s st (tokenAt s at) ≡ f x = p (tokenAt s at) ∙ ap (λ (k : Kind). onWord (f (codeAt s (tokenAt s at))) k) (m .0) ∙ ap f (m .1) in
+        (rw w (ap (λ (y : Step). stepped y (λ y. walk s y (tokensFrom s (c .at)))) z), omega arith, m .3)
+
+    -- no register's name, where only one may be
+    pub off-name : finish st ≡ wrong → ((r : ℕ) → isRegister r ≡ false → f r ≡ halt) → registerOf s (tokenAt s at) ≡ R.Absent
+        → walk s st (tokensFrom s at) ≡ wrong
+    off-name z w e = halted st z (p (tokenAt s at) ∙ go (tokenAt s at .kind) e)
+      where
+        r : ℕ
+        r = codeAt s (tokenAt s at)
+
+        go : (k : Kind) → registerBy r k (tokenAt s at .next) ≡ R.Absent → onWord (f r) k ≡ halt
+        go K.End e = refl
+        go K.Stray e = refl
+        go K.Word e = word (isRegister r) refl e
+          where
+            word : (b : Bool) → isRegister r ≡ b → cond b (R.Named r (tokenAt s at .next)) R.Absent ≡ R.Absent → f r ≡ halt
+            word true q e = let z : _≡_ {A = ℕ} 0 1 = cc in absurd (omega arith)
+            word false q e = w r q
+        go (K.Number v h) e = refl
+        go K.Text e = refl
+        go (K.Mark b) e = refl
+
+-- ---- values
+
+-- a token that moves the walk on lies no further back
+onward : (s : List ℕ) (at : ℕ) {k : Kind} → tokenAt s at .kind ≡ k → at ≤ tokenAt s at .next .at
+onward s at e = omega (arith, token-placed s at .starts, token-placed s at .moves)
+
+-- the digits after a `-`
+digits-turn : (s : List ℕ) (at : ℕ) (k : Shape)
+    → (walk s (digits k) (tokensFrom s at) ≡ valueOn s k (minusAt s at)) × ValueOnward at (minusAt s at)
+unfolding minusAt
+digits-turn s at k = go (tokenAt s at .kind) (tokenAt s at .directly) refl refl
+  where
+    no : (j : Kind) → tokenAt s at .kind ≡ j → digitsStep k j (tokenAt s at .directly) ≡ halt → walk s (digits k) (tokensFrom s at) ≡ wrong
+    no j q h = halted s at (digits k) refl (ap (λ (x : Kind). digitsStep k x (tokenAt s at .directly)) q ∙ h)
+
+    go : (j : Kind) (d : Bool) → tokenAt s at .kind ≡ j → tokenAt s at .directly ≡ d
+        → (walk s (digits k) (tokensFrom s at) ≡ valueOn s k (minusBy j d (tokenAt s at .next))) × ValueOnward at (minusBy j d (tokenAt s at .next))
+    go K.End d q r = (no K.End q refl, tt)
+    go K.Stray d q r = (no K.Stray q refl, tt)
+    go K.Word d q r = (no K.Word q refl, tt)
+    go (K.Number v Decimal) true q r =
+        (taken s at (digits k) (put k (Number (numeral true Decimal v))) (tokensFrom s (tokenAt s at .next .at)) (row-of s at q) (rw (q, r)), onward s at q)
+    go (K.Number v Decimal) false q r = (no (K.Number v Decimal) q (rw r), tt)
+    go (K.Number v Hexadecimal) d q r = (no (K.Number v Hexadecimal) q refl, tt)
+    go K.Text d q r = (no K.Text q refl, tt)
+    go (K.Mark b) d q r = (no (K.Mark b) q refl, tt)
+
+pub value-turn : (s : List ℕ) (at : ℕ) (k : Shape)
+    → (walk s (value k) (tokensFrom s at) ≡ valueOn s k (valueAt s at)) × ValueOnward at (valueAt s at)
+unfolding valueAt
+value-turn s at k = go (tokenAt s at .kind) refl
+  where
+    no : (j : Kind) → tokenAt s at .kind ≡ j → valueStep k j (tokenAt s at) ≡ halt → walk s (value k) (tokensFrom s at) ≡ wrong
+    no j q h = halted s at (value k) refl (ap (λ (x : Kind). valueStep k x (tokenAt s at)) q ∙ h)
+
+    later : (n : ℕ) (r : ValueRead) → at ≤ n → ValueOnward n r → ValueOnward at r
+    later n (V′.Found v c) h o = omega arith
+    later n V′.Absent h o = tt
+
+    go : (j : Kind) → tokenAt s at .kind ≡ j
+        → (walk s (value k) (tokensFrom s at) ≡ valueOn s k (valueBy s j (tokenAt s at))) × ValueOnward at (valueBy s j (tokenAt s at))
+    go K.End q = (no K.End q refl, tt)
+    go K.Stray q = (no K.Stray q refl, tt)
+    go K.Word q =
+        (taken s at (value k) (put k (Label (nameAt (tokenAt s at)))) (tokensFrom s (tokenAt s at .next .at)) (row-of s at q) (rw q), onward s at q)
+    go (K.Number v x) q =
+        (taken s at (value k) (put k (Number (numeral false x v))) (tokensFrom s (tokenAt s at .next .at)) (row-of s at q) (rw q), onward s at q)
+    go K.Text q = (no K.Text q refl, tt)
+    go (K.Mark b) q = mark (eqb b (code "-")) refl
+      where
+        next : ℕ
+        next = tokenAt s at .next .at
+
+        mark : (y : Bool) → eqb b (code "-") ≡ y
+            → (walk s (value k) (tokensFrom s at) ≡ valueOn s k (cond y (minusAt s next) V′.Absent)) × ValueOnward at (cond y (minusAt s next) V′.Absent)
+        mark true e =
+            let r = digits-turn s next k in
+            (taken s at (value k) (digits k) (tokensFrom s next) (row-of s at q) (rw (q, e)) ∙ r .0, later next (minusAt s next) (onward s at q) (r .1))
+        mark false e = (no (K.Mark b) q (rw e), tt)

@@ -1,0 +1,110 @@
+-- What is judged of an opcode's operands once their form is right (01, "Refusing a source"): "5 opcode's operand count, or kind not
+-- allowed", then "6 number .. out of range".
+use Prim.Native.Nat.{ℕ}
+use mathlib.Core.Bool.{Bool, cond, _&&_}
+use mathlib.Core.List.{List}
+use lib.Dec.{eqb}
+use lib.ListN.{length, getD}
+use Rattle.numerals.specs.Numbers.{keptOf}
+use Rattle.numerals.specs.declared.Kept.{Kept}
+use Rattle.numerals.specs.declared.Kept.the-variants as N
+use Rattle.numerals.specs.declared.Numeral.{Numeral}
+use Rattle.isa.specs.Opcodes.{table, countOf}
+use Rattle.isa.specs.Operands.{allows}
+use Rattle.isa.specs.declared.Opcode.{Opcode}
+use Rattle.isa.specs.declared.Operand.{Operand}
+use Rattle.isa.specs.declared.Operand.the-variants as O
+use Rattle.tokens.specs.declared.Token.{Token}
+use Rattle.values.specs.Ranges.{displacementOf}
+use Rattle.values.specs.declared.Value.{Value}
+use Rattle.values.specs.declared.Value.the-variants.{Number, Label}
+use Rattle.operands.specs.Walk.{Result, reads, wrong, operandsOf}
+use Rattle.operands.specs.declared.Given.{Given}
+use Rattle.operands.specs.declared.LabelIn.{LabelIn}
+use Rattle.operands.specs.declared.LabelIn.the-variants as L
+use Rattle.operands.specs.declared.InstructionRead.{InstructionRead}
+use Rattle.operands.specs.declared.InstructionRead.the-variants.{Read, WrongForm, WrongOperands, OutOfRange}
+use Rattle.operands.specs.declared.Written.{Written}
+use Rattle.operands.specs.declared.Written.the-variants.{Absent, Immediate, Register, Memory, Indirect, IndexedX, IndexedY, IndexedSp, Relative}
+
+-- ---- number and kinds (5)
+
+-- an operand of the kind that is written, with a word
+abbrev pub operandWith : Written → ℕ → Operand
+operandWith Absent w = O.Absent
+operandWith (Immediate v) w = O.Immediate w
+operandWith (Register r) w = O.Register w
+operandWith (Memory v) w = O.Memory w
+operandWith (Indirect r) w = O.Indirect w
+operandWith (IndexedX v) w = O.IndexedX w
+operandWith (IndexedY v) w = O.IndexedY w
+operandWith (IndexedSp v) w = O.IndexedSp w
+operandWith (Relative v) w = O.Relative w
+
+abbrev pub operandAt : List Written → ℕ → Written
+operandAt os i = getD os i Absent
+
+-- as many as the opcode has, each of a kind that the table allows at its place
+unfoldable pub fits : Opcode → List Written → Bool
+fits op os =
+    eqb (length os) (countOf op)
+    && (allows (table op .first) (operandWith (operandAt os 0) 0) && allows (table op .second) (operandWith (operandAt os 1) 0))
+
+-- ---- ranges (6)
+
+-- the cell that keeps a number; a label's value takes the place of the 0 later
+abbrev pub cellOf : (Numeral → Kept) → Value → Kept
+cellOf keeps (Number n) = keeps n
+cellOf keeps (Label name) = N.Cell 0
+
+-- "one word per operand ..: value, displacement or register code"
+unfoldable pub wordOf : Written → Kept
+wordOf Absent = N.Cell 0
+wordOf (Immediate v) = cellOf keptOf v
+wordOf (Register r) = N.Cell r
+wordOf (Memory v) = cellOf keptOf v
+wordOf (Indirect r) = N.Cell r
+wordOf (IndexedX v) = cellOf displacementOf v
+wordOf (IndexedY v) = cellOf displacementOf v
+wordOf (IndexedSp v) = cellOf displacementOf v
+wordOf (Relative v) = cellOf displacementOf v
+
+-- ---- the answer
+
+abbrev pub labelOf : Value → LabelIn
+labelOf (Number n) = L.Absent
+labelOf (Label name) = L.Named name
+
+unfoldable pub labelIn : Written → LabelIn
+labelIn Absent = L.Absent
+labelIn (Immediate v) = labelOf v
+labelIn (Register r) = L.Absent
+labelIn (Memory v) = labelOf v
+labelIn (Indirect r) = L.Absent
+labelIn (IndexedX v) = labelOf v
+labelIn (IndexedY v) = labelOf v
+labelIn (IndexedSp v) = labelOf v
+labelIn (Relative v) = labelOf v
+
+abbrev pub given : Written → ℕ → Given
+given o w = record { operand = operandWith o w; label = labelIn o }
+
+abbrev pub ranged : Written → Kept → Written → Kept → InstructionRead
+ranged a (N.Cell x) b (N.Cell y) = Read (given a x) (given b y)
+ranged a (N.Cell x) b N.OutOfRange = OutOfRange
+ranged a N.OutOfRange b k = OutOfRange
+
+-- 5, then 6
+unfoldable pub judged : Opcode → List Written → InstructionRead
+judged op os =
+    cond (fits op os)
+    (ranged (operandAt os 0) (wordOf (operandAt os 0)) (operandAt os 1) (wordOf (operandAt os 1)))
+    WrongOperands
+
+-- form 3 first
+abbrev pub judgedForm : Opcode → Result → InstructionRead
+judgedForm op (reads os) = judged op os
+judgedForm op wrong = WrongForm
+
+unfoldable pub instructionRead : List ℕ → Opcode → List Token → InstructionRead
+instructionRead line op ts = judgedForm op (operandsOf line ts)

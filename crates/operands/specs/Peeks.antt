@@ -1,0 +1,119 @@
+-- What the code looks at on its way: a mark, a register's name, what stands between operands; what an answer for one operand says of
+-- the walk; and what is kept of a list.
+use Prim.Native.Nat.{ℕ, _≤_}
+use Prim.Native.Char.{code}
+use mathlib.Core.Bool.{Bool, cond, _&&_}
+use mathlib.Core.List.{List, [], _∷_}
+use mathlib.Core.Path.{_≡_}
+use lib.Dec.{eqb}
+use Rattle.numerals.specs.declared.Cursor.{Cursor}
+use Rattle.isa.specs.Opcodes.{table, countOf}
+use Rattle.isa.specs.Operands.{allows}
+use Rattle.isa.specs.Registers.{isRegister}
+use Rattle.isa.specs.declared.Opcode.{Opcode}
+use Rattle.tokens.specs.Reading.{tokensFrom}
+use Rattle.tokens.specs.declared.Kind.{Kind}
+use Rattle.tokens.specs.declared.Kind.the-variants as K
+use Rattle.tokens.specs.declared.Token.{Token}
+use Rattle.operands.specs.Walk.{State, done, Result, reads, wrong, codeAt, walk}
+use Rattle.operands.specs.Checks.{operandWith, wordOf, ranged}
+use Rattle.operands.specs.declared.Between.{Between}
+use Rattle.operands.specs.declared.Between.the-variants as B
+use Rattle.operands.specs.declared.InstructionRead.{InstructionRead}
+use Rattle.operands.specs.declared.InstructionRead.the-variants.{WrongOperands}
+use Rattle.operands.specs.declared.ListRead.{ListRead}
+use Rattle.operands.specs.declared.ListRead.the-variants as L
+use Rattle.operands.specs.declared.FirstTwo.{FirstTwo}
+use Rattle.operands.specs.declared.MarkRead.{MarkRead}
+use Rattle.operands.specs.declared.MarkRead.the-variants as M
+use Rattle.operands.specs.declared.OperandRead.{OperandRead}
+use Rattle.operands.specs.declared.OperandRead.the-variants as O
+use Rattle.operands.specs.declared.RegisterRead.{RegisterRead}
+use Rattle.operands.specs.declared.RegisterRead.the-variants as R
+use Rattle.operands.specs.declared.Written.{Written}
+use Rattle.operands.specs.declared.Written.the-variants.{Absent}
+
+-- ---- one token
+
+abbrev pub markBy : Kind → Cursor → MarkRead
+markBy K.End next = M.Absent
+markBy K.Stray next = M.Absent
+markBy K.Word next = M.Absent
+markBy (K.Number v k) next = M.Absent
+markBy K.Text next = M.Absent
+markBy (K.Mark b) next = M.Is b next
+
+abbrev pub markOf : Token → MarkRead
+markOf t = markBy (t .kind) (t .next)
+
+-- a code that names a register
+abbrev pub named : ℕ → Cursor → RegisterRead
+named r next = cond (isRegister r) (R.Named r next) R.Absent
+
+abbrev pub registerBy : ℕ → Kind → Cursor → RegisterRead
+registerBy r K.End next = R.Absent
+registerBy r K.Stray next = R.Absent
+registerBy r K.Word next = named r next
+registerBy r (K.Number v k) next = R.Absent
+registerBy r K.Text next = R.Absent
+registerBy r (K.Mark b) next = R.Absent
+
+abbrev pub registerOf : List ℕ → Token → RegisterRead
+registerOf line t = registerBy (codeAt line t) (t .kind) (t .next)
+
+abbrev pub betweenBy : Kind → Cursor → Between
+betweenBy K.End next = B.Over
+betweenBy K.Stray next = B.Neither
+betweenBy K.Word next = B.Neither
+betweenBy (K.Number v k) next = B.Neither
+betweenBy K.Text next = B.Neither
+betweenBy (K.Mark b) next = cond (eqb b (code ",")) (B.Comma next) B.Neither
+
+abbrev pub betweenOf : Token → Between
+betweenOf t = betweenBy (t .kind) (t .next)
+
+-- ---- one operand
+
+abbrev pub goesOn : List ℕ → OperandRead → Result
+goesOn line (O.Read o next) = walk line (done o) (tokensFrom line (next .at))
+goesOn line O.Wrong = wrong
+
+-- an answer's cursor lies no further back
+abbrev pub Onward : ℕ → OperandRead → Type 0
+Onward at (O.Read o next) = at ≤ next .at
+Onward at O.Wrong = Unit
+
+-- the walk from a state and a place is the walk from where the answer has come to
+pub record Goes (line : List ℕ) (st : State) (at : ℕ) (r : OperandRead) : Type 0 where
+  pub same : walk line st (tokensFrom line at) ≡ goesOn line r
+  pub on : Onward at r
+
+-- ---- a list
+
+unfoldable pub keep : FirstTwo → Written → FirstTwo
+keep all o =
+    cond (eqb (all .count) 0) (record { count = 1; first = o; second = all .second })
+    (cond (eqb (all .count) 1) (record { count = 2; first = all .first; second = o })
+    (record { count = 3; first = all .first; second = all .second }))
+
+unfoldable pub keepAll : FirstTwo → List Written → FirstTwo
+keepAll all [] = all
+keepAll all (o ∷ os) = keepAll (keep all o) os
+
+abbrev pub noneListed : FirstTwo
+noneListed = record { count = 0; first = Absent; second = Absent }
+
+abbrev pub listed : FirstTwo → Result → ListRead
+listed all (reads os) = L.Read (keepAll all os)
+listed all wrong = L.Wrong
+
+-- ---- what is judged of a list
+
+unfoldable pub fitsListed : Opcode → FirstTwo → Bool
+fitsListed op all =
+    eqb (all .count) (countOf op)
+    && (allows (table op .first) (operandWith (all .first) 0) && allows (table op .second) (operandWith (all .second) 0))
+
+unfoldable pub judgedListed : Opcode → FirstTwo → InstructionRead
+judgedListed op all =
+    cond (fitsListed op all) (ranged (all .first) (wordOf (all .first)) (all .second) (wordOf (all .second))) WrongOperands

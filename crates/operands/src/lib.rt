@@ -1,0 +1,82 @@
+// An opcode's operands (document 01, "Rules of writing"): their form, their number and kinds, and the ranges of their numbers. The
+// meaning is in specs/: Operands.antt and Checks.antt.
+use isa::Operand;
+use numerals::Cursor;
+use values::Name;
+use values::Value;
+
+pub mod instruction; // the operands that follow an opcode
+mod listed; // what is kept of a list of operands
+mod shapes; // one operand
+mod words; // what an operand's word is
+
+// An operand as it is written, each of one kind.
+pub enum Written {
+    Absent,
+    Immediate(Value),
+    Register(u16),
+    Memory(Value),
+    Indirect(u16),
+    IndexedX(Value),
+    IndexedY(Value),
+    IndexedSp(Value),
+    Relative(Value),
+}
+
+// The label that an operand names, if it does.
+pub enum LabelIn {
+    Absent,
+    Named(Name),
+}
+
+// An operand with its word. A label's value takes the place of a word 0 when labels are settled.
+pub struct Given {
+    pub operand: Operand,
+    pub label: LabelIn,
+}
+
+// What the tokens after an opcode are: its operands, or refusal 3, 5 or 6.
+pub enum InstructionRead {
+    Read(Given, Given),
+    WrongForm,
+    WrongOperands,
+    OutOfRange,
+}
+
+// A mark at a cursor, with the cursor after it.
+enum MarkRead {
+    Is(u8, Cursor),
+    Absent,
+}
+
+// A register's name at a cursor: its code, with the cursor after it.
+enum RegisterRead {
+    Named(u16, Cursor),
+    Absent,
+}
+
+// One operand, with the cursor after it.
+enum OperandRead {
+    Read(Written, Cursor),
+    Wrong,
+}
+
+// What stands between operands, or after the last.
+enum Between {
+    Comma(Cursor),
+    Over,
+    Neither,
+}
+
+// The first two of a list of operands, and how many they are, up to 3: no opcode has three.
+struct FirstTwo {
+    count: usize,
+    first: Written,
+    second: Written,
+}
+
+// A list of operands up to the line's end.
+enum ListRead {
+    Read(FirstTwo),
+    Wrong,
+}

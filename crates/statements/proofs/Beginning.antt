@@ -1,0 +1,143 @@
+-- What a row begins with, by the tokens that `next_token` hands back; laws that the code's proofs cite.
+use Prim.Native.Nat.{ℕ, _≤_}
+use mathlib.Core.Bool.{true, false, _&&_}
+use mathlib.Core.List.{List, [], _∷_}
+use mathlib.Core.Path.{_≡_, refl, sym, ap, subst, _∙_}
+use lib.Dec.{T}
+use lib.ListN.{length}
+use lib.Seq.{slice}
+use Rattle.numerals.specs.Bytes.{anyWordByte}
+use Rattle.numerals.specs.Digits.{allBelow}
+use Rattle.tokens.specs.Reading.{tokenAt, afterKind, tokensFrom}
+use Rattle.tokens.specs.declared.Kind.{Kind}
+use Rattle.tokens.specs.declared.Kind.the-variants as K
+use Rattle.tokens.specs.declared.Token.{Token}
+use Rattle.names.specs.Names.{wordOf}
+use Rattle.names.specs.declared.Word.{Word}
+use Rattle.values.proofs.Rows.{row-of}
+use Rattle.operands.specs.Operands.{wordAt}
+use Rattle.operands.proofs.Turns.{word-there}
+use Rattle.statements.specs.Reading.{isWord, isColon, labelled, labelRead, afterLabel, byWord, statementRead}
+use Rattle.statements.specs.Parts.{nowhere, LabelDone}
+use Rattle.statements.specs.declared.Labelled.{Labelled}
+use Rattle.statements.specs.declared.LineLabel.the-variants.{Named}
+use Rattle.statements.specs.declared.Statement.{Statement}
+use Rattle.statements.specs.declared.Statement.the-variants.{Nothing, WrongForm}
+use Rattle.statements.proofs.Labelling.{never, word-kind, colon-kind}
+
+-- ---- the statement's word
+
+-- what the code says by the word that it found
+pub said-by : (line : List ℕ) (w : Token) {x y : Word} {st : Statement} → st ≡ byWord line y w (tokensFrom line (w .next .at)) → x ≡ y
+    → st ≡ byWord line x w (tokensFrom line (w .next .at))
+said-by line w e f = e ∙ sym (ap (λ (z : Word). byWord line z w (tokensFrom line (w .next .at))) f)
+
+module _ (line : List ℕ) (at : ℕ) {w : Token} (t : w ≡ tokenAt line at) where
+  kind-at : {k : Kind} → w .kind ≡ k → tokenAt line at .kind ≡ k
+  kind-at e = ap (λ (v : Token). v .kind) (sym t) ∙ e
+
+  pub ended : w .kind ≡ K.End → Nothing ≡ statementRead line (tokensFrom line at)
+  unfolding statementRead
+  ended e = sym (ap (statementRead line) (row-of line at (kind-at e)))
+
+  -- a row of no word first
+  no-word-read : (ts : List Token) → isWord (tokenAt line at .kind) ≡ false → statementRead line (tokenAt line at ∷ ts) ≡ WrongForm
+  unfolding statementRead
+  no-word-read ts f = rw f
+
+  pub no-word : (k : Kind) → w .kind ≡ k → isWord k ≡ false → (k ≡ K.End → ⊥) → WrongForm ≡ statementRead line (tokensFrom line at)
+  no-word k e f n = sym (ap (statementRead line) (row-of line at (kind-at e)) ∙ go k (kind-at e) f n)
+    where
+      go : (j : Kind) → tokenAt line at .kind ≡ j → isWord j ≡ false → (j ≡ K.End → ⊥)
+          → statementRead line (afterKind j (tokenAt line at) (tokensFrom line)) ≡ WrongForm
+      go K.End e f n = absurd (n refl)
+      go K.Stray e f n = no-word-read [] (ap isWord e ∙ f)
+      go K.Word e f n = never (cc)
+      go (K.Number v r) e f n = no-word-read (tokensFrom line (tokenAt line at .next .at)) (ap isWord e ∙ f)
+      go K.Text e f n = no-word-read (tokensFrom line (tokenAt line at .next .at)) (ap isWord e ∙ f)
+      go (K.Mark b) e f n = no-word-read (tokensFrom line (tokenAt line at .next .at)) (ap isWord e ∙ f)
+
+  pub by-its-word : {x : Word} {st : Statement} → w .kind ≡ K.Word → x ≡ wordOf (wordAt line w) → st ≡ byWord line x w (tokensFrom line (w .next .at))
+      → st ≡ statementRead line (tokensFrom line at)
+  unfolding statementRead
+  by-its-word {x} e f g = g ∙ sym (ap (statementRead line) row ∙ rw (e, f))
+    where
+      row : tokensFrom line at ≡ w ∷ tokensFrom line (w .next .at)
+      row = row-of line at (kind-at e) ∙ ap (λ (v : Token). v ∷ tokensFrom line (v .next .at)) (sym t)
+
+  -- what `statement_word` asks for
+  pub word-stands : w .kind ≡ K.Word
+      → (w .start ≤ w .next .at) × (w .next .at ≤ length line) × T (allBelow anyWordByte (slice (w .start) (w .next .at) line))
+  word-stands e =
+      subst
+      (λ (v : Token). (v .start ≤ v .next .at) × (v .next .at ≤ length line) × T (allBelow anyWordByte (slice (v .start) (v .next .at) line)))
+      (sym t)
+      (word-there line at (kind-at e))
+
+-- ---- the label
+
+module _ (line : List ℕ) where
+  unlabelled-done : labelled (tokensFrom line 0) ≡ false → {r : Labelled} → r ≡ nowhere → LabelDone line r
+  unfolding labelRead afterLabel
+  unlabelled-done f e = rw e (record { named = rw f; behind = rw f })
+
+  not-labelled : (w : Token) (ts : List Token) → isWord (w .kind) ≡ false → labelled (w ∷ ts) ≡ false
+  not-labelled w [] f = refl
+  not-labelled w (c ∷ ts) f = rw f
+
+  module _ {w : Token} (t : w ≡ tokenAt line 0) where
+    -- the first token is no word
+    pub no-label-word : isWord (w .kind) ≡ false → {r : Labelled} → r ≡ nowhere → LabelDone line r
+    no-label-word f e = unlabelled-done (go (tokenAt line 0 .kind) refl) e
+      where
+        g : isWord (tokenAt line 0 .kind) ≡ false
+        g = ap (λ (v : Token). isWord (v .kind)) (sym t) ∙ f
+
+        rest : List Token
+        rest = tokensFrom line (tokenAt line 0 .next .at)
+
+        go : (k : Kind) → tokenAt line 0 .kind ≡ k → labelled (tokensFrom line 0) ≡ false
+        go K.End e = ap labelled (row-of line 0 e)
+        go K.Stray e = ap labelled (row-of line 0 e)
+        go K.Word e = never (cc)
+        go (K.Number v r) e = ap labelled (row-of line 0 e) ∙ not-labelled (tokenAt line 0) rest g
+        go K.Text e = ap labelled (row-of line 0 e) ∙ not-labelled (tokenAt line 0) rest g
+        go (K.Mark b) e = ap labelled (row-of line 0 e) ∙ not-labelled (tokenAt line 0) rest g
+
+    module _ (f : isWord (w .kind) ≡ true) {c : Token} (u : c ≡ tokenAt line (w .next .at)) where
+      row-word : tokensFrom line 0 ≡ w ∷ tokensFrom line (w .next .at)
+      row-word =
+          row-of line 0 (ap (λ (v : Token). v .kind) (sym t) ∙ word-kind (w .kind) f)
+          ∙ ap (λ (v : Token). v ∷ tokensFrom line (v .next .at)) (sym t)
+
+      row-two : {k : Kind} → c .kind ≡ k → tokensFrom line 0 ≡ w ∷ afterKind k c (tokensFrom line)
+      row-two {k} e =
+          row-word
+          ∙ ap (λ (ts : List Token). w ∷ ts)
+          (row-of line (w .next .at) (ap (λ (v : Token). v .kind) (sym u) ∙ e) ∙ ap (λ (v : Token). afterKind k v (tokensFrom line)) (sym u))
+
+      labelled-by : labelled (tokensFrom line 0) ≡ (isColon (c .kind) && c .directly)
+      labelled-by = go (c .kind) refl
+        where
+          go : (k : Kind) → c .kind ≡ k → labelled (tokensFrom line 0) ≡ (isColon (c .kind) && c .directly)
+          go K.End e = ap labelled (row-two e) ∙ rw e
+          go K.Stray e = ap labelled (row-two e) ∙ rw f
+          go K.Word e = ap labelled (row-two e) ∙ rw f
+          go (K.Number v r) e = ap labelled (row-two e) ∙ rw f
+          go K.Text e = ap labelled (row-two e) ∙ rw f
+          go (K.Mark b) e = ap labelled (row-two e) ∙ rw f
+
+      -- no `:` follows it, or none directly
+      pub no-colon : isColon (c .kind) ≡ false → {r : Labelled} → r ≡ nowhere → LabelDone line r
+      no-colon g e = unlabelled-done (labelled-by ∙ rw g) e
+
+      pub parted : isColon (c .kind) ≡ true → c .directly ≡ false → {r : Labelled} → r ≡ nowhere → LabelDone line r
+      parted g d e = unlabelled-done (labelled-by ∙ rw (g, d)) e
+
+      pub is-label : isColon (c .kind) ≡ true → c .directly ≡ true
+          → LabelDone line (record { label = Named (record { start = w .start; end = w .next .at }); next = c .next })
+      unfolding labelRead afterLabel
+      is-label g d =
+          let two = row-two (colon-kind (c .kind) g) in
+          let h : labelled (tokensFrom line 0) ≡ true = labelled-by ∙ rw (g, d) in
+          record { named = rw (h, two); behind = rw (h, two) }

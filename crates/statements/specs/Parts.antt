@@ -1,0 +1,49 @@
+-- What the parts of `read_line` promise one another. These promises are inner ones; `read_line` has the natural one.
+use Prim.Native.Nat.{ℕ}
+use mathlib.Core.Bool.{cond, _&&_}
+use mathlib.Core.List.{List}
+use mathlib.Core.Path.{_≡_}
+use lib.IntN.{ℤ, pos}
+use lib.Signed.{leZ}
+use mir.Syntax.{w16}
+use mir.Val.{ofZ}
+use Rattle.tokens.specs.Reading.{tokensFrom}
+use Rattle.expressions.specs.declared.ExpressionRead.{ExpressionRead}
+use Rattle.expressions.specs.declared.ExpressionRead.the-variants as E
+use Rattle.expressions.specs.declared.Worth.{Worth}
+use Rattle.expressions.specs.declared.Worth.the-variants as W
+use Rattle.statements.specs.Reading.{labelRead, afterLabel}
+use Rattle.statements.specs.declared.Labelled.{Labelled}
+use Rattle.statements.specs.declared.LineLabel.the-variants.{Absent}
+use Rattle.statements.specs.declared.Outcome.{Outcome}
+use Rattle.statements.specs.declared.Outcome.the-variants.{Value, Fails}
+use Rattle.statements.specs.declared.Statement.{Statement}
+use Rattle.statements.specs.declared.Statement.the-variants.{WrongForm, TooDeep, OutOfRange, ByZero}
+
+-- no label: the statement begins where the line does
+abbrev pub nowhere : Labelled
+nowhere = record { label = Absent; next = record { at = 0 } }
+
+-- the label, and a cursor from which on the tokens after it stand
+pub record LabelDone (line : List ℕ) (r : Labelled) : Type 0 where
+  pub named : r .label ≡ labelRead (tokensFrom line 0)
+  pub behind : tokensFrom line (r .next .at) ≡ afterLabel (tokensFrom line 0)
+
+-- a result from the least one up to 65535
+unfoldable pub cellIn : ℤ → ℤ → Outcome
+cellIn least z = cond (leZ least z && leZ z (pos 65535)) (Value (ofZ w16 z)) (Fails OutOfRange)
+
+abbrev pub worthOutcome : ℤ → Worth → Outcome
+worthOutcome least (W.Is z) = cellIn least z
+worthOutcome least W.OutOfRange = Fails OutOfRange
+worthOutcome least W.ByZero = Fails ByZero
+
+abbrev pub outcomeOf : ℤ → ExpressionRead → Outcome
+outcomeOf least (E.Read w) = worthOutcome least w
+outcomeOf least E.TooDeep = Fails TooDeep
+outcomeOf least E.WrongForm = Fails WrongForm
+
+-- what a statement makes of its outcome
+abbrev pub said : (ℕ → Statement) → Outcome → Statement
+said makes (Value v) = makes v
+said makes (Fails why) = why

@@ -1,0 +1,62 @@
+-- Lines over tokens, without a reader: label, statement's word, and what follows it (01, "Rules of writing").
+use Prim.Native.Nat.{ℕ}
+use Prim.Native.Char.{code}
+use mathlib.Core.Bool.{true}
+use mathlib.Core.List.{List, [], _∷_}
+use mathlib.Core.Path.{_≡_}
+use Rattle.numerals.specs.declared.Cursor.{Cursor}
+use Rattle.isa.specs.declared.Opcode.{Opcode}
+use Rattle.tokens.specs.declared.Kind.the-variants as K
+use Rattle.tokens.specs.declared.Token.{Token}
+use Rattle.names.specs.Names.{wordOf}
+use Rattle.names.specs.declared.Word.{Word}
+use Rattle.names.specs.declared.Word.the-variants as W
+use Rattle.values.specs.Values.{IsMark, nameAt}
+use Rattle.values.specs.declared.Name.{Name}
+use Rattle.expressions.specs.Trees.{Tree, Expression}
+use Rattle.operands.specs.Operands.{wordAt, OperandField}
+use Rattle.operands.specs.declared.Written.{Written}
+use Rattle.items.specs.Items.{Item, Items}
+use Rattle.statements.specs.declared.LineLabel.{LineLabel}
+use Rattle.statements.specs.declared.LineLabel.the-variants.{Absent, Named}
+
+-- what a statement says
+pub data Reading : Type 0 where
+  nothing : Reading
+  instruction : Opcode → List Written → Reading
+  org equ res : Tree → Reading
+  cells : Cursor → List Item → Reading
+  end : Reading
+
+-- "A line's first token, if a word directly followed by `:`, is its label (one per line)": the tokens, the label, and those after it
+pub data Label : List Token → Name → List Token → Type 0 where
+  label : {w c : Token} {ts : List Token} → w .kind ≡ K.Word → IsMark (code ":") c → c .directly ≡ true → Label (w ∷ c ∷ ts) (nameAt w) ts
+
+module _ (line : List ℕ) where
+  -- "The statement's word is the first token after any label"
+  pub record StatementWord (t : Token) (w : Word) : Type 0 where
+    pub word : t .kind ≡ K.Word
+    pub means : wordOf (wordAt line t) ≡ w
+
+  -- the tokens after any label
+  pub data Body : List Token → Reading → Type 0 where
+    empty : Body [] nothing
+    opcode : {w : Token} {ts : List Token} {op : Opcode} {os : List Written} → StatementWord w (W.Instructs op) → OperandField line ts os
+        → Body (w ∷ ts) (instruction op os)
+    origin : {w : Token} {ts : List Token} {e : Tree} → StatementWord w W.Org → Expression ts e → Body (w ∷ ts) (org e)
+    equals : {w : Token} {ts : List Token} {e : Tree} → StatementWord w W.Equ → Expression ts e → Body (w ∷ ts) (equ e)
+    reserve : {w : Token} {ts : List Token} {e : Tree} → StatementWord w W.Res → Expression ts e → Body (w ∷ ts) (res e)
+    items : {w : Token} {ts : List Token} {is : List Item} → StatementWord w W.Data → Items line ts is → Body (w ∷ ts) (cells (w .next) is)
+    -- "All bytes after END as a statement's word are ignored"
+    ends : {w : Token} {ts : List Token} → StatementWord w W.End → Body (w ∷ ts) end
+
+  -- a line's tokens, its label and what it says
+  pub data LineText : List Token → LineLabel → Reading → Type 0 where
+    labelled : {ts us : List Token} {n : Name} {r : Reading} → Label ts n us → Body us r → LineText ts (Named n) r
+    unlabelled : {ts : List Token} {r : Reading} → ((n : Name) (us : List Token) → Label ts n us → ⊥) → Body ts r → LineText ts Absent r
+
+  -- "4 statement's word unknown": the first token after any label is a word, and none that statements have
+  pub data UnknownWord : List Token → Type 0 where
+    behind : {ts us : List Token} {n : Name} {w : Token} → Label ts n (w ∷ us) → StatementWord w W.Unknown → UnknownWord ts
+    first : {us : List Token} {w : Token} → ((n : Name) (vs : List Token) → Label (w ∷ us) n vs → ⊥) → StatementWord w W.Unknown
+        → UnknownWord (w ∷ us)

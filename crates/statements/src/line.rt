@@ -1,0 +1,64 @@
+// A line's reading (specs/Reading.antt).
+ghost use mathlib.Core.Path.{_≡_};
+ghost use Rattle.tokens.specs.Reading.{tokensFrom};
+ghost use Rattle.statements.specs.Reading.{byWord, statementRead, lineRead};
+use super::LineRead;
+use super::Statement;
+use super::labels::label;
+use super::results::cells;
+use super::results::equ;
+use super::results::instructs;
+use super::results::org;
+use super::results::res;
+use names::Word;
+use names::lookup::statement_word;
+use numerals::Cursor;
+use tokens::Kind;
+use tokens::Token;
+use tokens::tokens::next_token;
+
+// What a statement says, by what its word is; what follows END is not looked at.
+fn by_word(s: &[u8], word: Word, w: Token) -> Statement
+    ensures { λ r. ⌜ r ≡ byWord (now (s .entry)) word w (tokensFrom (now (s .entry)) (w .next .at)) ⌝ }
+{
+    let from = w.next;
+    match word {
+        Word::Instructs(op) => instructs(s, op, from),
+        Word::Org => org(s, from),
+        Word::Equ => equ(s, from),
+        Word::Res => res(s, from),
+        Word::Data => cells(s, from),
+        Word::End => Statement::End,
+        Word::Unknown => Statement::UnknownWord,
+    }
+}
+
+// The statement from a cursor on: its word is the first token there.
+fn statement(s: &[u8], from: Cursor) -> Statement
+    ensures { λ r. ⌜ r ≡ statementRead (now (s .entry)) (tokensFrom (now (s .entry)) (from .at)) ⌝ }
+{
+    let w = next_token(s, from);
+    let kind = w.kind;
+    let start = w.start;
+    let next = w.next;
+    match kind {
+        Kind::End => Statement::Nothing,
+        Kind::Stray => Statement::WrongForm,
+        Kind::Word => by_word(s, statement_word(s, start, next.at), w),
+        Kind::Number(_, _) => Statement::WrongForm,
+        Kind::Text => Statement::WrongForm,
+        Kind::Mark(_) => Statement::WrongForm,
+    }
+}
+
+pub fn read_line(line: &[u8]) -> LineRead
+    ensures { λ r. ⌜ r ≡ lineRead (now (line .entry)) ⌝ }
+{
+    let found = label(line);
+    let named = found.label;
+    let next = found.next;
+    LineRead {
+        label: named,
+        statement: statement(line, next),
+    }
+}
