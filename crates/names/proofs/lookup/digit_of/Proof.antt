@@ -1,5 +1,4 @@
 -- The tests are the two of the definition. Assumes nothing.
-use mathlib.Core.Path.{_∙_}
 use borrow.Author.Tests.{le-leb, lt-leb}
 use borrow.Author.Needs.{needs}
 use Rattle.names.specs.Packing.{digit}
