@@ -1,23 +1,21 @@
--- A word is a name exactly where their numbers are the same: packing is one to one on bytes from 1 to 255.
+-- A word is a name exactly where their numbers are the same: packing is one to one on digits from 1 to 255, and a byte is a name's
+-- where its digit is.
 use Prim.Native.Nat.{ℕ, zero, suc, _+_, _*_, _-_, _≤_, _<_}
 use mathlib.Core.Bool.{Bool, true, false, cond, _&&_}
 use mathlib.Core.List.{List, [], _∷_, map}
 use mathlib.Core.Path.{_≡_, refl, sym, ap, _∙_}
 use Prim.Native.String.{String}
-use native.Mathlib.Decide.{decLt}
 use native.Mathlib.Numerals.{add-one}
 use native.Mathlib.Omega.{arith}
-use lib.Dec.{ltb, eqb, T, ltb→lt, lt→ltb}
+use lib.Dec.{leb, ltb, eqb, T, ltb→lt}
 use lib.Ieee.Fits.{and-l, and-r}
-use lib.ListN.{length, getD, drop, length-map, drop-of-length-le}
-use lib.Seq.{drop-cons, slice, slice-cons}
-use borrow.Author.Tests.{eq-eqb, ne-eqb, eqb-true, eqb-false}
-use Rattle.isa.proofs.Tests.{and-false}
-use Rattle.numerals.specs.Bytes.{bytes, between, rank}
-use Rattle.numerals.specs.Digits.{allBelow}
-use Rattle.numerals.proofs.Ranks.{rank-low, rank-high}
+use lib.ListN.{length, getD, take, drop, length-map, drop-of-length-le}
+use lib.Seq.{drop-cons, slice, slice-cons, length-slice, length-take-le, take-all, take-length}
+use borrow.Author.Tests.{lt-ltb, le-ltb, ltb-true, leb-true, leb-false, lt-leb, eq-eqb, ne-eqb, eqb-true, eqb-false}
+use Rattle.isa.proofs.Tests.{and-false, both-true}
+use Rattle.numerals.specs.Bytes.{bytes, between}
 use Rattle.names.specs.Names.{capital, same, isNamed, placeIn}
-use Rattle.names.specs.Packing.{pack, placeOf}
+use Rattle.names.specs.Packing.{pack, digit, numberOf, placeOf}
 
 -- ---- a search
 
@@ -48,14 +46,31 @@ place-most n ms e = omega (arith, place-within n ms)
 
 -- ---- the number of a word
 
+-- no more bytes count than there are
+pub number-within : (s : List ℕ) (i e : ℕ) → length s ≤ e → numberOf (slice i (length s) s) ≡ numberOf (slice i e s)
+number-within s i e h = ap (λ (w : List ℕ). numberOf (drop i w)) (take-length s ∙ sym (take-all e s h))
+
+-- none at all, where the end comes first
+pub number-none : (s : List ℕ) (i e : ℕ) → e < i → e ≤ length s → numberOf (slice i e s) ≡ 0
+unfolding numberOf pack
+number-none s i e h l = rw (drop-of-length-le (take e s) {i = i} (omega (arith, length-take-le e s l)))
+
+pub number-long : (s : List ℕ) (i e : ℕ) → 6 < e - i → e ≤ length s → numberOf (slice i e s) ≡ 0
+unfolding numberOf
+number-long s i e h l = rw (lt-ltb 6 (length (slice i e s)) (omega (arith, length-slice i e s l)))
+
+pub number-short : (s : List ℕ) (i e : ℕ) → e - i ≤ 6 → e ≤ length s → numberOf (slice i e s) ≡ pack (map digit (slice i e s))
+unfolding numberOf
+number-short s i e h l = rw (le-ltb 6 (length (slice i e s)) (omega (arith, length-slice i e s l)))
+
 -- one more byte in front
 pub pack-step : (s : List ℕ) (i e : ℕ) → 0 < i → i ≤ e → e ≤ length s
-    → pack (map capital (slice (i - 1) e s)) ≡ pack (map capital (slice i e s)) * 256 + capital (getD s (i - 1) 0)
+    → pack (map digit (slice (i - 1) e s)) ≡ pack (map digit (slice i e s)) * 256 + digit (getD s (i - 1) 0)
 unfolding pack
 pack-step s i e h k l =
     let q : suc (i - 1) ≡ i = omega arith in
-    ap (λ (w : List ℕ). pack (map capital w)) (slice-cons (i - 1) e s 0 (omega arith) l)
-    ∙ ap (λ (n : ℕ). pack (map capital (slice n e s)) * 256 + capital (getD s (i - 1) 0)) q
+    ap (λ (w : List ℕ). pack (map digit w)) (slice-cons (i - 1) e s 0 (omega arith) l)
+    ∙ ap (λ (n : ℕ). pack (map digit (slice n e s)) * 256 + digit (getD s (i - 1) 0)) q
 
 -- what n bytes pack to is below this
 abbrev pub room : ℕ → ℕ
@@ -75,109 +90,117 @@ room-six n h = room-grows n 6 h
 pub room-step : (v d i e : ℕ) → 0 < i → i ≤ e → v < room (e - i) → d < 256 → v * 256 + d < room (e - (i - 1))
 room-step v d i e h k l m = let q : e - (i - 1) ≡ suc (e - i) = omega arith in rw q (omega arith)
 
--- ---- bytes that pack one to one
+-- ---- digits, which pack one to one
 
-abbrev digit : ℕ → Bool
-digit b = ltb 0 b && ltb b 256
+digit-between : (b : ℕ) → (0 < digit b) × (digit b < 256)
+unfolding digit capital
+digit-between b = go (leb 1 b) (leb b 127) refl refl (between 97 122 b) refl
+  where
+    go : (l h : Bool) → leb 1 b ≡ l → leb b 127 ≡ h → (c : Bool) → between 97 122 b ≡ c
+        → (0 < cond (l && h) (cond c (b - 32) b) 1) × (cond (l && h) (cond c (b - 32) b) 1 < 256)
+    go true true p q true e =
+        let x = leb-true 97 b (both-true (leb 97 b) (leb b 122) e .0) in
+        let y = leb-true b 127 q in
+        (omega arith, omega arith)
+    go true true p q false e = let x = leb-true 1 b p in let y = leb-true b 127 q in (omega arith, omega arith)
+    go true false p q c e = (omega arith, omega arith)
+    go false h p q c e = (omega arith, omega arith)
 
-abbrev digits : List ℕ → Bool
-digits [] = true
-digits (b ∷ bs) = digit b && digits bs
+-- a byte that may be in a name
+abbrev plain : ℕ → Bool
+plain y = ltb 1 y && ltb y 128
 
-positive : (b : ℕ) (bs : List ℕ) → T (digits (b ∷ bs)) → 0 < b
-positive b bs t = ltb→lt 0 b (and-l (ltb 0 b) (ltb b 256) (and-l (digit b) (digits bs) t))
+abbrev plains : List ℕ → Bool
+plains [] = true
+plains (y ∷ ys) = plain y && plains ys
 
-small : (b : ℕ) (bs : List ℕ) → T (digits (b ∷ bs)) → b < 256
-small b bs t = ltb→lt b 256 (and-r (ltb 0 b) (ltb b 256) (and-l (digit b) (digits bs) t))
+above-one : (y : ℕ) → T (plain y) → 1 < y
+above-one y t = ltb→lt 1 y (and-l (ltb 1 y) (ltb y 128) t)
 
-same-pack : (v n : List ℕ) → T (digits v) → T (digits n) → same v n ≡ eqb (pack n) (pack v)
+below-128 : (y : ℕ) → T (plain y) → y < 128
+below-128 y t = ltb→lt y 128 (and-r (ltb 1 y) (ltb y 128) t)
+
+-- a byte's capital is such a byte where its digit is
+same-digit : (x y : ℕ) → T (plain y) → eqb (capital x) y ≡ eqb (digit x) y
+unfolding digit capital
+same-digit x y t = go (leb 1 x) (leb x 127) refl refl (above-one y t) (below-128 y t)
+  where
+    go : (l h : Bool) → leb 1 x ≡ l → leb x 127 ≡ h → 1 < y → y < 128
+        → eqb (cond (between 97 122 x) (x - 32) x) y ≡ eqb (cond (l && h) (cond (between 97 122 x) (x - 32) x) 1) y
+    go true true p q u v = refl
+    go true false p q u v =
+        let k = leb-false x 127 q in
+        rw (lt-leb x 122 (omega arith), and-false (leb 97 x), ne-eqb x y (omega arith), ne-eqb 1 y (omega arith))
+    go false h p q u v =
+        let k = leb-false 1 x p in
+        rw (lt-leb 97 x (omega arith), ne-eqb x y (omega arith), ne-eqb 1 y (omega arith))
+
+same-pack : (w n : List ℕ) → T (plains n) → same (map capital w) n ≡ eqb (pack n) (pack (map digit w))
 unfolding pack
-same-pack [] [] p c = refl
-same-pack [] (y ∷ ys) p c = let v = positive y ys c in sym (ne-eqb (pack ys * 256 + y) 0 (omega arith))
-same-pack (x ∷ xs) [] p c = let v = positive x xs p in sym (ne-eqb 0 (pack xs * 256 + x) (omega arith))
-same-pack (x ∷ xs) (y ∷ ys) p c =
-    go (eqb x y) (eqb (pack ys) (pack xs)) refl refl (small x xs p) (small y ys c)
-    (same-pack xs ys (and-r (digit x) (digits xs) p) (and-r (digit y) (digits ys) c))
+same-pack [] [] c = refl
+same-pack [] (y ∷ ys) c = let v = above-one y (and-l (plain y) (plains ys) c) in sym (ne-eqb (pack ys * 256 + y) 0 (omega arith))
+same-pack (x ∷ xs) [] c = let v = digit-between x in sym (ne-eqb 0 (pack (map digit xs) * 256 + digit x) (omega arith))
+same-pack (x ∷ xs) (y ∷ ys) c =
+    let t = and-l (plain y) (plains ys) c in
+    rw (same-digit x y t)
+    (go (eqb (digit x) y) (eqb (pack ys) (pack (map digit xs))) refl refl (digit-between x .1) (below-128 y t)
+    (same-pack xs ys (and-r (plain y) (plains ys) c)))
   where
-    go : (a b : Bool) → eqb x y ≡ a → eqb (pack ys) (pack xs) ≡ b → x < 256 → y < 256 → same xs ys ≡ eqb (pack ys) (pack xs)
-        → (eqb x y && same xs ys) ≡ eqb (pack ys * 256 + y) (pack xs * 256 + x)
+    go : (a b : Bool) → eqb (digit x) y ≡ a → eqb (pack ys) (pack (map digit xs)) ≡ b → digit x < 256 → y < 128
+        → same (map capital xs) ys ≡ eqb (pack ys) (pack (map digit xs))
+        → (eqb (digit x) y && same (map capital xs) ys) ≡ eqb (pack ys * 256 + y) (pack (map digit xs) * 256 + digit x)
     go true true e f u v i =
-        let g = eqb-true x y e in
-        let h = eqb-true (pack ys) (pack xs) f in
-        rw (e, i, f) (sym (eq-eqb (pack ys * 256 + y) (pack xs * 256 + x) (omega arith)))
+        let g = eqb-true (digit x) y e in
+        let h = eqb-true (pack ys) (pack (map digit xs)) f in
+        rw (e, i, f) (sym (eq-eqb (pack ys * 256 + y) (pack (map digit xs) * 256 + digit x) (omega arith)))
     go true false e f u v i =
-        let h = eqb-false (pack ys) (pack xs) f in
-        rw (e, i, f) (sym (ne-eqb (pack ys * 256 + y) (pack xs * 256 + x) (λ q. h (omega arith))))
+        let h = eqb-false (pack ys) (pack (map digit xs)) f in
+        rw (e, i, f) (sym (ne-eqb (pack ys * 256 + y) (pack (map digit xs) * 256 + digit x) (λ q. h (omega arith))))
     go false b e f u v i =
-        let h = eqb-false x y e in
-        rw e (sym (ne-eqb (pack ys * 256 + y) (pack xs * 256 + x) (λ q. h (omega arith))))
+        let h = eqb-false (digit x) y e in
+        rw e (sym (ne-eqb (pack ys * 256 + y) (pack (map digit xs) * 256 + digit x) (λ q. h (omega arith))))
 
--- ---- words and names have such bytes
-
--- a byte of a word lies in 48..122
-word-byte : (b : ℕ) → rank b < 17 → (48 ≤ b) × (b < 123)
-word-byte b h =
-    elim (decLt b 48) [
-      | yes l ↦ absurd (omega (arith, rank-low b l))
-      | no m ↦ elim (decLt b 123) [
-        | yes l ↦ (omega arith, l)
-        | no n ↦ absurd (omega (arith, rank-high b (omega arith)))
-      ]
-    ]
-
-capital-digit : (b : ℕ) → rank b < 17 → T (digit (capital b))
-unfolding capital
-capital-digit b h = let w = word-byte b h in go (between 97 122 b) (w .0) (w .1)
-  where
-    both : (a c : Bool) → T a → T c → T (a && c)
-    both true c s t = t
-    both false c s t = s
-
-    go : (t : Bool) → 48 ≤ b → b < 123 → T (digit (cond t (b - 32) b))
-    go true l m = both (ltb 0 (b - 32)) (ltb (b - 32) 256) (lt→ltb 0 (b - 32) (omega arith)) (lt→ltb (b - 32) 256 (omega arith))
-    go false l m = both (ltb 0 b) (ltb b 256) (lt→ltb 0 b (omega arith)) (lt→ltb b 256 (omega arith))
-
-word-digits : (w : List ℕ) → T (allBelow 17 w) → T (digits (map capital w))
-word-digits [] t = tt
-word-digits (b ∷ w) t = go (digit (capital b)) (capital-digit b (ltb→lt (rank b) 17 (and-l (ltb (rank b) 17) (allBelow 17 w) t)))
-    (word-digits w (and-r (ltb (rank b) 17) (allBelow 17 w) t))
-  where
-    go : (a : Bool) → T a → T (digits (map capital w)) → T (a && digits (map capital w))
-    go true s r = r
-    go false s r = s
-
--- a name of six such bytes at most
-abbrev short : String → Bool
-short name = digits (bytes name) && ltb (length (bytes name)) 7
-
-abbrev pub allShort : List String → Bool
-allShort [] = true
-allShort (name ∷ names) = short name && allShort names
-
-abbrev pub numbers : List String → List ℕ
-numbers = map (λ (name : String). pack (bytes name))
-
--- a word's place among names is its number's place among their numbers
-pub place-number : (w : List ℕ) (names : List String) → T (allBelow 17 w) → T (allShort names)
-    → placeIn w names ≡ placeOf (pack (map capital w)) (numbers names)
-unfolding placeIn placeOf isNamed
-place-number w [] p c = refl
-place-number w (name ∷ names) p c =
-    let d = and-l (digits (bytes name)) (ltb (length (bytes name)) 7) (and-l (short name) (allShort names) c) in
-    rw (same-pack (map capital w) (bytes name) (word-digits w p) d, place-number w names p (and-r (short name) (allShort names) c))
-
--- ---- a longer word is none of them
-
+-- a longer word is no name
 same-length : (v n : List ℕ) → (length v ≡ length n → ⊥) → same v n ≡ false
 same-length [] [] h = absurd (h refl)
 same-length [] (y ∷ ys) h = refl
 same-length (x ∷ xs) [] h = refl
 same-length (x ∷ xs) (y ∷ ys) h = rw (same-length xs ys (λ e. h (ap suc e))) (and-false (eqb x y))
 
-pub place-long : (w : List ℕ) (names : List String) → 6 < length w → T (allShort names) → placeIn w names ≡ length names
-unfolding placeIn isNamed
-place-long w [] h c = refl
-place-long w (name ∷ names) h c =
-    let b = ltb→lt (length (bytes name)) 7 (and-r (digits (bytes name)) (ltb (length (bytes name)) 7) (and-l (short name) (allShort names) c)) in
-    rw (same-length (map capital w) (bytes name) (omega (arith, length-map w capital)))
-    (ap suc (place-long w names h (and-r (short name) (allShort names) c)))
+-- ---- names
+
+-- a name of one to six such bytes
+abbrev short : List ℕ → Bool
+short [] = false
+short (y ∷ ys) = plains (y ∷ ys) && ltb (length ys) 6
+
+abbrev pub allShort : List String → Bool
+allShort [] = true
+allShort (name ∷ names) = short (bytes name) && allShort names
+
+abbrev pub numbers : List String → List ℕ
+numbers = map (λ (name : String). pack (bytes name))
+
+-- a word is a name where its number is the name's
+same-number : (w n : List ℕ) → T (short n) → same (map capital w) n ≡ eqb (pack n) (numberOf w)
+unfolding numberOf pack
+same-number w [] c = absurd c
+same-number w (y ∷ ys) c =
+    go (ltb 6 (length w)) refl (and-l (plains (y ∷ ys)) (ltb (length ys) 6) c)
+    (ltb→lt (length ys) 6 (and-r (plains (y ∷ ys)) (ltb (length ys) 6) c))
+  where
+    go : (b : Bool) → ltb 6 (length w) ≡ b → T (plains (y ∷ ys)) → length ys < 6
+        → same (map capital w) (y ∷ ys) ≡ eqb (pack (y ∷ ys)) (cond b 0 (pack (map digit w)))
+    go true e p l =
+        let k = ltb-true 6 (length w) e in
+        let v = above-one y (and-l (plain y) (plains ys) p) in
+        same-length (map capital w) (y ∷ ys) (λ q. absurd (omega (arith, length-map w capital)))
+        ∙ sym (ne-eqb (pack ys * 256 + y) 0 (omega arith))
+    go false e p l = same-pack w (y ∷ ys) p
+
+-- so a word's place among names is its number's place among their numbers
+pub place-number : (w : List ℕ) (names : List String) → T (allShort names) → placeIn w names ≡ placeOf (numberOf w) (numbers names)
+unfolding placeIn placeOf isNamed
+place-number w [] c = refl
+place-number w (name ∷ names) c =
+    rw (same-number w (bytes name) (and-l (short (bytes name)) (allShort names) c), place-number w names (and-r (short (bytes name)) (allShort names) c))

@@ -5,17 +5,15 @@ use mathlib.Core.List.{List, [], _∷_, _++_, map}
 use mathlib.Core.Path.{_≡_, refl, ap, _∙_}
 use Prim.Native.String.{String}
 use native.Mathlib.Omega.{arith}
-use lib.Dec.{T}
 use lib.ListN.{length, getD, List·getD-append}
 use lib.Seq.{getD-append-add}
-use Rattle.numerals.specs.Digits.{allBelow}
 use Rattle.isa.specs.Opcodes.{table, opcodes, opcodeOf}
 use Rattle.isa.specs.declared.Opcode.{Opcode}
 use Rattle.isa.specs.declared.Opcode.the-variants.{NOP}
 use Rattle.names.specs.declared.Word.the-variants.{Instructs, Unknown}
-use Rattle.names.specs.Names.{capital, isNamed, Entry, statementWords, wordIn, wordOf, registers, placeIn, registerCode}
-use Rattle.names.specs.Packing.{pack, placeOf, wordAt, directives, directiveAt}
-use Rattle.names.proofs.Packs.{numbers, place-number, place-long}
+use Rattle.names.specs.Names.{isNamed, Entry, statementWords, wordIn, wordOf, registers, placeIn, registerCode}
+use Rattle.names.specs.Packing.{numberOf, placeOf, wordAt, directives, directiveAt}
+use Rattle.names.proofs.Packs.{numbers, place-number}
 
 -- the names of the 44 words
 unfoldable pub statementNames : List String
@@ -38,21 +36,13 @@ module _ (w : List ℕ) where
   unfolding wordOf wordAt statementNames
   word-at-place = word-by-place w statementWords
 
-  pub word-found : T (allBelow 17 w) → wordOf w ≡ wordAt (placeOf (pack (map capital w)) (numbers statementNames))
+  pub word-found : wordOf w ≡ wordAt (placeOf (numberOf w) (numbers statementNames))
   unfolding statementNames statementWords opcodes table
-  word-found t = word-at-place ∙ ap wordAt (place-number w statementNames t tt)
+  word-found = word-at-place ∙ ap wordAt (place-number w statementNames tt)
 
-  pub register-found : T (allBelow 17 w) → registerCode w ≡ placeOf (pack (map capital w)) (numbers registers)
+  pub register-found : registerCode w ≡ placeOf (numberOf w) (numbers registers)
   unfolding registerCode registers
-  register-found t = place-number w registers t tt
-
-  pub word-long : 6 < length w → wordOf w ≡ Unknown
-  unfolding wordAt statementNames statementWords opcodes table
-  word-long h = word-at-place ∙ ap wordAt (place-long w statementNames h tt)
-
-  pub register-long : 6 < length w → registerCode w ≡ 16
-  unfolding registerCode registers
-  register-long h = place-long w registers h tt
+  register-found = place-number w registers tt
 
 -- ---- the places: opcodes by their numbers, then the directives
 

@@ -2,9 +2,10 @@
 use Prim.Native.Nat.{ℕ, suc, _+_, _*_}
 use mathlib.Core.Bool.{cond}
 use mathlib.Core.List.{List, [], _∷_, map}
-use lib.Dec.{eqb}
-use lib.ListN.{getD}
-use Rattle.names.specs.Names.{Entry, statementWords}
+use lib.Dec.{ltb, eqb}
+use lib.ListN.{length, getD}
+use Rattle.numerals.specs.Bytes.{between}
+use Rattle.names.specs.Names.{capital, Entry, statementWords}
 use Rattle.names.specs.declared.Word.{Word}
 use Rattle.names.specs.declared.Word.the-variants.{Org, Equ, Res, Data, End, Unknown}
 
@@ -12,6 +13,14 @@ use Rattle.names.specs.declared.Word.the-variants.{Org, Equ, Res, Data, 
 unfoldable pub pack : List ℕ → ℕ
 pack [] = 0
 pack (b ∷ bs) = pack bs * 256 + b
+
+-- the digit of a word's byte: its capital, or 1 for a byte that is in no name
+unfoldable pub digit : ℕ → ℕ
+digit b = cond (between 1 127 b) (capital b) 1
+
+-- the number of a word; 0, which no name has, where it is longer than any of them
+unfoldable pub numberOf : List ℕ → ℕ
+numberOf w = cond (ltb 6 (length w)) 0 (pack (map digit w))
 
 -- a number's place in a list, or the list's length
 unfoldable pub placeOf : ℕ → List ℕ → ℕ

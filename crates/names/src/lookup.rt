@@ -1,15 +1,11 @@
 // A word of the line among the names (specs/Names.antt): its capitals packed into a number, and that number searched among the
 // names' own (specs/Packing.antt).
-ghost use mathlib.Core.List.{map};
 ghost use mathlib.Core.Path.{_≡_};
-ghost use Prim.Native.Nat.{_+_, _≤_};
-ghost use lib.Dec.{T};
+ghost use Prim.Native.Nat.{_≤_};
 ghost use lib.ListN.{length};
 ghost use lib.Seq.{slice};
-ghost use Rattle.numerals.specs.Bytes.{anyWordByte};
-ghost use Rattle.numerals.specs.Digits.{allBelow};
 ghost use Rattle.names.specs.Names.{capital, wordOf, registerCode};
-ghost use Rattle.names.specs.Packing.{pack, placeOf, wordAt, directiveAt};
+ghost use Rattle.names.specs.Packing.{digit, numberOf, placeOf, wordAt, directiveAt};
 use super::Word;
 use isa::FoundOpcode;
 use isa::opcodes::opcode;
@@ -84,24 +80,16 @@ const REGISTERS: [u64; 16] = [
 
 // What the statement's word from `start` to `end` is.
 pub fn statement_word(s: &[u8], start: usize, end: usize) -> Word
-    requires { ⌜ (start ≤ end) × (end ≤ length (now s)) × T (allBelow anyWordByte (slice start end (now s))) ⌝ }
     ensures { λ r. ⌜ r ≡ wordOf (slice start end (now (s .entry))) ⌝ }
 {
-    if 6 < end - start {
-        return Word::Unknown;
-    }
     let table = STATEMENT_WORDS;
     word_at(place(packed(s, start, end), &table))
 }
 
 // The code of the register that the word from `start` to `end` names, or 16.
 pub fn register_code(s: &[u8], start: usize, end: usize) -> u16
-    requires { ⌜ (start ≤ end) × (end ≤ length (now s)) × T (allBelow anyWordByte (slice start end (now s))) ⌝ }
     ensures { λ r. ⌜ r ≡ registerCode (slice start end (now (s .entry))) ⌝ }
 {
-    if 6 < end - start {
-        return 16;
-    }
     let table = REGISTERS;
     place(packed(s, start, end), &table) as u16
 }
@@ -119,16 +107,46 @@ fn capital_of(b: u8) -> u8
     b - 32
 }
 
-// The capitals of a word of six bytes at most, as one number.
-fn packed(s: &[u8], start: usize, end: usize) -> u64
-    requires { ⌜ (start ≤ end) × (end ≤ length (now s)) × (end ≤ start + 6) ⌝ }
-    ensures { λ r. ⌜ r ≡ pack (map capital (slice start end (now (s .entry)))) ⌝ }
+// The digit of a byte in a word's number.
+fn digit_of(b: u8) -> u8
+    ensures { λ r. ⌜ r ≡ digit b ⌝ }
 {
+    if b < 1 {
+        return 1;
+    }
+    if 127 < b {
+        return 1;
+    }
+    capital_of(b)
+}
+
+// The number of the word from `start` to `end`, of which no more counts than there is.
+fn packed(s: &[u8], start: usize, end: usize) -> u64
+    ensures { λ r. ⌜ r ≡ numberOf (slice start end (now (s .entry))) ⌝ }
+{
+    let len = s.len();
+    if len < end {
+        return packed_within(s, start, len);
+    }
+    packed_within(s, start, end)
+}
+
+// The same for an end within the bytes.
+fn packed_within(s: &[u8], start: usize, end: usize) -> u64
+    requires { ⌜ end ≤ length (now s) ⌝ }
+    ensures { λ r. ⌜ r ≡ numberOf (slice start end (now (s .entry))) ⌝ }
+{
+    if end < start {
+        return 0;
+    }
+    if 6 < end - start {
+        return 0;
+    }
     let mut number: u64 = 0;
     let mut i = end;
     while start < i {
         i -= 1;
-        number = number * 256 + capital_of(s[i]) as u64;
+        number = number * 256 + digit_of(s[i]) as u64;
     }
     number
 }

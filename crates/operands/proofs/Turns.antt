@@ -1,15 +1,12 @@
 -- One token of the code is one turn of the walk.
-use Prim.Native.Nat.{ℕ, zero, suc, _-_, _≤_, _<_}
+use Prim.Native.Nat.{ℕ, _≤_, _<_}
 use Prim.Native.Char.{code}
 use mathlib.Core.Bool.{Bool, true, false, cond}
 use mathlib.Core.List.{List, [], _∷_}
-use mathlib.Core.Path.{_≡_, refl, sym, ap, subst, _∙_}
+use mathlib.Core.Path.{_≡_, refl, sym, ap, _∙_}
 use native.Mathlib.Omega.{arith}
-use lib.Dec.{eqb, T}
-use lib.ListN.{length, take, drop}
-use lib.Seq.{slice, take-nil}
-use Rattle.numerals.specs.Bytes.{anyWordByte}
-use Rattle.numerals.specs.Digits.{allBelow}
+use lib.Dec.{eqb}
+use lib.ListN.{length}
 use Rattle.numerals.specs.declared.Cursor.{Cursor}
 use Rattle.numerals.specs.declared.Radix.the-variants.{Decimal, Hexadecimal}
 use Rattle.isa.specs.Registers.{isRegister}
@@ -17,7 +14,6 @@ use Rattle.tokens.specs.Reading.{tokenAt, tokensFrom}
 use Rattle.tokens.specs.declared.Kind.{Kind}
 use Rattle.tokens.specs.declared.Kind.the-variants as K
 use Rattle.tokens.specs.declared.Token.{Token}
-use Rattle.tokens.proofs.Meanings.{Means, token-means}
 use Rattle.tokens.proofs.Places.{token-placed}
 use Rattle.values.specs.Values.{numeral, nameAt}
 use Rattle.values.specs.Reading.{minusBy, minusAt, valueBy, valueAt}
@@ -38,13 +34,6 @@ valueOn s k V′.Absent = wrong
 abbrev pub ValueOnward : ℕ → ValueRead → Type 0
 ValueOnward at (V′.Found v c) = at ≤ c .at
 ValueOnward at V′.Absent = Unit
-
--- a part in the middle, taken from where it begins
-slice-taken : (from end : ℕ) (l : List ℕ) → slice from end l ≡ take (end - from) (drop from l)
-slice-taken zero end l = let e : end - zero ≡ end = omega arith in rw e
-slice-taken (suc from) zero l = let e : zero - suc from ≡ zero = omega arith in rw e
-slice-taken (suc from) (suc end) [] = sym (take-nil (suc end - suc from))
-slice-taken (suc from) (suc end) (x ∷ l) = let e : suc end - suc from ≡ end - from = omega arith in rw e (slice-taken from end l)
 
 module _ (s : List ℕ) (at : ℕ) where
   -- ---- a token that the walk takes, and one that it does not
@@ -111,15 +100,6 @@ module _ (s : List ℕ) (at : ℕ) where
         go (K.Mark b) e = let z : _≡_ {A = ℕ} 0 1 = cc in absurd (omega arith)
 
   -- ---- words, and registers' names
-
-  -- a word is what a look-up asks for
-  pub word-there : tokenAt s at .kind ≡ K.Word
-      → (tokenAt s at .start ≤ tokenAt s at .next .at) × (tokenAt s at .next .at ≤ length s)
-      × T (allBelow anyWordByte (slice (tokenAt s at .start) (tokenAt s at .next .at) s))
-  word-there e =
-      let w = subst (λ (k : Kind). Means s k (tokenAt s at .start) (tokenAt s at .next .at)) e (token-means s at) in
-      let g = ends-of s at e in
-      (omega arith, omega arith, rw (slice-taken (tokenAt s at .start) (tokenAt s at .next .at) s) (w .all))
 
   named-is : (k : Kind) (r x : ℕ) (c n : Cursor) → registerBy r k n ≡ R.Named x c → (k ≡ K.Word) × (r ≡ x) × (n ≡ c) × (isRegister x ≡ true)
   named-is K.End r x c n e = let z : _≡_ {A = ℕ} 0 1 = cc in absurd (omega arith)

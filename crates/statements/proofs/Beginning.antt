@@ -1,13 +1,8 @@
 -- What a row begins with, by the tokens that `next_token` hands back; laws that the code's proofs cite.
-use Prim.Native.Nat.{ℕ, _≤_}
+use Prim.Native.Nat.{ℕ}
 use mathlib.Core.Bool.{true, false, _&&_}
 use mathlib.Core.List.{List, [], _∷_}
-use mathlib.Core.Path.{_≡_, refl, sym, ap, subst, _∙_}
-use lib.Dec.{T}
-use lib.ListN.{length}
-use lib.Seq.{slice}
-use Rattle.numerals.specs.Bytes.{anyWordByte}
-use Rattle.numerals.specs.Digits.{allBelow}
+use mathlib.Core.Path.{_≡_, refl, sym, ap, _∙_}
 use Rattle.tokens.specs.Reading.{tokenAt, afterKind, tokensFrom}
 use Rattle.tokens.specs.declared.Kind.{Kind}
 use Rattle.tokens.specs.declared.Kind.the-variants as K
@@ -16,7 +11,6 @@ use Rattle.names.specs.Names.{wordOf}
 use Rattle.names.specs.declared.Word.{Word}
 use Rattle.values.proofs.Rows.{row-of}
 use Rattle.operands.specs.Operands.{wordAt}
-use Rattle.operands.proofs.Turns.{word-there}
 use Rattle.statements.specs.Reading.{isWord, isColon, labelled, labelRead, afterLabel, byWord, statementRead}
 use Rattle.statements.specs.Parts.{nowhere, LabelDone}
 use Rattle.statements.specs.declared.Labelled.{Labelled}
@@ -64,15 +58,6 @@ module _ (line : List ℕ) (at : ℕ) {w : Token} (t : w ≡ tokenAt line at) wh
     where
       row : tokensFrom line at ≡ w ∷ tokensFrom line (w .next .at)
       row = row-of line at (kind-at e) ∙ ap (λ (v : Token). v ∷ tokensFrom line (v .next .at)) (sym t)
-
-  -- what `statement_word` asks for
-  pub word-stands : w .kind ≡ K.Word
-      → (w .start ≤ w .next .at) × (w .next .at ≤ length line) × T (allBelow anyWordByte (slice (w .start) (w .next .at) line))
-  word-stands e =
-      subst
-      (λ (v : Token). (v .start ≤ v .next .at) × (v .next .at ≤ length line) × T (allBelow anyWordByte (slice (v .start) (v .next .at) line)))
-      (sym t)
-      (word-there line at (kind-at e))
 
 -- ---- the label
 

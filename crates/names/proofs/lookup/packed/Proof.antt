@@ -1,72 +1,24 @@
--- The loop holds the number of the bytes from its place on, which so few bytes keep below 48 bits. Assumes nothing.
+-- An end behind the bytes gives the same part as their length. Assumes nothing.
 use borrow.Author.Needs.{needs}
-use Prim.Native.Nat.{_-_, _≤_, _<_}
-use mathlib.Core.List.{map}
-use mathlib.Core.Path.{_≡_}
+use mathlib.Core.Path.{_∙_}
 use native.Mathlib.Omega.{arith}
-use lib.Seq.{slice, slice-empty}
-use Rattle.names.specs.Names.{capital}
-use Rattle.names.specs.Packing.{pack}
-use Rattle.names.proofs.Packs.{room, room-six, room-step, pack-step}
+use Rattle.names.proofs.Packs.{number-within}
 use Rattle.names.proofs.lookup.packed.Statement.{statement}
 use Rattle.names.proofs.lookup.packed.Tie as tie
 
-abbrev Inv-loop : tie.InvT-loop
-Inv-loop s start end number₀ i₀ number i = (start ≤ i) × (i ≤ end) × (number < room (end - i)) × (number ≡ pack (map capital (slice i end s)))
+packed-within-requires : tie.Need-packed-within-requires
+packed-within-requires c κs = search needs
 
-abbrev μ-loop : tie.MeasureT-loop
-μ-loop s start end number₀ i₀ number i = i
-
-loop-holds : tie.Need-loop-holds Inv-loop μ-loop
-unfolding pack
-loop-holds c =
-    let z : (c .before .args .end) - (c .before .args .end) ≡ 0 = omega arith in
-    (omega arith, omega arith, rw z (omega arith), rw (slice-empty (c .before .args .end) (c .before .args .s .now)))
-
-sub-i : tie.Need-sub-i Inv-loop μ-loop
-sub-i c = search needs
-
-mul-number : tie.Need-mul-number Inv-loop μ-loop
-mul-number c = omega (arith, room-six ((c .before .before .before .args .end) - (c .before .loop .i)) (omega arith))
-
-shared-slice-read-capital-of : tie.Need-shared-slice-read-capital-of Inv-loop μ-loop
-shared-slice-read-capital-of c = search needs
-
-capital-of-requires : tie.Need-capital-of-requires Inv-loop μ-loop
-capital-of-requires c κs = search needs
-
-cast-number : tie.Need-cast-number Inv-loop μ-loop
-cast-number c = search needs
-
-add-number : tie.Need-add-number Inv-loop μ-loop
-add-number c = omega (arith, room-six ((c .before .before .before .before .before .args .end) - (c .before .before .before .loop .i)) (omega arith), c .capital-of .ok)
-
-loop-less : tie.Need-loop-less Inv-loop μ-loop
-loop-less c = search needs
-
-loop-again : tie.Need-loop-again Inv-loop μ-loop
-loop-again c =
-    let r = room-step (c .before .before .before .loop .number) (c .capital-of .result) (c .before .before .before .loop .i) (c .before .before .before .before .before .args .end) (omega arith) (omega arith) (omega arith) (omega (arith, c .capital-of .ok)) in
-    (omega arith, omega arith, r, omega (arith, pack-step (c .before .before .before .before .before .args .s .now) (c .before .before .before .loop .i) (c .before .before .before .before .before .args .end) (omega arith) (omega arith) (omega arith)))
-
-returns : tie.Need-returns Inv-loop μ-loop
+returns : tie.Need-returns
 returns c =
-    let e : (c .before .loop .i) ≡ (c .before .before .before .args .start) = omega arith in
-    rw e at (c .before .loop .inv .3)
+    let a = c .before .before .before .args in
+    c .packed-within .ensures ∙ number-within (a .s .now) (a .start) (a .end) (omega arith)
+
+packed-within-requires-2 : tie.Need-packed-within-requires-2
+packed-within-requires-2 c κs = search needs
+
+returns-2 : tie.Need-returns-2
+returns-2 c = c .packed-within2 .ensures
 
 pub packed-spec : {M : Type 1} → statement M
-packed-spec =
-    tie.close
-    (tie.spec
-    Inv-loop
-    μ-loop
-    loop-holds
-    sub-i
-    mul-number
-    shared-slice-read-capital-of
-    capital-of-requires
-    cast-number
-    add-number
-    loop-less
-    loop-again
-    returns)
+packed-spec = tie.close (tie.spec packed-within-requires returns packed-within-requires-2 returns-2)

@@ -1,16 +1,8 @@
--- A word is looked up, and every other kind of token is none; what a look-up asks of a word, every word has (Turns).
-use mathlib.Core.Path.{sym, ap, _∙_}
+-- A word is looked up, and every other kind of token is none.
 use borrow.Author.Tests.{lt-ltb, le-ltb}
-use Rattle.tokens.specs.declared.Token.{Token}
-use Rattle.operands.proofs.Turns.{word-there}
 use borrow.Author.Needs.{needs}
 use Rattle.operands.proofs.shapes.register_at.Statement.{statement}
 use Rattle.operands.proofs.shapes.register_at.Tie as tie
-
-register-code-requires : tie.Need-register-code-requires
-register-code-requires c κs =
-    let e = (c .before .before .before .next-token .ensures) in
-    rw e (word-there (c .before .before .before .before .before .args .s .now) (c .before .before .before .before .before .args .from .at) (sym (ap (λ (t : Token). t .kind) e) ∙ (c .enum-told3 .given .1)))
 
 returns : tie.Need-returns
 returns c = rw (← (c .before .before .before .before .before .next-token .ensures), (c .before .before .enum-told3 .given .1), ← (c .before .register-code .ensures), lt-ltb _ _ (c .if1 .taken))
@@ -41,7 +33,7 @@ register-at-spec =
     (λ c. search needs)
     (λ c. search needs)
     (λ c. search needs)
-    register-code-requires
+    (λ c κs. search needs)
     returns
     (λ c. search needs)
     (λ c. search needs)

@@ -1,16 +1,10 @@
--- The first token's kind says what the row begins with; a word of the line is what `statement_word` asks for.
+-- The first token's kind says what the row begins with.
 use borrow.Author.Needs.{needs}
 use mathlib.Core.Path.{refl}
 use Rattle.statements.proofs.Labelling.{never}
-use Rattle.statements.proofs.Beginning.{ended, no-word, by-its-word, word-stands}
+use Rattle.statements.proofs.Beginning.{ended, no-word, by-its-word}
 use Rattle.statements.proofs.line.statement.Statement.{statement}
 use Rattle.statements.proofs.line.statement.Tie as tie
-
-statement-word-requires : tie.Need-statement-word-requires
-statement-word-requires c κs =
-    let w = c .before .before .before in
-    let a = w .before .before .args in
-    word-stands (a .s .now) (a .from .at) (w .next-token .ensures) (c .enum-told3 .given .1)
 
 returns : tie.Need-returns
 returns c =
@@ -56,7 +50,7 @@ statement-spec =
     (λ c. search needs)
     (λ c. search needs)
     (λ c. search needs)
-    statement-word-requires
+    (λ c κs. search needs)
     (λ c κs. search needs)
     (λ c. search needs)
     (λ c. search needs)
