@@ -14,7 +14,7 @@ unfoldable pub pack : List ℕ → ℕ
 pack [] = 0
 pack (b ∷ bs) = pack bs * 256 + b
 
--- the digit of a word's byte: its capital, or 1 for a byte that is in no name
+-- the digit of a word's byte: its capital; 1, which is in no name, for 0 and for what is above 127, which are in none either
 unfoldable pub digit : ℕ → ℕ
 digit b = cond (between 1 127 b) (capital b) 1
 
