@@ -1,6 +1,8 @@
 // The effect of each opcode (specs/Effects.antt).
 ghost use mathlib.Core.Path.{_≡_};
 ghost use lib.ListN.{length};
+ghost use Rattle.isa.specs.Opcodes.{table};
+ghost use Rattle.isa.specs.Operands.{isTarget};
 ghost use Rattle.effects.specs.Effects.{found, byOpcode, addressesThere, performOf};
 use super::Performed;
 use super::Place;
@@ -86,22 +88,31 @@ fn by_opcode(
     }
 }
 
-// Whether the operands that are cells are cells of memory; targets count only as next PC.
-fn addresses_there(m: &[u16], op: Opcode, p: Place, q: Place) -> bool
-    ensures { λ b. ⌜ b ≡ addressesThere (length (now (m .entry))) op p q ⌝ }
+// Whether an opcode's operand is a target, which counts only as next PC.
+fn has_target(op: Opcode) -> bool
+    ensures { λ b. ⌜ b ≡ isTarget (table op .first) ⌝ }
 {
     let its = isa::opcodes::row(op);
     let k = its.first;
-    if isa::operands::is_target(k) {
-        return true;
-    }
-    if there(m, p) {
-        return there(m, q);
-    }
-    false
+    isa::operands::is_target(k)
 }
 
-// What an instruction comes to, its address after it being `next`. Nothing is written.
+// Whether the operands that are cells are cells of memory. The opcode is asked only where one is not: that is rare, and saves a look
+// at the table in every step.
+fn addresses_there(m: &[u16], op: Opcode, p: Place, q: Place) -> bool
+    ensures { λ b. ⌜ b ≡ addressesThere (length (now (m .entry))) op p q ⌝ }
+{
+    if !there(m, p) {
+        return has_target(op);
+    }
+    if !there(m, q) {
+        return has_target(op);
+    }
+    true
+}
+
+// What an instruction comes to, its address after it being `next`. Nothing is written. Each value is found right after its place,
+// before the addresses are judged: so compiled, one jump finds both.
 pub fn perform(r: &[u16; 16], m: &[u16], next: usize, i: Instruction) -> Performed
     ensures { λ e. ⌜ e ≡ performOf (now (r .entry)) (now (m .entry)) next i ⌝ }
 {
@@ -109,11 +120,11 @@ pub fn perform(r: &[u16; 16], m: &[u16], next: usize, i: Instruction) -> Perform
     let a = i.first;
     let b = i.second;
     let p = located(r, next, a);
+    let x = value(r, m, next, p);
     let q = located(r, next, b);
+    let y = value(r, m, next, q);
     if !addresses_there(m, op, p, q) {
         return Performed::Stops(5);
     }
-    let x = value(r, m, next, p);
-    let y = value(r, m, next, q);
     by_opcode(m, next, r[14], r[11], p, q, x, y, op)
 }

@@ -1,4 +1,4 @@
--- The operands' places, the test of their addresses, their values, and the line of the opcode, in the order of the definition.
+-- Each operand's place and value, the test of their addresses, and the line of the opcode.
 use borrow.Author.Needs.{needs}
 use borrow.Author.Tests.{not-true, not-false}
 use Rattle.effects.specs.Effects.{performOf}
@@ -13,25 +13,25 @@ perform-spec =
     (λ c κs. tt)
     (λ c κs. tt)
     (λ c κs. tt)
+    (λ c κs. tt)
+    (λ c κs. tt)
     (λ c.
     rw (
-      ← c .before .before .before .located .ensures,
-      ← c .before .before .located2 .ensures,
+      ← c .before .before .before .before .before .located .ensures,
+      ← c .before .before .before .located2 .ensures,
       ← c .before .addresses-there .ensures,
       not-true (c .before .addresses-there .result) (c .if1 .taken),
     ))
-    (λ c κs. tt)
-    (λ c κs. tt)
     (λ c. search needs)
     (λ c. search needs)
     (λ c κs. tt)
     (λ c.
-    let judged = c .before .before .before .before .before in
+    let judged = c .before .before .before in
     rw (
-      ← judged .before .before .before .located .ensures,
-      ← judged .before .before .located2 .ensures,
+      ← judged .before .before .before .before .before .located .ensures,
+      ← judged .before .before .before .located2 .ensures,
       ← judged .before .addresses-there .ensures,
       not-false (judged .before .addresses-there .result) (judged .if1 .left),
-      ← c .before .before .before .before .value .ensures,
-      ← c .before .before .before .value2 .ensures,
+      ← judged .before .before .before .before .value .ensures,
+      ← judged .before .before .value2 .ensures,
     ) (c .by-opcode .ensures)))
