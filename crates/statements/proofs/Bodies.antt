@@ -58,7 +58,7 @@ module _ (line : List ℕ) where
   ReadBy W.Org w ts r = (e : Tree) × Expression ts e × (r ≡ org e)
   ReadBy W.Equ w ts r = (e : Tree) × Expression ts e × (r ≡ equ e)
   ReadBy W.Res w ts r = (e : Tree) × Expression ts e × (r ≡ res e)
-  ReadBy W.Data w ts r = (is : List Item) × Items line ts is × (r ≡ cells (w .next) is)
+  ReadBy W.Data w ts r = (is : List Item) × Items line ts is × (r ≡ cells w is)
   ReadBy W.End w ts r = r ≡ end
   ReadBy W.Unknown w ts r = ⊥
 
@@ -70,7 +70,7 @@ module _ (line : List ℕ) where
   read-by (origin {w} {ts} {e} s f) = subst (λ (x : Word). ReadBy x w ts (org e)) (sym (s .means)) (e, f, refl)
   read-by (equals {w} {ts} {e} s f) = subst (λ (x : Word). ReadBy x w ts (equ e)) (sym (s .means)) (e, f, refl)
   read-by (reserve {w} {ts} {e} s f) = subst (λ (x : Word). ReadBy x w ts (res e)) (sym (s .means)) (e, f, refl)
-  read-by (items {w} {ts} {is} s f) = subst (λ (x : Word). ReadBy x w ts (cells (w .next) is)) (sym (s .means)) (is, f, refl)
+  read-by (items {w} {ts} {is} s f) = subst (λ (x : Word). ReadBy x w ts (cells w is)) (sym (s .means)) (is, f, refl)
   read-by (ends {w} {ts} s) = subst (λ (x : Word). ReadBy x w ts end) (sym (s .means)) refl
 
   body-word : {w : Token} {ts : List Token} {r : Reading} → Body line (w ∷ ts) r → w .kind ≡ K.Word
@@ -108,11 +108,11 @@ items-result : (line : List ℕ) (c : Cursor) (ts : List Token) {o : Listed.Resu
 unfolding Listed.itemsRead
 items-result line c ts f = ap (λ o. itemsResult c (Listed.judged o)) f
 
-cells-result : (c : Cursor) (is : List Item) → itemsResult c (Listed.judged (Listed.reads is)) ≡ judged (cells c is)
+cells-result : (w : Token) (is : List Item) → itemsResult (w .next) (Listed.judged (Listed.reads is)) ≡ judged (cells w is)
 unfolding judged
-cells-result c is = go (allInRange is)
+cells-result w is = go (allInRange is)
   where
-    go : (b : Bool) → itemsResult c (cond b (I.Cells (length (cellsOf is))) I.OutOfRange) ≡ cond b (Data (length (cellsOf is)) c) OutOfRange
+    go : (b : Bool) → itemsResult (w .next) (cond b (I.Cells (length (cellsOf is))) I.OutOfRange) ≡ cond b (Data (length (cellsOf is)) (w .next)) OutOfRange
     go true = refl
     go false = refl
 
@@ -178,10 +178,10 @@ module _ (line : List ℕ) where
       where
         go : (o : Listed.Result) → Listed.walk line Listed.item ts ≡ o → Found line (w ∷ ts)
         go (Listed.reads is) f =
-            says (cells (w .next) is) (items (word-is W.Data e) (items-exactly line (w .next .at) .0 f))
+            says (cells w is) (items (word-is W.Data e) (items-exactly line (w .next .at) .0 f))
             (λ r b. let h = by-is W.Data e r b in let g = items-exactly line (w .next .at) .1 (h .1) in cc (h .2, g, f))
             (known W.Data e (λ z. never (cc)))
-            (goes-by W.Data e ∙ items-result line (w .next) ts f ∙ cells-result (w .next) is)
+            (goes-by W.Data e ∙ items-result line (w .next) ts f ∙ cells-result w is)
         go Listed.wrong f =
             wrong (known W.Data e (λ z. never (cc)))
             (λ r b. let h = by-is W.Data e r b in let g = items-exactly line (w .next .at) .1 (h .1) in never (cc))

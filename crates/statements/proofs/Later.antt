@@ -98,5 +98,5 @@ judged-later (instruction op os) = operands-later op os
 judged-later (org e) = tree-later leastUnsigned Org (λ v. refl) e
 judged-later (equ e) = tree-later leastSigned Equ (λ v. refl) e
 judged-later (res e) = tree-later leastUnsigned Res (λ v. refl) e
-judged-later (cells c is) = items-later c is
+judged-later (cells w is) = items-later (w .next) is
 judged-later end = refl

@@ -12,7 +12,7 @@ use lib.Signed.{leZ}
 use mir.Syntax.{w16}
 use mir.Val.{ofZ}
 use borrow.Author.Tests.{le-leb, lt-leb, leb-true, leb-false}
-use Rattle.numerals.specs.declared.Cursor.{Cursor}
+use Rattle.tokens.specs.declared.Token.{Token}
 use Rattle.numerals.specs.declared.Kept.{Kept}
 use Rattle.numerals.specs.declared.Kept.the-variants as N
 use Rattle.isa.specs.declared.Opcode.{Opcode}
@@ -120,11 +120,11 @@ module _ {r : Reading} {least : ℤ} {makes : ℕ → Statement} {e : Tree} (a :
 
 -- ---- DATA
 
-module _ (c : Cursor) (is : List Item) where
-  pub item-out : allInRange is ≡ false → judged (cells c is) ≡ OutOfRange
+module _ (w : Token) (is : List Item) where
+  pub item-out : allInRange is ≡ false → judged (cells w is) ≡ OutOfRange
   unfolding judged
   item-out f = rw f
 
-  pub items-fine : allInRange is ≡ true → judged (cells c is) ≡ Data (length (cellsOf is)) c
+  pub items-fine : allInRange is ≡ true → judged (cells w is) ≡ Data (length (cellsOf is)) (w .next)
   unfolding judged
   items-fine f = rw f

@@ -9,7 +9,6 @@ use lib.ListN.{length}
 use lib.Signed.{leZ}
 use mir.Syntax.{w16}
 use mir.Val.{ofZ}
-use Rattle.numerals.specs.declared.Cursor.{Cursor}
 use Rattle.numerals.specs.declared.Kept.{Kept}
 use Rattle.isa.specs.declared.Opcode.{Opcode}
 use Rattle.tokens.specs.Rows.{RowOf}
@@ -119,10 +118,10 @@ module _ {r : Reading} {least : ℤ} {makes : ℕ → Statement} {e : Tree} (a :
   then-result = Order.result a
 
 -- DATA: 6 where a number is out of range, else its cells.
-pub item-out : (c : Cursor) (is : List Item) → allInRange is ≡ false → judged (cells c is) ≡ OutOfRange
+pub item-out : (w : Token) (is : List Item) → allInRange is ≡ false → judged (cells w is) ≡ OutOfRange
 item-out = Order.item-out
 
-pub items-fine : (c : Cursor) (is : List Item) → allInRange is ≡ true → judged (cells c is) ≡ Data (length (cellsOf is)) c
+pub items-fine : (w : Token) (is : List Item) → allInRange is ≡ true → judged (cells w is) ≡ Data (length (cellsOf is)) (w .next)
 items-fine = Order.items-fine
 
 -- ---- examples, and one reply

@@ -60,7 +60,7 @@ judged (instruction op os) = instructionResult op (Operands.judged op os)
 judged (org e) = treeResult leastUnsigned Org e
 judged (equ e) = treeResult leastSigned Equ e
 judged (res e) = treeResult leastUnsigned Res e
-judged (cells c is) = cond (allInRange is) (Data (length (cellsOf is)) c) OutOfRange
+judged (cells w is) = cond (allInRange is) (Data (length (cellsOf is)) (w .next)) OutOfRange
 judged end = End
 
 -- the paper's number for each answer: 0 where the line's own checks pass

@@ -4,7 +4,6 @@ use Prim.Native.Char.{code}
 use mathlib.Core.Bool.{true}
 use mathlib.Core.List.{List, [], _∷_}
 use mathlib.Core.Path.{_≡_}
-use Rattle.numerals.specs.declared.Cursor.{Cursor}
 use Rattle.isa.specs.declared.Opcode.{Opcode}
 use Rattle.tokens.specs.declared.Kind.the-variants as K
 use Rattle.tokens.specs.declared.Token.{Token}
@@ -25,7 +24,7 @@ pub data Reading : Type 0 where
   nothing : Reading
   instruction : Opcode → List Written → Reading
   org equ res : Tree → Reading
-  cells : Cursor → List Item → Reading
+  cells : Token → List Item → Reading    -- DATA, by its word, and its items
   end : Reading
 
 -- "A line's first token, if a word directly followed by `:`, is its label (one per line)": the tokens, the label, and those after it
@@ -46,7 +45,7 @@ module _ (line : List ℕ) where
     origin : {w : Token} {ts : List Token} {e : Tree} → StatementWord w W.Org → Expression ts e → Body (w ∷ ts) (org e)
     equals : {w : Token} {ts : List Token} {e : Tree} → StatementWord w W.Equ → Expression ts e → Body (w ∷ ts) (equ e)
     reserve : {w : Token} {ts : List Token} {e : Tree} → StatementWord w W.Res → Expression ts e → Body (w ∷ ts) (res e)
-    items : {w : Token} {ts : List Token} {is : List Item} → StatementWord w W.Data → Items line ts is → Body (w ∷ ts) (cells (w .next) is)
+    items : {w : Token} {ts : List Token} {is : List Item} → StatementWord w W.Data → Items line ts is → Body (w ∷ ts) (cells w is)
     -- "All bytes after END as a statement's word are ignored"
     ends : {w : Token} {ts : List Token} → StatementWord w W.End → Body (w ∷ ts) end
 
