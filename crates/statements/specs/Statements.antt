@@ -24,7 +24,7 @@ pub data Reading : Type 0 where
   nothing : Reading
   instruction : Opcode → List Written → Reading
   org equ res : Tree → Reading
-  cells : Token → List Item → Reading    -- DATA, by its word, and its items
+  cells : Token → List Item → Reading  -- DATA, by its word, and its items
   end : Reading
 
 -- "A line's first token, if a word directly followed by `:`, is its label (one per line)": the tokens, the label, and those after it
