@@ -3,8 +3,8 @@
 use numerals::Cursor;
 
 pub mod reading; // the items that follow DATA
-pub mod single; // one item, and what follows it
-pub mod strings; // how many characters a string has
+mod single; // one item, and what follows it
+mod strings; // how many characters a string has
 
 // What the tokens after DATA are: so many cells, or refusal 3 or 6.
 pub enum ItemsRead {
@@ -14,13 +14,13 @@ pub enum ItemsRead {
 }
 
 // An item at a cursor: the cells it takes, whether it is in range, and the cursor after it; or no item.
-pub enum ItemRead {
+enum ItemRead {
     Found(usize, bool, Cursor),
     Absent,
 }
 
 // What follows an item: a comma, with the cursor after it, the end, or neither.
-pub enum Follows {
+enum Follows {
     Comma(Cursor),
     Over,
     Neither,

@@ -45,7 +45,7 @@ fn string_item(s: &[u8], from: Cursor) -> ItemRead
 }
 
 // The item at a cursor; a label is none.
-pub fn item(s: &[u8], from: Cursor) -> ItemRead
+pub(crate) fn item(s: &[u8], from: Cursor) -> ItemRead
     ensures { λ r. ⌜ r ≡ measured (itemAt (now (s .entry)) (from .at)) ⌝ }
 {
     let at = from.at;
@@ -58,7 +58,7 @@ pub fn item(s: &[u8], from: Cursor) -> ItemRead
     }
 }
 
-pub fn follows(s: &[u8], from: Cursor) -> Follows
+pub(crate) fn follows(s: &[u8], from: Cursor) -> Follows
     ensures { λ r. ⌜ r ≡ followsOf (tokenAt (now (s .entry)) (from .at)) ⌝ }
 {
     let t = next_token(s, from);

@@ -9,7 +9,7 @@ use tokens::Character;
 use tokens::strings::character;
 
 // The characters of the string whose opening quote stands right before a place.
-pub fn character_count(s: &[u8], from: usize) -> usize
+pub(crate) fn character_count(s: &[u8], from: usize) -> usize
     ensures { λ r. ⌜ ((cs rest : List ℕ) → Characters (drop from (now (s .entry))) cs rest → r ≡ length cs) ⌝ }
 {
     let mut i = from;

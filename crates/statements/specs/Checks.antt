@@ -28,6 +28,7 @@ use Rattle.statements.specs.declared.Statement.the-variants.{Nothing, In
 abbrev pub leastUnsigned : ℤ
 leastUnsigned = pos 0
 
+-- -32768
 abbrev pub leastSigned : ℤ
 leastSigned = negsuc 32767
 
