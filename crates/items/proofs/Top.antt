@@ -3,18 +3,19 @@ use Prim.Native.Nat.{ℕ, _+_, _≤_}
 use mathlib.Core.Bool.{true, false}
 use mathlib.Core.List.{List}
 use mathlib.Core.Logic.{_↔_}
-use mathlib.Core.Path.{_≡_, sym, _∙_}
+use mathlib.Core.Path.{_≡_, refl, sym, ap, _∙_}
 use native.Mathlib.Omega.{arith}
 use lib.ListN.{length}
 use Rattle.tokens.specs.Reading.{tokensFrom}
 use Rattle.tokens.specs.declared.Token.{Token}
 use Rattle.items.specs.Items.{Item, Items, cellsOf, allInRange}
-use Rattle.items.specs.Reading.{item, reads, wrong, walk, itemsRead}
+use Rattle.items.specs.Reading.{item, reads, wrong, walk, itemsRead, refusalOf}
 use Rattle.items.specs.declared.ItemsRead.the-variants.{Cells, WrongForm, OutOfRange}
 use Rattle.items.proofs.Readings as Readings
 use Rattle.items.proofs.Readings.{in-line}
 use Rattle.items.proofs.Bounds as Bounds
 use Rattle.items.proofs.Verdicts as Verdicts
+use Rattle.items.proofs.Numbers as Numbers
 use Rattle.items.proofs.Examples as Examples
 use Rattle.items.proofs.Examples.{Examples}
 
@@ -64,6 +65,22 @@ pub form-exactly : (line : List ℕ) (at : ℕ)
 form-exactly line at =
     let ts = tokensFrom line at in
     (Verdicts.reply-says line ts (in-line line at), Verdicts.says-reply line ts (in-line line at) WrongForm)
+
+-- The same by the paper's numbers: 0, 3, 6, each answered exactly where its check is the first that fails.
+module _ (line : List ℕ) (at : ℕ) where
+  pub cells-0 : (refusalOf (itemsRead line (tokensFrom line at)) ≡ 0)
+      ↔ ((is : List Item) × Items line (tokensFrom line at) is × (allInRange is ≡ true))
+  cells-0 =
+      (λ e. let h = cells-exactly line at .0 (Numbers.number-0 (itemsRead line (tokensFrom line at)) e .1) in (h .0, h .1, h .2), λ h. ap refusalOf (cells-exactly line at .1 (h .0, h .1, h .2, refl)))
+
+  pub form-3 : (refusalOf (itemsRead line (tokensFrom line at)) ≡ 3) ↔ ((is : List Item) → Items line (tokensFrom line at) is → ⊥)
+  form-3 =
+      (λ e. form-exactly line at .0 (Numbers.number-3 (itemsRead line (tokensFrom line at)) e), λ n. ap refusalOf (form-exactly line at .1 n))
+
+  pub range-6 : (refusalOf (itemsRead line (tokensFrom line at)) ≡ 6)
+      ↔ ((is : List Item) × Items line (tokensFrom line at) is × (allInRange is ≡ false))
+  range-6 =
+      (λ e. range-exactly line at .0 (Numbers.number-6 (itemsRead line (tokensFrom line at)) e), λ h. ap refusalOf (range-exactly line at .1 h))
 
 -- ---- examples, and one reply
 

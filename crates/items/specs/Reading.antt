@@ -101,3 +101,9 @@ judged wrong = WrongForm
 
 unfoldable pub itemsRead : List ℕ → List Token → ItemsRead
 itemsRead line ts = judged (walk line item ts)
+
+-- the paper's number for each answer: 3 form, 6 a number out of range
+abbrev pub refusalOf : ItemsRead → ℕ
+refusalOf (Cells n) = 0
+refusalOf WrongForm = 3
+refusalOf OutOfRange = 6

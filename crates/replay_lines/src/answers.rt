@@ -1,4 +1,6 @@
 // A line's reply: the first of its own checks that fails, or 0; its label's place; and what it says.
+ghost use mathlib.Core.Path.{_≡_};
+ghost use Rattle.statements.specs.Judging.{numberOf};
 use super::texts::field;
 use super::texts::letter;
 use super::texts::number;
@@ -9,8 +11,9 @@ use isa::Operand;
 use isa::opcodes::row;
 use operands::Given;
 use operands::LabelIn;
-use statements::LineLabel;
+use statements::Failure;
 use statements::Statement;
+use statements::StatementRead;
 use statements::line::read_line;
 
 // An operand's kind and word, by the format's numbers.
@@ -62,56 +65,52 @@ fn valued(out: &mut [u8], at: usize, b: u8, n: usize) -> usize {
     field(out, next, n)
 }
 
-fn label(out: &mut [u8], at: usize, l: LineLabel) -> usize {
+fn label(out: &mut [u8], at: usize, l: LabelIn) -> usize {
     match l {
-        LineLabel::Absent => place(out, at, 0, 0),
-        LineLabel::Named(n) => place(out, at, n.start, n.end),
+        LabelIn::Absent => place(out, at, 0, 0),
+        LabelIn::Named(n) => place(out, at, n.start, n.end),
     }
 }
 
 // A refusal, or 0, and the label.
-fn head(out: &mut [u8], refusal: usize, l: LineLabel) -> usize {
+fn head(out: &mut [u8], refusal: usize, l: LabelIn) -> usize {
     let next = number(out, 0, refusal);
     label(out, next, l)
 }
 
-// The whole reply but its line end.
-fn reply(out: &mut [u8], l: LineLabel, s: Statement) -> usize {
+// What a line says, behind 0 and its label.
+fn saying(out: &mut [u8], l: LabelIn, s: Statement) -> usize {
+    let at = head(out, 0, l);
     match s {
-        Statement::UnknownWord => head(out, 4, l),
-        Statement::WrongForm => head(out, 3, l),
-        Statement::WrongOperands => head(out, 5, l),
-        Statement::TooDeep => head(out, 8, l),
-        Statement::OutOfRange => head(out, 6, l),
-        Statement::ByZero => head(out, 7, l),
-        Statement::Nothing => {
-            let at = head(out, 0, l);
-            letter(out, at, b'N')
-        }
-        Statement::Instruction(op, first, second) => {
-            let at = head(out, 0, l);
-            instruction(out, at, op, first, second)
-        }
-        Statement::Org(v) => {
-            let at = head(out, 0, l);
-            valued(out, at, b'O', v as usize)
-        }
-        Statement::Equ(v) => {
-            let at = head(out, 0, l);
-            valued(out, at, b'Q', v as usize)
-        }
-        Statement::Res(v) => {
-            let at = head(out, 0, l);
-            valued(out, at, b'R', v as usize)
-        }
-        Statement::Data(n, _) => {
-            let at = head(out, 0, l);
-            valued(out, at, b'D', n)
-        }
-        Statement::End => {
-            let at = head(out, 0, l);
-            letter(out, at, b'E')
-        }
+        Statement::Nothing => letter(out, at, b'N'),
+        Statement::Instruction(op, first, second) => instruction(out, at, op, first, second),
+        Statement::Org(v) => valued(out, at, b'O', v as usize),
+        Statement::Equ(v) => valued(out, at, b'Q', v as usize),
+        Statement::Res(v) => valued(out, at, b'R', v as usize),
+        Statement::Data(n) => valued(out, at, b'D', n),
+        Statement::End => letter(out, at, b'E'),
+    }
+}
+
+// The number of a check that fails.
+fn refusal(f: Failure) -> usize
+    ensures { λ r. ⌜ r ≡ numberOf f ⌝ }
+{
+    match f {
+        Failure::UnknownWord => 4,
+        Failure::WrongForm => 3,
+        Failure::WrongOperands => 5,
+        Failure::TooDeep => 8,
+        Failure::OutOfRange => 6,
+        Failure::ByZero => 7,
+    }
+}
+
+// The whole reply but its line end.
+fn reply(out: &mut [u8], l: LabelIn, s: StatementRead) -> usize {
+    match s {
+        StatementRead::Passes(said) => saying(out, l, said),
+        StatementRead::Fails(f) => head(out, refusal(f), l),
     }
 }
 
