@@ -1,6 +1,4 @@
 // A line's reply: the first of its own checks that fails, or 0; its label's place; and what it says.
-ghost use mathlib.Core.Path.{_≡_};
-ghost use Rattle.statements.specs.Judging.{numberOf};
 use super::texts::field;
 use super::texts::letter;
 use super::texts::number;
@@ -11,10 +9,10 @@ use isa::Operand;
 use isa::opcodes::row;
 use operands::Given;
 use operands::LabelIn;
-use statements::Failure;
 use statements::Statement;
 use statements::StatementRead;
 use statements::line::read_line;
+use statements::refusals::number_of;
 
 // An operand's kind and word, by the format's numbers.
 fn operand(out: &mut [u8], at: usize, o: Operand) -> usize {
@@ -92,25 +90,11 @@ fn saying(out: &mut [u8], l: LabelIn, s: Statement) -> usize {
     }
 }
 
-// The number of a check that fails.
-fn refusal(f: Failure) -> usize
-    ensures { λ r. ⌜ r ≡ numberOf f ⌝ }
-{
-    match f {
-        Failure::UnknownWord => 4,
-        Failure::WrongForm => 3,
-        Failure::WrongOperands => 5,
-        Failure::TooDeep => 8,
-        Failure::OutOfRange => 6,
-        Failure::ByZero => 7,
-    }
-}
-
 // The whole reply but its line end.
 fn reply(out: &mut [u8], l: LabelIn, s: StatementRead) -> usize {
     match s {
         StatementRead::Passes(said) => saying(out, l, said),
-        StatementRead::Fails(f) => head(out, refusal(f), l),
+        StatementRead::Fails(f) => head(out, number_of(f) as usize, l),
     }
 }
 

@@ -7,6 +7,7 @@ use operands::LabelIn;
 
 mod labels; // a line's label, and the cursor after it
 pub mod line; // a line's reading
+pub mod refusals; // the paper's number of a check that fails
 mod results; // what an expression, operands and items come to
 
 // What a line's statement says: what it is, with its operands, its value, or the number of its cells.
