@@ -1,23 +1,28 @@
--- What this crate promises, beyond the equation at `instruction`: what that equation's right side means.
+-- What this crate promises, beyond the equations at its functions: what those equations' right sides mean.
 use Prim.Native.Nat.{ℕ}
 use mathlib.Core.Bool.{true}
 use mathlib.Core.List.{List}
 use mathlib.Core.Logic.{_↔_}
 use mathlib.Core.Path.{_≡_, sym, _∙_}
 use Rattle.isa.specs.Encoding.{encodeOf, refusalOf}
+use Rattle.isa.specs.Operands.{allows}
+use Rattle.isa.specs.declared.Kinds.{Kinds}
 use Rattle.isa.specs.declared.Opcode.{Opcode}
 use Rattle.tokens.specs.declared.Token.{Token}
+use Rattle.values.specs.declared.Name.{Name}
 use Rattle.operands.specs.Operands.{OperandField}
 use Rattle.operands.specs.Walk.{reads, wrong, operandsOf}
-use Rattle.operands.specs.Checks.{fits, instructionRead}
+use Rattle.operands.specs.Checks.{operandWith, labelIn, given, fits, instructionRead}
+use Rattle.operands.specs.Settling.{settledOperand, settledInstruction}
 use Rattle.operands.specs.declared.Given.{Given}
 use Rattle.operands.specs.declared.InstructionRead.the-variants.{Read, WrongForm, WrongOperands, OutOfRange}
+use Rattle.operands.specs.declared.LabelIn.the-variants as L
 use Rattle.operands.specs.declared.Written.{Written}
 use Rattle.operands.proofs.Readings as Readings
 use Rattle.operands.proofs.Exactly as Exactly
 use Rattle.operands.proofs.Exactly.{Fits, Accepted, Unfit, Unranged}
+use Rattle.operands.proofs.Settled as Settled
 use Rattle.operands.proofs.Encodes as Encodes
-use Rattle.operands.proofs.Encodes.{settledInstruction}
 use Rattle.operands.proofs.Examples as Examples
 use Rattle.operands.proofs.Examples.{Examples}
 
@@ -63,12 +68,26 @@ module _ (line : List ℕ) (ts : List Token) (op : Opcode) where
   pub encodes : {a b : Given} → instructionRead line op ts ≡ Read a b → (v w : ℕ) → refusalOf (encodeOf (settledInstruction op a b v w)) ≡ 0
   encodes e = Encodes.encodes line ts op (Exactly.tells line ts op e)
 
+-- ---- labels replaced by their values
+
+-- "one word per operand in order: value, displacement or register code": an operand that names no label keeps its own word.
+pub unlabelled-stays : (g : Given) (w : ℕ) → g .label ≡ L.Absent → settledOperand g w ≡ g .operand
+unlabelled-stays = Settled.unlabelled-stays
+
+-- One that names a label gets that word, whatever stood there, and is as it was written otherwise.
+pub label-replaced : (o : Written) (x w : ℕ) {n : Name} → labelIn o ≡ L.Named n → settledOperand (given o x) w ≡ operandWith o w
+label-replaced = Settled.label-replaced
+
+-- No kind changes: an opcode allows the operand where it allowed it before, and nowhere else.
+pub kind-stays : (k : Kinds) (g : Given) (w : ℕ) → allows k (settledOperand g w) ≡ allows k (g .operand)
+kind-stays = Settled.kind-stays
+
 -- ---- examples, and one reply
 
 -- Lines that are easily misread.
 pub examples : Examples
 examples = Examples.examples
 
--- The promise of `instruction` is an equation with its meaning: two replies that meet it coincide.
+-- Every promise of this crate is an equation with its meaning: two replies that meet it coincide.
 pub coincide : {A : Type 0} {meaning r r′ : A} → r ≡ meaning → r′ ≡ meaning → r ≡ r′
 coincide p q = p ∙ sym q
