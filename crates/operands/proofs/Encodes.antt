@@ -1,14 +1,15 @@
--- What is accepted can be encoded, whatever values its labels get.
-use Prim.Native.Nat.{ℕ}
+-- What is accepted can be encoded, whatever values its labels get, in a word for each operand after the first word.
+use Prim.Native.Nat.{ℕ, suc}
 use mathlib.Core.Bool.{Bool, true, cond}
 use mathlib.Core.List.{List}
 use mathlib.Core.Path.{_≡_, refl, sym, ap, _∙_}
 use lib.Dec.{T, ltb→lt}
+use lib.ListN.{length}
 use borrow.Author.Tests.{lt-ltb}
 use Rattle.numerals.specs.declared.Kept.the-variants as N
-use Rattle.isa.specs.Opcodes.{table}
+use Rattle.isa.specs.Opcodes.{table, countOf}
 use Rattle.isa.specs.Operands.{allows, registerThere}
-use Rattle.isa.specs.Encoding.{allowed, encodeOf, refusalOf}
+use Rattle.isa.specs.Encoding.{wordsOf, allowed, encodeOf, refusalOf}
 use Rattle.isa.specs.Registers.{isRegister}
 use Rattle.isa.specs.declared.Kinds.{Kinds}
 use Rattle.isa.specs.declared.Opcode.{Opcode}
@@ -118,3 +119,6 @@ module _ (line : List ℕ) (ts : List Token) (op : Opcode) where
   pub encodes : {a b : Given} → Accepted line ts op a b → (v w : ℕ) → refusalOf (encodeOf (settledInstruction op a b v w)) ≡ 0
   encodes {a} {b} h v w =
       isa.encoder (settledInstruction op a b v w) ∙ ap (λ (t : Bool). cond t 0 5) (allowed-then h v w)
+
+  pub words-count : {a b : Given} → Accepted line ts op a b → (v w : ℕ) → length (wordsOf (settledInstruction op a b v w)) ≡ suc (countOf op)
+  words-count {a} {b} h v w = isa.words-count (settledInstruction op a b v w) (allowed-then h v w)

@@ -1,10 +1,12 @@
 -- What this crate promises, beyond the equations at its functions: what those equations' right sides mean.
-use Prim.Native.Nat.{ℕ}
+use Prim.Native.Nat.{ℕ, suc}
 use mathlib.Core.Bool.{true}
 use mathlib.Core.List.{List}
 use mathlib.Core.Logic.{_↔_}
 use mathlib.Core.Path.{_≡_, sym, _∙_}
-use Rattle.isa.specs.Encoding.{encodeOf, refusalOf}
+use lib.ListN.{length}
+use Rattle.isa.specs.Opcodes.{countOf}
+use Rattle.isa.specs.Encoding.{wordsOf, encodeOf, refusalOf}
 use Rattle.isa.specs.Operands.{allows}
 use Rattle.isa.specs.declared.Kinds.{Kinds}
 use Rattle.isa.specs.declared.Opcode.{Opcode}
@@ -67,6 +69,10 @@ module _ (line : List ℕ) (ts : List Token) (op : Opcode) where
   -- What is read is encoded: with any words in its labels' places, the encoder does not refuse it.
   pub encodes : {a b : Given} → instructionRead line op ts ≡ Read a b → (v w : ℕ) → refusalOf (encodeOf (settledInstruction op a b v w)) ≡ 0
   encodes e = Encodes.encodes line ts op (Exactly.tells line ts op e)
+
+  -- "First word .., then one word per operand": it takes as many words as its opcode has operands, plus one.
+  pub words-count : {a b : Given} → instructionRead line op ts ≡ Read a b → (v w : ℕ) → length (wordsOf (settledInstruction op a b v w)) ≡ suc (countOf op)
+  words-count e = Encodes.words-count line ts op (Exactly.tells line ts op e)
 
 -- ---- labels replaced by their values
 
