@@ -7,5 +7,6 @@ pub mod Judged
 pub mod Exactly
 pub mod Settled
 pub mod Encodes
+pub mod Within
 pub mod Examples
 pub mod Top

@@ -10,11 +10,13 @@ use Rattle.isa.specs.Encoding.{wordsOf, encodeOf, refusalOf}
 use Rattle.isa.specs.Operands.{allows}
 use Rattle.isa.specs.declared.Kinds.{Kinds}
 use Rattle.isa.specs.declared.Opcode.{Opcode}
+use Rattle.tokens.specs.Reading.{tokensFrom}
 use Rattle.tokens.specs.declared.Token.{Token}
+use Rattle.tokens.proofs.Places.{Within}
 use Rattle.values.specs.declared.Name.{Name}
 use Rattle.operands.specs.Operands.{OperandField}
 use Rattle.operands.specs.Walk.{reads, wrong, operandsOf}
-use Rattle.operands.specs.Checks.{operandWith, labelIn, given, fits, instructionRead}
+use Rattle.operands.specs.Checks.{operandWith, operandAt, labelIn, given, fits, instructionRead}
 use Rattle.operands.specs.Settling.{settledOperand, settledInstruction}
 use Rattle.operands.specs.declared.Given.{Given}
 use Rattle.operands.specs.declared.InstructionRead.the-variants.{Read, WrongForm, WrongOperands, OutOfRange}
@@ -25,6 +27,8 @@ use Rattle.operands.proofs.Exactly as Exactly
 use Rattle.operands.proofs.Exactly.{Fits, Accepted, Unfit, Unranged}
 use Rattle.operands.proofs.Settled as Settled
 use Rattle.operands.proofs.Encodes as Encodes
+use Rattle.operands.proofs.Within as Bounds
+use Rattle.operands.proofs.Within.{LabelWithin}
 use Rattle.operands.proofs.Examples as Examples
 use Rattle.operands.proofs.Examples.{Examples}
 
@@ -73,6 +77,17 @@ module _ (line : List ℕ) (ts : List Token) (op : Opcode) where
   -- "First word .., then one word per operand": it takes as many words as its opcode has operands, plus one.
   pub words-count : {a b : Given} → instructionRead line op ts ≡ Read a b → (v w : ℕ) → length (wordsOf (settledInstruction op a b v w)) ≡ suc (countOf op)
   words-count e = Encodes.words-count line ts op (Exactly.tells line ts op e)
+
+-- ---- labels
+
+-- A label that an operand names is a word of the line: it has a byte at least, and lies within the line that its tokens stand in.
+pub field-within : (n : ℕ) (line : List ℕ) {us : List Token} {os : List Written} → OperandField line us os → Within n us → (i : ℕ)
+    → LabelWithin n (labelIn (operandAt os i))
+field-within = Bounds.of-field
+
+pub label-within : (line : List ℕ) (at : ℕ) (op : Opcode) {a b : Given} → instructionRead line op (tokensFrom line at) ≡ Read a b
+    → LabelWithin (length line) (a .label) × LabelWithin (length line) (b .label)
+label-within = Bounds.of-read
 
 -- ---- labels replaced by their values
 
