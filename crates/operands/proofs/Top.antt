@@ -3,10 +3,11 @@ use Prim.Native.Nat.{ℕ, suc}
 use mathlib.Core.Bool.{true}
 use mathlib.Core.List.{List}
 use mathlib.Core.Logic.{_↔_}
-use mathlib.Core.Path.{_≡_, sym, _∙_}
+use mathlib.Core.Path.{_≡_, sym, ap, _∙_}
 use lib.ListN.{length}
 use Rattle.isa.specs.Opcodes.{countOf}
-use Rattle.isa.specs.Encoding.{wordsOf, encodeOf, refusalOf}
+use Rattle.isa.specs.Encoding as Encoding
+use Rattle.isa.specs.Encoding.{wordsOf, encodeOf}
 use Rattle.isa.specs.Operands.{allows}
 use Rattle.isa.specs.declared.Kinds.{Kinds}
 use Rattle.isa.specs.declared.Opcode.{Opcode}
@@ -16,10 +17,10 @@ use Rattle.tokens.proofs.Places.{Within}
 use Rattle.values.specs.declared.Name.{Name}
 use Rattle.operands.specs.Operands.{OperandField}
 use Rattle.operands.specs.Walk.{reads, wrong, operandsOf}
-use Rattle.operands.specs.Checks.{operandWith, operandAt, labelIn, given, fits, instructionRead}
+use Rattle.operands.specs.Checks.{operandWith, operandAt, labelIn, given, fits, instructionRead, refusalOf}
 use Rattle.operands.specs.Settling.{settledOperand, settledInstruction}
 use Rattle.operands.specs.declared.Given.{Given}
-use Rattle.operands.specs.declared.InstructionRead.the-variants.{Read, WrongForm, WrongOperands, OutOfRange}
+use Rattle.operands.specs.declared.InstructionRead.the-variants.{Read}
 use Rattle.operands.specs.declared.LabelIn.the-variants as L
 use Rattle.operands.specs.declared.Written.{Written}
 use Rattle.operands.proofs.Readings as Readings
@@ -58,20 +59,24 @@ module _ (line : List ℕ) (ts : List Token) (op : Opcode) where
   pub read-exactly : {a b : Given} → (instructionRead line op ts ≡ Read a b) ↔ Accepted line ts op a b
   read-exactly = (Exactly.tells line ts op, Exactly.accepted-back line ts op)
 
+  -- 0: a reading that fits, each number in its range.
+  pub accepted-exactly : (refusalOf (instructionRead line op ts) ≡ 0) ↔ ((a : Given) × (b : Given) × Accepted line ts op a b)
+  accepted-exactly = (Exactly.number-tells line ts op, λ h. ap refusalOf (Exactly.accepted-back line ts op (h .2)))
+
   -- 3: no reading at all, whatever the opcode.
-  pub form-exactly : (instructionRead line op ts ≡ WrongForm) ↔ ((os : List Written) → OperandField line ts os → ⊥)
-  form-exactly = (Exactly.tells line ts op, Exactly.form-back line ts op)
+  pub form-exactly : (refusalOf (instructionRead line op ts) ≡ 3) ↔ ((os : List Written) → OperandField line ts os → ⊥)
+  form-exactly = (Exactly.number-tells line ts op, λ h. ap refusalOf (Exactly.form-back line ts op h))
 
   -- 5: a reading that does not fit, whatever its numbers.
-  pub operands-exactly : (instructionRead line op ts ≡ WrongOperands) ↔ Unfit line ts op
-  operands-exactly = (Exactly.tells line ts op, Exactly.unfit-back line ts op)
+  pub operands-exactly : (refusalOf (instructionRead line op ts) ≡ 5) ↔ Unfit line ts op
+  operands-exactly = (Exactly.number-tells line ts op, λ h. ap refusalOf (Exactly.unfit-back line ts op h))
 
   -- 6: a reading that fits, and a number out of its range.
-  pub range-exactly : (instructionRead line op ts ≡ OutOfRange) ↔ Unranged line ts op
-  range-exactly = (Exactly.tells line ts op, Exactly.unranged-back line ts op)
+  pub range-exactly : (refusalOf (instructionRead line op ts) ≡ 6) ↔ Unranged line ts op
+  range-exactly = (Exactly.number-tells line ts op, λ h. ap refusalOf (Exactly.unranged-back line ts op h))
 
   -- What is read is encoded: with any words in its labels' places, the encoder does not refuse it.
-  pub encodes : {a b : Given} → instructionRead line op ts ≡ Read a b → (v w : ℕ) → refusalOf (encodeOf (settledInstruction op a b v w)) ≡ 0
+  pub encodes : {a b : Given} → instructionRead line op ts ≡ Read a b → (v w : ℕ) → Encoding.refusalOf (encodeOf (settledInstruction op a b v w)) ≡ 0
   encodes e = Encodes.encodes line ts op (Exactly.tells line ts op e)
 
   -- "First word .., then one word per operand": it takes as many words as its opcode has operands, plus one.
