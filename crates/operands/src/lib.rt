@@ -1,5 +1,5 @@
 // An opcode's operands (document 01, "Rules of writing"): their form, their number and kinds, and the ranges of their numbers. The
-// meaning is in specs/: Operands.antt and Checks.antt.
+// meaning is in specs/: Operands.antt, Checks.antt and Settling.antt.
 use isa::Operand;
 use numerals::Cursor;
 use values::Name;
@@ -7,6 +7,7 @@ use values::Value;
 
 pub mod instruction; // the operands that follow an opcode
 mod listed; // what is kept of a list of operands
+pub mod settling; // labels replaced by their values
 mod shapes; // one operand
 mod words; // what an operand's word is
 

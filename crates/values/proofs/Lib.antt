@@ -2,5 +2,6 @@
 pub mod Displaced
 pub mod Rows
 pub mod Finds
+pub mod Within
 pub mod Examples
 pub mod Top
