@@ -10,12 +10,13 @@ use lib.ListN.{length, drop}
 use borrow.Author.Tests.{eqb-true}
 use Rattle.numerals.specs.declared.Radix.the-variants.{Decimal, Hexadecimal}
 use Rattle.tokens.specs.Strings.{Characters}
+use Rattle.tokens.specs.Marks.{IsMark}
 use Rattle.tokens.specs.Reading.{tokenAt, tokensFrom}
 use Rattle.tokens.specs.declared.Kind.{Kind}
 use Rattle.tokens.specs.declared.Kind.the-variants as K
 use Rattle.tokens.specs.declared.Token.{Token}
 use Rattle.tokens.proofs.Places.{token-placed}
-use Rattle.values.specs.Values.{IsMark, numeral, plain, minus}
+use Rattle.values.specs.Values.{numeral, plain, minus}
 use Rattle.values.proofs.Rows.{row-of, ends-of}
 use Rattle.items.specs.Items.{Item, number, ItemText, is-number, is-string, Items, one, more}
 use Rattle.items.specs.Reading.{characters, State, item, digits, done, Step, to, emit, halt, Result, reads, wrong, only, digitsStep, doneStep, cons, stepped, itemStep, step, walk}

@@ -10,10 +10,11 @@ use borrow.Author.Tests.{eqb-true, ne-eqb, lt-ltb}
 use Rattle.numerals.specs.declared.Numeral.{Numeral}
 use Rattle.numerals.specs.declared.Radix.the-variants.{Decimal, Hexadecimal}
 use Rattle.isa.specs.Registers.{IX, IY, SP, isRegister}
+use Rattle.tokens.specs.Marks.{IsMark}
 use Rattle.tokens.specs.declared.Kind.{Kind}
 use Rattle.tokens.specs.declared.Kind.the-variants as K
 use Rattle.tokens.specs.declared.Token.{Token}
-use Rattle.values.specs.Values.{IsMark, numeral, nameAt, NumberText, plain, minus, ValueText, number, label}
+use Rattle.values.specs.Values.{numeral, nameAt, NumberText, plain, minus, ValueText, number, label}
 use Rattle.values.specs.declared.Value.{Value}
 use Rattle.values.specs.declared.Value.the-variants.{Number, Label}
 use Rattle.operands.specs.Operands as G

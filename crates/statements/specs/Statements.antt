@@ -5,12 +5,13 @@ use mathlib.Core.Bool.{true}
 use mathlib.Core.List.{List, [], _∷_}
 use mathlib.Core.Path.{_≡_}
 use Rattle.isa.specs.declared.Opcode.{Opcode}
+use Rattle.tokens.specs.Marks.{IsMark}
 use Rattle.tokens.specs.declared.Kind.the-variants as K
 use Rattle.tokens.specs.declared.Token.{Token}
 use Rattle.names.specs.Names.{wordOf}
 use Rattle.names.specs.declared.Word.{Word}
 use Rattle.names.specs.declared.Word.the-variants as W
-use Rattle.values.specs.Values.{IsMark, nameAt}
+use Rattle.values.specs.Values.{nameAt}
 use Rattle.values.specs.declared.Name.{Name}
 use Rattle.expressions.specs.Trees.{Tree, Expression}
 use Rattle.operands.specs.Operands.{wordAt, OperandField}

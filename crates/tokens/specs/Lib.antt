@@ -4,4 +4,5 @@ pub mod Bytes
 pub mod Words
 pub mod Strings
 pub mod Rows
+pub mod Marks
 pub mod Reading
