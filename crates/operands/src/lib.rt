@@ -61,13 +61,6 @@ enum OperandRead {
     Wrong,
 }
 
-// What stands between operands, or after the last.
-enum Between {
-    Comma(Cursor),
-    Over,
-    Neither,
-}
-
 // The first two of a list of operands, and how many they are, up to 3: no opcode has three.
 struct FirstTwo {
     count: usize,

@@ -6,3 +6,4 @@ pub mod Strings
 pub mod Rows
 pub mod Marks
 pub mod Reading
+pub mod Commas
