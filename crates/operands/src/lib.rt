@@ -2,7 +2,7 @@
 // meaning is in specs/: Operands.antt and Checks.antt.
 use isa::Operand;
 use numerals::Cursor;
-use values::Name;
+use values::LabelIn;
 use values::Value;
 
 pub mod instruction; // the operands that follow an opcode
@@ -21,12 +21,6 @@ pub enum Written {
     IndexedY(Value),
     IndexedSp(Value),
     Relative(Value),
-}
-
-// The label that an operand names, if it does.
-pub enum LabelIn {
-    Absent,
-    Named(Name),
 }
 
 // An operand with its word. A label's value takes the place of a word 0 when labels are settled.

@@ -8,10 +8,9 @@ use isa::Opcode;
 use isa::Operand;
 use isa::opcodes::row;
 use operands::Given;
-use operands::LabelIn;
-use statements::LineLabel;
 use statements::Statement;
 use statements::line::read_line;
+use values::LabelIn;
 
 // An operand's kind and word, by the format's numbers.
 fn operand(out: &mut [u8], at: usize, o: Operand) -> usize {
@@ -62,21 +61,21 @@ fn valued(out: &mut [u8], at: usize, b: u8, n: usize) -> usize {
     field(out, next, n)
 }
 
-fn label(out: &mut [u8], at: usize, l: LineLabel) -> usize {
+fn label(out: &mut [u8], at: usize, l: LabelIn) -> usize {
     match l {
-        LineLabel::Absent => place(out, at, 0, 0),
-        LineLabel::Named(n) => place(out, at, n.start, n.end),
+        LabelIn::Absent => place(out, at, 0, 0),
+        LabelIn::Named(n) => place(out, at, n.start, n.end),
     }
 }
 
 // A refusal, or 0, and the label.
-fn head(out: &mut [u8], refusal: usize, l: LineLabel) -> usize {
+fn head(out: &mut [u8], refusal: usize, l: LabelIn) -> usize {
     let next = number(out, 0, refusal);
     label(out, next, l)
 }
 
 // The whole reply but its line end.
-fn reply(out: &mut [u8], l: LineLabel, s: Statement) -> usize {
+fn reply(out: &mut [u8], l: LabelIn, s: Statement) -> usize {
     match s {
         Statement::UnknownWord => head(out, 4, l),
         Statement::WrongForm => head(out, 3, l),

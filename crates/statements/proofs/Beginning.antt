@@ -14,7 +14,7 @@ use Rattle.operands.specs.Operands.{wordAt}
 use Rattle.statements.specs.Reading.{isWord, isColon, labelled, labelRead, afterLabel, byWord, statementRead}
 use Rattle.statements.specs.Parts.{nowhere, LabelDone}
 use Rattle.statements.specs.declared.Labelled.{Labelled}
-use Rattle.statements.specs.declared.LineLabel.the-variants.{Named}
+use Rattle.values.specs.declared.LabelIn.the-variants.{Named}
 use Rattle.statements.specs.declared.Statement.{Statement}
 use Rattle.statements.specs.declared.Statement.the-variants.{Nothing, WrongForm}
 use Rattle.statements.proofs.Labelling.{never, word-kind, colon-kind}

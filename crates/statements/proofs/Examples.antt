@@ -26,19 +26,19 @@ use Rattle.operands.specs.Walk as Walk
 use Rattle.operands.specs.Checks.{fits, labelIn, instructionRead}
 use Rattle.operands.specs.Checks as Operands
 use Rattle.operands.specs.declared.Given.{Given}
-use Rattle.operands.specs.declared.LabelIn.the-variants as L
+use Rattle.values.specs.declared.LabelIn.the-variants as L
 use Rattle.items.specs.Items.{cellsOf, allInRange}
 use Rattle.items.specs.Reading.{characters, newline, itemsRead}
 use Rattle.items.specs.Reading as Items
 use Rattle.statements.specs.Checks.{resultOf}
 use Rattle.statements.specs.Reading.{labelRead, afterLabel, statementRead, lineRead}
-use Rattle.statements.specs.declared.LineLabel.{LineLabel}
-use Rattle.statements.specs.declared.LineLabel.the-variants.{Absent, Named}
+use Rattle.values.specs.declared.LabelIn.{LabelIn}
+use Rattle.values.specs.declared.LabelIn.the-variants.{Absent, Named}
 use Rattle.statements.specs.declared.Statement.{Statement}
 use Rattle.statements.specs.declared.Statement.the-variants.{Nothing, Instruction, Org, Equ, Res, Data, End, UnknownWord, WrongForm, WrongOperands, TooDeep, OutOfRange, ByZero}
 
 -- a line of these bytes
-abbrev Line : List ℕ → LineLabel → Statement → Type 0
+abbrev Line : List ℕ → LabelIn → Statement → Type 0
 Line s l st = lineRead s ≡ record { label = l; statement = st }
 
 -- a line without a label says this

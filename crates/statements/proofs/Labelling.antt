@@ -16,7 +16,7 @@ use Rattle.values.specs.declared.Name.{Name}
 use Rattle.values.proofs.Rows.{row-head}
 use Rattle.statements.specs.Statements.{Label, label}
 use Rattle.statements.specs.Reading.{isWord, isColon, labelled, labelRead, afterLabel}
-use Rattle.statements.specs.declared.LineLabel.the-variants.{Absent, Named}
+use Rattle.values.specs.declared.LabelIn.the-variants.{Absent, Named}
 
 pub never : {X : Type 0} → _≡_ {A = ℕ} 0 1 → X
 never z = absurd (omega arith)

@@ -11,8 +11,8 @@ use Rattle.statements.specs.Statements.{Reading, Label, Body, LineText, 
 use Rattle.statements.specs.Statements as Rule
 use Rattle.statements.specs.Checks.{judged, refusalOf}
 use Rattle.statements.specs.Reading.{labelRead, afterLabel, statementRead, lineRead}
-use Rattle.statements.specs.declared.LineLabel.{LineLabel}
-use Rattle.statements.specs.declared.LineLabel.the-variants.{Absent, Named}
+use Rattle.values.specs.declared.LabelIn.{LabelIn}
+use Rattle.values.specs.declared.LabelIn.the-variants.{Absent, Named}
 use Rattle.statements.specs.declared.LineRead.{LineRead}
 use Rattle.statements.specs.declared.Statement.{Statement}
 use Rattle.statements.specs.declared.Statement.the-variants.{UnknownWord, WrongForm}
@@ -25,18 +25,18 @@ NoLabel ts = (n : Name) (us : List Token) → Label ts n us → ⊥
 
 module _ (line : List ℕ) where
   abbrev pub NoReading : List Token → Type 0
-  NoReading ts = (l : LineLabel) (r : Reading) → LineText line ts l r → ⊥
+  NoReading ts = (l : LabelIn) (r : Reading) → LineText line ts l r → ⊥
 
   -- ---- a line with a label, and one without
 
-  text-behind : {ts us : List Token} {n : Name} {l : LineLabel} {r : Reading} → Label ts n us → LineText line ts l r
+  text-behind : {ts us : List Token} {n : Name} {l : LabelIn} {r : Reading} → Label ts n us → LineText line ts l r
       → (Named n ≡ l) × Body line us r
   text-behind {r = r} a (labelled b body) =
       let h = label-once a b in
       (ap Named (h .0), subst (λ (vs : List Token). Body line vs r) (sym (h .1)) body)
   text-behind {us = us} {n = n} a (unlabelled bare body) = absurd (bare n us a)
 
-  text-first : {ts : List Token} {l : LineLabel} {r : Reading} → NoLabel ts → LineText line ts l r → (Absent ≡ l) × Body line ts r
+  text-first : {ts : List Token} {l : LabelIn} {r : Reading} → NoLabel ts → LineText line ts l r → (Absent ≡ l) × Body line ts r
   text-first none (labelled {us = us} {n = n} b body) = absurd (none n us b)
   text-first none (unlabelled bare body) = (refl, body)
 
@@ -60,12 +60,12 @@ module _ (line : List ℕ) where
   answer ts = record { label = labelRead ts; statement = statementRead line (afterLabel ts) }
 
   pub data Verdict (ts : List Token) : Type 0 where
-    reads : (l : LineLabel) (r : Reading) → LineText line ts l r → ((l′ : LineLabel) (r′ : Reading) → LineText line ts l′ r′ → (l ≡ l′) × (r ≡ r′))
+    reads : (l : LabelIn) (r : Reading) → LineText line ts l r → ((l′ : LabelIn) (r′ : Reading) → LineText line ts l′ r′ → (l ≡ l′) × (r ≡ r′))
         → (Rule.UnknownWord line ts → ⊥) → answer ts ≡ record { label = l; statement = judged r } → Verdict ts
     no-such-word : Rule.UnknownWord line ts → NoReading ts → answer ts .statement ≡ UnknownWord → Verdict ts
     no-form : (Rule.UnknownWord line ts → ⊥) → NoReading ts → answer ts .statement ≡ WrongForm → Verdict ts
 
-  answered : (ts us : List Token) {l : LineLabel} {st : Statement} → labelRead ts ≡ l → afterLabel ts ≡ us → statementRead line us ≡ st
+  answered : (ts us : List Token) {l : LabelIn} {st : Statement} → labelRead ts ≡ l → afterLabel ts ≡ us → statementRead line us ≡ st
       → answer ts ≡ record { label = l; statement = st }
   answered ts us e f g = rw (e, f, g)
 
@@ -103,7 +103,7 @@ module _ (line : List ℕ) where
 
   -- ---- what Top.antt restates
 
-  pub one-reading : {l l′ : LineLabel} {r r′ : Reading} → LineText line (row line) l r → LineText line (row line) l′ r′ → (l ≡ l′) × (r ≡ r′)
+  pub one-reading : {l l′ : LabelIn} {r r′ : Reading} → LineText line (row line) l r → LineText line (row line) l′ r′ → (l ≡ l′) × (r ≡ r′)
   one-reading {l} {l′} {r} {r′} x y = go verdict
     where
       go : Verdict line (row line) → (l ≡ l′) × (r ≡ r′)
@@ -111,7 +111,7 @@ module _ (line : List ℕ) where
       go (no-such-word u unread e) = absurd (unread l r x)
       go (no-form known unread e) = absurd (unread l r x)
 
-  pub read-judged : {l : LineLabel} {r : Reading} → LineText line (row line) l r → lineRead line ≡ record { label = l; statement = judged r }
+  pub read-judged : {l : LabelIn} {r : Reading} → LineText line (row line) l r → lineRead line ≡ record { label = l; statement = judged r }
   unfolding lineRead
   read-judged {l} {r} x = go verdict
     where
@@ -120,7 +120,7 @@ module _ (line : List ℕ) where
       go (no-such-word u unread e) = absurd (unread l r x)
       go (no-form known unread e) = absurd (unread l r x)
 
-  pub text-known : {l : LineLabel} {r : Reading} → LineText line (row line) l r → Rule.UnknownWord line (row line) → ⊥
+  pub text-known : {l : LabelIn} {r : Reading} → LineText line (row line) l r → Rule.UnknownWord line (row line) → ⊥
   text-known {l} {r} x u = go verdict
     where
       go : Verdict line (row line) → ⊥
@@ -129,7 +129,7 @@ module _ (line : List ℕ) where
       go (no-form known unread e) = known u
 
   -- the answer to a reading is neither 4 nor 3
-  not-later : {st : Statement} {l : LineLabel} (r : Reading) {X : Type 0} → later st ≡ false → lineRead line .statement ≡ st
+  not-later : {st : Statement} {l : LabelIn} (r : Reading) {X : Type 0} → later st ≡ false → lineRead line .statement ≡ st
       → lineRead line ≡ record { label = l; statement = judged r } → X
   not-later r n f e =
       let g : lineRead line .statement ≡ judged r = ap (λ (a : LineRead). a .statement) e in
@@ -154,24 +154,24 @@ module _ (line : List ℕ) where
       go (no-such-word u unread e) = (λ f. never (cc), λ h. absurd (h .0 u))
       go (no-form known unread e) = (λ f. (known, unread), λ h. e)
 
-  pub every-line : ((l : LineLabel) × (r : Reading) × LineText line (row line) l r)
+  pub every-line : ((l : LabelIn) × (r : Reading) × LineText line (row line) l r)
       ⊎ (Rule.UnknownWord line (row line) ⊎ ((Rule.UnknownWord line (row line) → ⊥) × NoReading line (row line)))
   every-line = go verdict
     where
       go : Verdict line (row line)
-          → ((l : LineLabel) × (r : Reading) × LineText line (row line) l r)
+          → ((l : LabelIn) × (r : Reading) × LineText line (row line) l r)
           ⊎ (Rule.UnknownWord line (row line) ⊎ ((Rule.UnknownWord line (row line) → ⊥) × NoReading line (row line)))
       go (reads l r t once known e) = inl (l, r, t)
       go (no-such-word u unread e) = inr (inl u)
       go (no-form known unread e) = inr (inr (known, unread))
 
   pub accepted-exactly : (refusalOf (lineRead line .statement) ≡ 0)
-      ↔ ((l : LineLabel) × (r : Reading) × LineText line (row line) l r × (refusalOf (judged r) ≡ 0))
+      ↔ ((l : LabelIn) × (r : Reading) × LineText line (row line) l r × (refusalOf (judged r) ≡ 0))
   unfolding lineRead
   accepted-exactly = go verdict
     where
       go : Verdict line (row line) → (refusalOf (lineRead line .statement) ≡ 0)
-          ↔ ((l : LineLabel) × (r : Reading) × LineText line (row line) l r × (refusalOf (judged r) ≡ 0))
+          ↔ ((l : LabelIn) × (r : Reading) × LineText line (row line) l r × (refusalOf (judged r) ≡ 0))
       go (reads l r t once known e) =
           let f : lineRead line .statement ≡ judged r = ap (λ (a : LineRead). a .statement) e in
           (λ g. (l, r, t, ap refusalOf (sym f) ∙ g), λ h. ap refusalOf f ∙ ap (λ (q : Reading). refusalOf (judged q)) (once (h .0) (h .1) (h .2) .1) ∙ h .3)

@@ -27,8 +27,8 @@ use Rattle.statements.specs.Statements.{Reading, instruction, cells, end
 use Rattle.statements.specs.Statements as Rule
 use Rattle.statements.specs.Checks.{instructionResult, judged, refusalOf}
 use Rattle.statements.specs.Reading.{statementRead, lineRead}
-use Rattle.statements.specs.declared.LineLabel.{LineLabel}
-use Rattle.statements.specs.declared.LineLabel.the-variants.{Absent, Named}
+use Rattle.values.specs.declared.LabelIn.{LabelIn}
+use Rattle.values.specs.declared.LabelIn.the-variants.{Absent, Named}
 use Rattle.statements.specs.declared.Statement.{Statement}
 use Rattle.statements.specs.declared.Statement.the-variants.{Data, End, UnknownWord, WrongForm, WrongOperands, TooDeep, OutOfRange, ByZero}
 use Rattle.statements.proofs.Lines as Lines
@@ -42,14 +42,14 @@ module _ (line : List ℕ) where
   -- ---- reading
 
   -- A line has one reading at most: its label and what its statement says.
-  pub one-reading : {ts : List Token} {l l′ : LineLabel} {r r′ : Reading} → RowOf line ts → LineText line ts l r → LineText line ts l′ r′
+  pub one-reading : {ts : List Token} {l l′ : LabelIn} {r r′ : Reading} → RowOf line ts → LineText line ts l r → LineText line ts l′ r′
       → (l ≡ l′) × (r ≡ r′)
   one-reading {l = l} {l′} {r} {r′} row x y =
       let e = one-row row (line-row line) in
       Lines.one-reading line (subst (λ (us : List Token). LineText line us l r) e x) (subst (λ (us : List Token). LineText line us l′ r′) e y)
 
   -- Where a line has a reading, `read_line` hands back its label and what is judged of it.
-  pub read-judged : {ts : List Token} {l : LineLabel} {r : Reading} → RowOf line ts → LineText line ts l r
+  pub read-judged : {ts : List Token} {l : LabelIn} {r : Reading} → RowOf line ts → LineText line ts l r
       → lineRead line ≡ record { label = l; statement = judged r }
   read-judged {l = l} {r} row x =
       Lines.read-judged line (subst (λ (us : List Token). LineText line us l r) (one-row row (line-row line)) x)
@@ -60,20 +60,20 @@ module _ (line : List ℕ) where
 
   -- "3 form": no reading at all. "word 4; form 3": an unknown word is never 3, and all other refusals are of lines with a reading.
   pub wrong-exactly : (lineRead line .statement ≡ WrongForm)
-      ↔ ((Rule.UnknownWord line (tokensFrom line 0) → ⊥) × ((l : LineLabel) (r : Reading) → LineText line (tokensFrom line 0) l r → ⊥))
+      ↔ ((Rule.UnknownWord line (tokensFrom line 0) → ⊥) × ((l : LabelIn) (r : Reading) → LineText line (tokensFrom line 0) l r → ⊥))
   wrong-exactly = Lines.wrong-exactly line
 
   -- Every line has a reading, an unknown word or wrong form, and no two of these.
-  pub every-line : ((l : LineLabel) × (r : Reading) × LineText line (tokensFrom line 0) l r)
+  pub every-line : ((l : LabelIn) × (r : Reading) × LineText line (tokensFrom line 0) l r)
       ⊎ (Rule.UnknownWord line (tokensFrom line 0) ⊎ ((Rule.UnknownWord line (tokensFrom line 0) → ⊥) × NoReading line (tokensFrom line 0)))
   every-line = Lines.every-line line
 
-  pub not-both : {l : LineLabel} {r : Reading} → LineText line (tokensFrom line 0) l r → Rule.UnknownWord line (tokensFrom line 0) → ⊥
+  pub not-both : {l : LabelIn} {r : Reading} → LineText line (tokensFrom line 0) l r → Rule.UnknownWord line (tokensFrom line 0) → ⊥
   not-both = Lines.text-known line
 
   -- A line's own checks pass exactly where it has a reading of which no check fails.
   pub accepted-exactly : (refusalOf (lineRead line .statement) ≡ 0)
-      ↔ ((l : LineLabel) × (r : Reading) × LineText line (tokensFrom line 0) l r × (refusalOf (judged r) ≡ 0))
+      ↔ ((l : LabelIn) × (r : Reading) × LineText line (tokensFrom line 0) l r × (refusalOf (judged r) ≡ 0))
   accepted-exactly = Lines.accepted-exactly line
 
 -- ---- the label

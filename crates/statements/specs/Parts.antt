@@ -14,7 +14,7 @@ use Rattle.expressions.specs.declared.Worth.{Worth}
 use Rattle.expressions.specs.declared.Worth.the-variants as W
 use Rattle.statements.specs.Reading.{labelRead, afterLabel}
 use Rattle.statements.specs.declared.Labelled.{Labelled}
-use Rattle.statements.specs.declared.LineLabel.the-variants.{Absent}
+use Rattle.values.specs.declared.LabelIn.the-variants.{Absent}
 use Rattle.statements.specs.declared.Outcome.{Outcome}
 use Rattle.statements.specs.declared.Outcome.the-variants.{Value, Fails}
 use Rattle.statements.specs.declared.Statement.{Statement}

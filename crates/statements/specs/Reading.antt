@@ -23,8 +23,8 @@ use Rattle.items.specs.Reading.{itemsRead}
 use Rattle.items.specs.declared.ItemsRead.{ItemsRead}
 use Rattle.items.specs.declared.ItemsRead.the-variants as I
 use Rattle.statements.specs.Checks.{leastUnsigned, leastSigned, worthResult, instructionResult}
-use Rattle.statements.specs.declared.LineLabel.{LineLabel}
-use Rattle.statements.specs.declared.LineLabel.the-variants.{Absent, Named}
+use Rattle.values.specs.declared.LabelIn.{LabelIn}
+use Rattle.values.specs.declared.LabelIn.the-variants.{Absent, Named}
 use Rattle.statements.specs.declared.LineRead.{LineRead}
 use Rattle.statements.specs.declared.Statement.{Statement}
 use Rattle.statements.specs.declared.Statement.the-variants.{Nothing, Org, Equ, Res, Data, End, UnknownWord, WrongForm, TooDeep, OutOfRange}
@@ -53,11 +53,11 @@ labelled [] = false
 labelled (w ∷ []) = false
 labelled (w ∷ c ∷ ts) = isWord (w .kind) && (isColon (c .kind) && c .directly)
 
-abbrev pub firstName : List Token → LineLabel
+abbrev pub firstName : List Token → LabelIn
 firstName [] = Absent
 firstName (w ∷ ts) = Named (nameAt w)
 
-unfoldable pub labelRead : List Token → LineLabel
+unfoldable pub labelRead : List Token → LabelIn
 labelRead ts = cond (labelled ts) (firstName ts) Absent
 
 abbrev pub behindTwo : List Token → List Token

@@ -17,8 +17,8 @@ use Rattle.expressions.specs.Trees.{Tree, Expression}
 use Rattle.operands.specs.Operands.{wordAt, OperandField}
 use Rattle.operands.specs.declared.Written.{Written}
 use Rattle.items.specs.Items.{Item, Items}
-use Rattle.statements.specs.declared.LineLabel.{LineLabel}
-use Rattle.statements.specs.declared.LineLabel.the-variants.{Absent, Named}
+use Rattle.values.specs.declared.LabelIn.{LabelIn}
+use Rattle.values.specs.declared.LabelIn.the-variants.{Absent, Named}
 
 -- what a statement says
 pub data Reading : Type 0 where
@@ -51,7 +51,7 @@ module _ (line : List ℕ) where
     ends : {w : Token} {ts : List Token} → StatementWord w W.End → Body (w ∷ ts) end
 
   -- a line's tokens, its label and what it says
-  pub data LineText : List Token → LineLabel → Reading → Type 0 where
+  pub data LineText : List Token → LabelIn → Reading → Type 0 where
     labelled : {ts us : List Token} {n : Name} {r : Reading} → Label ts n us → Body us r → LineText ts (Named n) r
     unlabelled : {ts : List Token} {r : Reading} → ((n : Name) (us : List Token) → Label ts n us → ⊥) → Body ts r → LineText ts Absent r
 

@@ -3,17 +3,11 @@
 use isa::Opcode;
 use numerals::Cursor;
 use operands::Given;
-use values::Name;
+use values::LabelIn;
 
 mod labels; // a line's label, and the cursor after it
 pub mod line; // a line's reading
 mod results; // what an expression, operands and items come to
-
-// A line's label, by its place.
-pub enum LineLabel {
-    Absent,
-    Named(Name),
-}
 
 // What a line's statement comes to: what it is, with its operands, its value, or its cells and where its items begin; or the
 // first of the line's own checks that fails: refusal 4, 3, 5, 8, 6 or 7.
@@ -35,13 +29,13 @@ pub enum Statement {
 
 // A line's reading.
 pub struct LineRead {
-    pub label: LineLabel,
+    pub label: LabelIn,
     pub statement: Statement,
 }
 
 // A line's label, and the cursor after it.
 struct Labelled {
-    label: LineLabel,
+    label: LabelIn,
     next: Cursor,
 }
 
