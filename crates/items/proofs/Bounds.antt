@@ -6,13 +6,15 @@ use native.Mathlib.Omega.{arith}
 use lib.ListN.{length, length-append}
 use Rattle.numerals.specs.declared.Cursor.{Cursor}
 use Rattle.tokens.specs.Reading.{tokenAt, tokensFrom}
+use Rattle.tokens.specs.Commas.{followsOf}
+use Rattle.tokens.specs.declared.Follows.{Follows}
+use Rattle.tokens.specs.declared.Follows.the-variants.{Comma, Over, Neither}
+use Rattle.tokens.proofs.Parted.{comma-moves}
 use Rattle.items.specs.Items.{Item, itemCells, cellsOf}
 use Rattle.items.specs.Reading.{item, reads, walk}
-use Rattle.items.specs.Turns.{Standing, stands, none, itemAt, measured, followsOf}
-use Rattle.items.specs.declared.Follows.{Follows}
-use Rattle.items.specs.declared.Follows.the-variants.{Comma, Over, Neither}
+use Rattle.items.specs.Turns.{Standing, stands, none, itemAt, measured}
 use Rattle.items.proofs.Measures.{found-item}
-use Rattle.items.proofs.Walks.{itemOn, followsOn, item-turn, done-turn, comma-moves}
+use Rattle.items.proofs.Walks.{itemOn, followsOn, item-turn, done-turn}
 use Rattle.items.proofs.Readings.{never, un-cons}
 
 -- the cells of a row that begins at a place

@@ -10,15 +10,17 @@ use lib.ListN.{length, drop}
 use borrow.Author.Tests.{eqb-true}
 use Rattle.numerals.specs.declared.Radix.the-variants.{Decimal, Hexadecimal}
 use Rattle.tokens.specs.Strings.{Characters}
+use Rattle.tokens.specs.Marks.{IsMark, only}
 use Rattle.tokens.specs.Reading.{tokenAt, tokensFrom}
+use Rattle.tokens.specs.Commas.{onComma}
 use Rattle.tokens.specs.declared.Kind.{Kind}
 use Rattle.tokens.specs.declared.Kind.the-variants as K
 use Rattle.tokens.specs.declared.Token.{Token}
 use Rattle.tokens.proofs.Places.{token-placed}
-use Rattle.values.specs.Values.{IsMark, numeral, plain, minus}
+use Rattle.values.specs.Values.{numeral, plain, minus}
 use Rattle.values.proofs.Rows.{row-of, ends-of}
 use Rattle.items.specs.Items.{Item, number, ItemText, is-number, is-string, Items, one, more}
-use Rattle.items.specs.Reading.{characters, State, item, digits, done, Step, to, emit, halt, Result, reads, wrong, only, digitsStep, doneStep, cons, stepped, itemStep, step, walk}
+use Rattle.items.specs.Reading.{characters, State, item, digits, done, Step, to, emit, halt, Result, reads, wrong, digitsStep, cons, stepped, itemStep, step, walk}
 use Rattle.items.proofs.Counts.{characters-of}
 use Rattle.items.proofs.Measures.{quote-at}
 
@@ -94,7 +96,7 @@ module _ (line : List ℕ) where
   Stepped t cur (emit i) = ItemText line cur i × IsMark (code ",") t
   Stepped t cur halt = Unit
 
-  only-case : (t : Token) (cur : List Token) (x b : ℕ) (f : Step) → IsMark b t → (IsMark x t → Stepped t cur f) → Stepped t cur (only x f b)
+  only-case : (t : Token) (cur : List Token) (x b : ℕ) (f : Step) → IsMark b t → (IsMark x t → Stepped t cur f) → Stepped t cur (only halt x f b)
   only-case t cur x b f e h = go (eqb b x) refl
     where
       go : (y : Bool) → eqb b x ≡ y → Stepped t cur (cond y f halt)
@@ -124,7 +126,7 @@ module _ (line : List ℕ) where
       go (K.Mark b) d q r = tt
   step-read (done i) t cur w h = go (t .kind) refl
     where
-      go : (k : Kind) → t .kind ≡ k → Stepped t cur (doneStep i k)
+      go : (k : Kind) → t .kind ≡ k → Stepped t cur (onComma halt (emit i) k)
       go K.End q = tt
       go K.Stray q = tt
       go K.Word q = tt

@@ -1,5 +1,5 @@
 -- One turn of the code's loop is one item of the walk.
-use Prim.Native.Nat.{ℕ, _+_, _≤_, _<_}
+use Prim.Native.Nat.{ℕ, _+_}
 use Prim.Native.Char.{code}
 use mathlib.Core.Bool.{Bool, true, false, cond, _&&_, and-true}
 use mathlib.Core.List.{List, [], _∷_, _++_}
@@ -11,21 +11,21 @@ use lib.ListN.{length, drop, length-append}
 use Rattle.numerals.specs.declared.Cursor.{Cursor}
 use Rattle.numerals.specs.declared.Radix.the-variants.{Decimal, Hexadecimal}
 use Rattle.tokens.specs.Reading.{tokenAt, tokensFrom}
+use Rattle.tokens.specs.Commas.{onComma, followsBy, followsOf}
+use Rattle.tokens.specs.declared.Follows.{Follows}
+use Rattle.tokens.specs.declared.Follows.the-variants.{Comma, Over, Neither}
 use Rattle.tokens.specs.declared.Kind.{Kind}
 use Rattle.tokens.specs.declared.Kind.the-variants as K
 use Rattle.tokens.specs.declared.Token.{Token}
-use Rattle.tokens.proofs.Places.{token-placed}
 use Rattle.values.specs.Reading.{minusBy, minusAt, valueAt}
 use Rattle.values.specs.Values.{numeral}
 use Rattle.values.specs.declared.Value.the-variants.{Number, Label}
 use Rattle.values.specs.declared.ValueRead.{ValueRead}
 use Rattle.values.specs.declared.ValueRead.the-variants as R
-use Rattle.values.proofs.Rows.{row-of, ends-of}
+use Rattle.values.proofs.Rows.{row-of}
 use Rattle.items.specs.Items.{Item, number, string, itemCells, itemInRange, cellsOf, allInRange}
-use Rattle.items.specs.Reading.{characters, State, item, digits, done, Step, to, emit, halt, Result, reads, wrong, digitsStep, doneStep, cons, finish, stepped, itemStep, step, walk, judged, itemsRead}
-use Rattle.items.specs.Turns.{Standing, stands, none, itemBy, itemAt, measured, followsBy, followsOf, verdict}
-use Rattle.items.specs.declared.Follows.{Follows}
-use Rattle.items.specs.declared.Follows.the-variants.{Comma, Over, Neither}
+use Rattle.items.specs.Reading.{characters, State, item, digits, done, Step, to, emit, halt, Result, reads, wrong, digitsStep, cons, finish, stepped, itemStep, step, walk, judged, itemsRead}
+use Rattle.items.specs.Turns.{Standing, stands, none, itemBy, itemAt, measured, verdict}
 use Rattle.items.specs.declared.ItemRead.the-variants.{Absent}
 use Rattle.items.specs.declared.ItemsRead.the-variants.{Cells, WrongForm, OutOfRange}
 use Rattle.items.proofs.Measures.{FoundItem, no-item}
@@ -124,8 +124,8 @@ module _ (s : List ℕ) (at : ℕ) where
   unfolding walk
   done-turn i = go (tokenAt s at .kind) refl
     where
-      no : (k : Kind) → tokenAt s at .kind ≡ k → (k ≡ K.End → ⊥) → doneStep i k ≡ halt → walk s (done i) (tokensFrom s at) ≡ wrong
-      no k q n h = halted s at (done i) k q (λ z. absurd (n z)) (ap (doneStep i) q ∙ h)
+      no : (k : Kind) → tokenAt s at .kind ≡ k → (k ≡ K.End → ⊥) → onComma halt (emit i) k ≡ halt → walk s (done i) (tokensFrom s at) ≡ wrong
+      no k q n h = halted s at (done i) k q (λ z. absurd (n z)) (ap (λ (x : Kind). onComma halt (emit i) x) q ∙ h)
 
       mark : (b : ℕ) (y : Bool) → tokenAt s at .kind ≡ K.Mark b → eqb b (code ",") ≡ y
           → walk s (done i) (tokensFrom s at) ≡ followsOn s i (cond y (Comma (tokenAt s at .next)) Neither)
@@ -139,25 +139,6 @@ module _ (s : List ℕ) (at : ℕ) where
       go (K.Number v k) q = no (K.Number v k) q (λ z. let z′ : _≡_ {A = ℕ} 0 1 = cc in omega arith) refl
       go K.Text q = no K.Text q (λ z. let z′ : _≡_ {A = ℕ} 0 1 = cc in omega arith) refl
       go (K.Mark b) q = mark b (eqb b (code ",")) q refl
-
-  -- a comma takes a byte
-  pub comma-moves : {c : Cursor} → followsOf (tokenAt s at) ≡ Comma c → (at < c .at) × (c .at ≤ length s)
-  comma-moves {c} e = go (tokenAt s at .kind) refl e
-    where
-      go : (k : Kind) → tokenAt s at .kind ≡ k → followsBy k (tokenAt s at .next) ≡ Comma c → (at < c .at) × (c .at ≤ length s)
-      go K.End q e = let z : _≡_ {A = ℕ} 0 1 = cc in absurd (omega arith)
-      go K.Stray q e = let z : _≡_ {A = ℕ} 0 1 = cc in absurd (omega arith)
-      go K.Word q e = let z : _≡_ {A = ℕ} 0 1 = cc in absurd (omega arith)
-      go (K.Number v k) q e = let z : _≡_ {A = ℕ} 0 1 = cc in absurd (omega arith)
-      go K.Text q e = let z : _≡_ {A = ℕ} 0 1 = cc in absurd (omega arith)
-      go (K.Mark b) q e = mark (eqb b (code ",")) e
-        where
-          mark : (y : Bool) → cond y (Comma (tokenAt s at .next)) Neither ≡ Comma c → (at < c .at) × (c .at ≤ length s)
-          mark true e =
-              let p : tokenAt s at .next .at ≡ c .at = ap (λ (x : Cursor). x .at) (cc) in
-              let h = ends-of s at q in
-              (omega (arith, token-placed s at .starts, h .0), omega (arith, h .1))
-          mark false e = let z : _≡_ {A = ℕ} 0 1 = cc in absurd (omega arith)
 
 -- ---- the verdict on what is left
 

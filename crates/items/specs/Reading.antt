@@ -9,6 +9,8 @@ use Rattle.numerals.specs.declared.Radix.{Radix}
 use Rattle.numerals.specs.declared.Radix.the-variants.{Decimal, Hexadecimal}
 use Rattle.tokens.specs.Bytes.{isQuote}
 use Rattle.tokens.specs.Strings.{backslash}
+use Rattle.tokens.specs.Marks.{only}
+use Rattle.tokens.specs.Commas.{onComma}
 use Rattle.tokens.specs.declared.Kind.{Kind}
 use Rattle.tokens.specs.declared.Kind.the-variants as K
 use Rattle.tokens.specs.declared.Token.{Token}
@@ -42,9 +44,6 @@ pub data Result : Type 0 where
   reads : List Item → Result
   wrong : Result
 
-abbrev pub only : ℕ → Step → ℕ → Step
-only x f b = cond (eqb b x) f halt
-
 abbrev pub digitsStep : Kind → Bool → Step
 digitsStep K.End d = halt
 digitsStep K.Stray d = halt
@@ -53,14 +52,6 @@ digitsStep (K.Number v Decimal) d = cond d (to (done (number (numeral true Decim
 digitsStep (K.Number v Hexadecimal) d = halt
 digitsStep K.Text d = halt
 digitsStep (K.Mark b) d = halt
-
-abbrev pub doneStep : Item → Kind → Step
-doneStep i K.End = halt
-doneStep i K.Stray = halt
-doneStep i K.Word = halt
-doneStep i (K.Number v k) = halt
-doneStep i K.Text = halt
-doneStep i (K.Mark b) = only (code ",") (emit i) b
 
 abbrev pub cons : Item → Result → Result
 cons i (reads is) = reads (i ∷ is)
@@ -83,12 +74,12 @@ module _ (line : List ℕ) where
   itemStep K.Word t = halt
   itemStep (K.Number v k) t = to (done (number (numeral false k v)))
   itemStep K.Text t = to (done (string (characters (drop (t .start + 1) line))))
-  itemStep (K.Mark b) t = only (code "-") (to digits) b
+  itemStep (K.Mark b) t = only halt (code "-") (to digits) b
 
   abbrev pub step : State → Token → Step
   step item t = itemStep (t .kind) t
   step digits t = digitsStep (t .kind) (t .directly)
-  step (done i) t = doneStep i (t .kind)
+  step (done i) t = onComma halt (emit i) (t .kind)
 
   unfoldable pub walk : State → List Token → Result
   walk st [] = finish st

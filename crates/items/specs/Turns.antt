@@ -1,9 +1,7 @@
--- One turn of the reader's loop: the item at a place, and what follows it.
+-- One turn of the reader's loop: the item at a place, and the verdict on what is left.
 use Prim.Native.Nat.{ℕ, _+_}
-use Prim.Native.Char.{code}
 use mathlib.Core.Bool.{Bool, cond, _&&_}
 use mathlib.Core.List.{List}
-use lib.Dec.{eqb}
 use lib.ListN.{length, drop}
 use Rattle.numerals.specs.declared.Cursor.{Cursor}
 use Rattle.tokens.specs.Reading.{tokenAt}
@@ -16,8 +14,6 @@ use Rattle.values.specs.declared.ValueRead.{ValueRead}
 use Rattle.values.specs.declared.ValueRead.the-variants as R
 use Rattle.items.specs.Items.{Item, number, string, itemCells, itemInRange, cellsOf, allInRange}
 use Rattle.items.specs.Reading.{characters, Result, reads, wrong}
-use Rattle.items.specs.declared.Follows.{Follows}
-use Rattle.items.specs.declared.Follows.the-variants.{Comma, Over, Neither}
 use Rattle.items.specs.declared.ItemRead.{ItemRead}
 use Rattle.items.specs.declared.ItemRead.the-variants.{Found, Absent}
 use Rattle.items.specs.declared.ItemsRead.{ItemsRead}
@@ -52,18 +48,6 @@ itemAt s at = itemBy s at (valueAt s at)
 abbrev pub measured : Standing → ItemRead
 measured (stands i c) = Found (length (itemCells i)) (itemInRange i) c
 measured none = Absent
-
--- "by commas"
-abbrev pub followsBy : Kind → Cursor → Follows
-followsBy K.End c = Over
-followsBy K.Stray c = Neither
-followsBy K.Word c = Neither
-followsBy (K.Number v k) c = Neither
-followsBy K.Text c = Neither
-followsBy (K.Mark b) c = cond (eqb b (code ",")) (Comma c) Neither
-
-abbrev pub followsOf : Token → Follows
-followsOf t = followsBy (t .kind) (t .next)
 
 -- the verdict on what is left, with the cells and the ranges of what is read
 abbrev pub verdict : ℕ → Bool → Result → ItemsRead

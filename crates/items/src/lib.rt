@@ -3,7 +3,7 @@
 use numerals::Cursor;
 
 pub mod reading; // the items that follow DATA
-mod single; // one item, and what follows it
+mod single; // one item
 mod strings; // how many characters a string has
 
 // What the tokens after DATA are: so many cells, or refusal 3 or 6.
@@ -17,11 +17,4 @@ pub enum ItemsRead {
 enum ItemRead {
     Found(usize, bool, Cursor),
     Absent,
-}
-
-// What follows an item: a comma, with the cursor after it, the end, or neither.
-enum Follows {
-    Comma(Cursor),
-    Over,
-    Neither,
 }

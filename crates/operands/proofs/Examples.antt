@@ -17,13 +17,13 @@ use Rattle.names.specs.Names.{capital, isNamed, registers, placeIn, registerCod
 use Rattle.tokens.specs.Bytes.{isBlank, isMark}
 use Rattle.tokens.specs.Reading.{blanks, closing, tokenHere, tokenAt, tokensWithin, tokensFrom}
 use Rattle.values.specs.Ranges.{displacementOf}
+use Rattle.values.specs.declared.LabelIn.the-variants as L
 use Rattle.operands.specs.Walk.{starts, indexStep, walk, operandsOf}
 use Rattle.operands.specs.Checks.{fits, wordOf, labelIn, judged, instructionRead}
 use Rattle.operands.specs.Settling.{settledInstruction}
 use Rattle.operands.specs.declared.Given.{Given}
 use Rattle.operands.specs.declared.InstructionRead.{InstructionRead}
 use Rattle.operands.specs.declared.InstructionRead.the-variants.{Read, WrongForm, WrongOperands, OutOfRange}
-use Rattle.operands.specs.declared.LabelIn.the-variants as L
 
 -- what a line of operands alone is, after an opcode
 abbrev pub Says : Opcode → String → InstructionRead → Type 0

@@ -10,15 +10,16 @@ use borrow.Author.Tests.{eqb-true, ne-eqb, lt-ltb}
 use Rattle.numerals.specs.declared.Numeral.{Numeral}
 use Rattle.numerals.specs.declared.Radix.the-variants.{Decimal, Hexadecimal}
 use Rattle.isa.specs.Registers.{IX, IY, SP, isRegister}
+use Rattle.tokens.specs.Marks.{IsMark, onMark, only}
 use Rattle.tokens.specs.declared.Kind.{Kind}
 use Rattle.tokens.specs.declared.Kind.the-variants as K
 use Rattle.tokens.specs.declared.Token.{Token}
-use Rattle.values.specs.Values.{IsMark, numeral, nameAt, NumberText, plain, minus, ValueText, number, label}
+use Rattle.values.specs.Values.{numeral, nameAt, NumberText, plain, minus, ValueText, number, label}
 use Rattle.values.specs.declared.Value.{Value}
 use Rattle.values.specs.declared.Value.the-variants.{Number, Label}
 use Rattle.operands.specs.Operands as G
 use Rattle.operands.specs.Operands.{Index, by-IX, by-IY, by-SP, RegisterName, OperandText, Operands, one, more, OperandField, none, some}
-use Rattle.operands.specs.Walk.{Shape, hash, slash, dollar, State, operand, value, digits, afterHash, indexDot, indexName, registerName, indirectDot, indirectName, closing, done, put, Step, to, emit, halt, Result, reads, wrong, onMark, onWord, only, starts, valueStep, digitsStep, indexStep, cons, finish, stepped, codeAt, step, walk, operandsOf}
+use Rattle.operands.specs.Walk.{Shape, hash, slash, dollar, State, operand, value, digits, afterHash, indexDot, indexName, registerName, indirectDot, indirectName, closing, done, put, Step, to, emit, halt, Result, reads, wrong, onWord, starts, valueStep, digitsStep, indexStep, cons, finish, stepped, codeAt, step, walk, operandsOf}
 use Rattle.operands.specs.declared.Written.{Written}
 use Rattle.operands.specs.declared.Written.the-variants.{Immediate, Register, Memory, Indirect, IndexedX, IndexedY, IndexedSp, Relative}
 
@@ -146,10 +147,10 @@ module _ (line : List ℕ) where
   Stepped t cur (emit o) = OperandText line cur o × IsMark (code ",") t
   Stepped t cur halt = Unit
 
-  mark-case : (t : Token) (cur : List Token) (f : ℕ → Step) → ((b : ℕ) → IsMark b t → Stepped t cur (f b)) → Stepped t cur (onMark f (t .kind))
+  mark-case : (t : Token) (cur : List Token) (f : ℕ → Step) → ((b : ℕ) → IsMark b t → Stepped t cur (f b)) → Stepped t cur (onMark halt f (t .kind))
   mark-case t cur f h = go (t .kind) refl
     where
-      go : (k : Kind) → t .kind ≡ k → Stepped t cur (onMark f k)
+      go : (k : Kind) → t .kind ≡ k → Stepped t cur (onMark halt f k)
       go K.End q = tt
       go K.Stray q = tt
       go K.Word q = tt
@@ -160,7 +161,7 @@ module _ (line : List ℕ) where
   is-mark : (t : Token) (b x : ℕ) → IsMark b t → eqb b x ≡ true → IsMark x t
   is-mark t b x e q = e ∙ ap K.Mark (eqb-true b x q)
 
-  only-case : (t : Token) (cur : List Token) (x b : ℕ) (f : Step) → IsMark b t → (IsMark x t → Stepped t cur f) → Stepped t cur (only x f b)
+  only-case : (t : Token) (cur : List Token) (x b : ℕ) (f : Step) → IsMark b t → (IsMark x t → Stepped t cur f) → Stepped t cur (only halt x f b)
   only-case t cur x b f e h = go (eqb b x) refl
     where
       go : (y : Bool) → eqb b x ≡ y → Stepped t cur (cond y f halt)
@@ -259,24 +260,24 @@ module _ (line : List ℕ) where
   step-passed (value k) t cur h = value-case k t cur h
   step-passed (digits k) t cur h = digits-case k t cur h
   step-passed (afterHash v) t cur h =
-      mark-case t cur (λ b. cond (eqb b (code "[")) (to (indexDot v)) (only (code ",") (emit (Immediate v)) b)) (λ b e. go b e (eqb b (code "[")) refl)
+      mark-case t cur (λ b. cond (eqb b (code "[")) (to (indexDot v)) (only halt (code ",") (emit (Immediate v)) b)) (λ b e. go b e (eqb b (code "[")) refl)
     where
-      go : (b : ℕ) → IsMark b t → (y : Bool) → eqb b (code "[") ≡ y → Stepped t cur (cond y (to (indexDot v)) (only (code ",") (emit (Immediate v)) b))
+      go : (b : ℕ) → IsMark b t → (y : Bool) → eqb b (code "[") ≡ y → Stepped t cur (cond y (to (indexDot v)) (only halt (code ",") (emit (Immediate v)) b))
       go b e true q = λ d u z r o ed n i ez. rw append-assoc (h .1 t d u z r o (is-mark t b (code "[") e q) ed n i ez)
       go b e false q = only-case t cur (code ",") b (emit (Immediate v)) e (λ x. (h .0, x))
   step-passed (indexDot v) t cur h =
-      mark-case t cur (only (code ".") (to (indexName v)))
+      mark-case t cur (only halt (code ".") (to (indexName v)))
       (λ b e. only-case t cur (code ".") b (to (indexName v)) e (λ x u z r o n i ez. rw append-assoc (h t u z r o x n i ez)))
   step-passed (indexName v) t cur h = word-case t cur (indexStep v (codeAt line t)) (λ e. index-case v t cur h e)
   step-passed registerName t cur h = name-case t cur (to (done (Register (codeAt line t)))) (λ n. h t (codeAt line t) n)
   step-passed indirectDot t cur h =
-      mark-case t cur (only (code ".") (to indirectName))
+      mark-case t cur (only halt (code ".") (to indirectName))
       (λ b e. only-case t cur (code ".") b (to indirectName) e (λ x u z r n ez. rw append-assoc (h t u z r x n ez)))
   step-passed indirectName t cur h =
       name-case t cur (to (closing (Indirect (codeAt line t)))) (λ n z ez. rw append-assoc (h t z (codeAt line t) n ez))
   step-passed (closing o) t cur h =
-      mark-case t cur (only (code "]") (to (done o))) (λ b e. only-case t cur (code "]") b (to (done o)) e (λ x. h t x))
-  step-passed (done o) t cur h = mark-case t cur (only (code ",") (emit o)) (λ b e. only-case t cur (code ",") b (emit o) e (λ x. (h, x)))
+      mark-case t cur (only halt (code "]") (to (done o))) (λ b e. only-case t cur (code "]") b (to (done o)) e (λ x. h t x))
+  step-passed (done o) t cur h = mark-case t cur (only halt (code ",") (emit o)) (λ b e. only-case t cur (code ",") b (emit o) e (λ x. (h, x)))
 
   end-sound : (st : State) (cur : List Token) (os : List Written) → Passed st cur → finish st ≡ reads os → Operands line cur os
   end-sound operand cur os h e = absurd (never e)

@@ -9,8 +9,8 @@ use Rattle.values.specs.declared.Name.{Name}
 use Rattle.operands.specs.Checks.{operandWith, labelIn, given}
 use Rattle.operands.specs.Settling.{reworded, settledBy, settledOperand}
 use Rattle.operands.specs.declared.Given.{Given}
-use Rattle.operands.specs.declared.LabelIn.{LabelIn}
-use Rattle.operands.specs.declared.LabelIn.the-variants as L
+use Rattle.values.specs.declared.LabelIn.{LabelIn}
+use Rattle.values.specs.declared.LabelIn.the-variants as L
 use Rattle.operands.specs.declared.Written.{Written}
 use Rattle.operands.specs.declared.Written.the-variants.{Absent, Immediate, Register, Memory, Indirect, IndexedX, IndexedY, IndexedSp, Relative}
 

@@ -21,7 +21,7 @@ use Rattle.operands.specs.Checks.{operandWith, operandAt, labelIn, given
 use Rattle.operands.specs.Settling.{settledOperand, settledInstruction}
 use Rattle.operands.specs.declared.Given.{Given}
 use Rattle.operands.specs.declared.InstructionRead.the-variants.{Read}
-use Rattle.operands.specs.declared.LabelIn.the-variants as L
+use Rattle.values.specs.declared.LabelIn.the-variants as L
 use Rattle.operands.specs.declared.Written.{Written}
 use Rattle.operands.proofs.Readings as Readings
 use Rattle.operands.proofs.Exactly as Exactly

@@ -10,6 +10,7 @@ use lib.ListN.{length}
 use Rattle.numerals.specs.declared.Cursor.{Cursor}
 use Rattle.numerals.specs.declared.Radix.the-variants.{Decimal, Hexadecimal}
 use Rattle.isa.specs.Registers.{isRegister}
+use Rattle.tokens.specs.Marks.{onMark}
 use Rattle.tokens.specs.Reading.{tokenAt, tokensFrom}
 use Rattle.tokens.specs.declared.Kind.{Kind}
 use Rattle.tokens.specs.declared.Kind.the-variants as K
@@ -21,7 +22,7 @@ use Rattle.values.specs.declared.Value.the-variants.{Number, Label}
 use Rattle.values.specs.declared.ValueRead.{ValueRead}
 use Rattle.values.specs.declared.ValueRead.the-variants as V′
 use Rattle.values.proofs.Rows.{row-of, ends-of}
-use Rattle.operands.specs.Walk.{Shape, State, value, digits, put, Step, to, halt, Result, wrong, onMark, onWord, valueStep, digitsStep, finish, stepped, codeAt, step, walk}
+use Rattle.operands.specs.Walk.{Shape, State, value, digits, put, Step, to, halt, Result, wrong, onWord, valueStep, digitsStep, finish, stepped, codeAt, step, walk}
 use Rattle.operands.specs.Peeks.{markBy, markOf, registerBy, registerOf}
 use Rattle.operands.specs.declared.MarkRead.the-variants as M
 use Rattle.operands.specs.declared.RegisterRead.the-variants as R
@@ -78,20 +79,20 @@ module _ (s : List ℕ) (at : ℕ) where
       let p = token-placed s at .starts in
       (row-of s at (m .0) ∙ ap (λ (n : ℕ). tokenAt s at ∷ tokensFrom s n) q, m .0, omega arith, omega arith)
 
-  module _ (st : State) (f : ℕ → Step) (p : (u : Token) → step s st u ≡ onMark f (u .kind)) where
+  module _ (st : State) (f : ℕ → Step) (p : (u : Token) → step s st u ≡ onMark halt f (u .kind)) where
     pub on-mark : (b : ℕ) (c : Cursor) → markOf (tokenAt s at) ≡ M.Is b c
         → walk s st (tokensFrom s at) ≡ stepped (f b) (λ x. walk s x (tokensFrom s (c .at)))
     unfolding walk
     on-mark b c e =
         let h = mark-row b c e in
-        let q : step s st (tokenAt s at) ≡ f b = p (tokenAt s at) ∙ ap (λ (k : Kind). onMark f k) (h .1) in
+        let q : step s st (tokenAt s at) ≡ f b = p (tokenAt s at) ∙ ap (λ (k : Kind). onMark halt f k) (h .1) in
         rw (h .0) (ap (λ (x : Step). stepped x (λ y. walk s y (tokensFrom s (c .at)))) q)
 
     -- no mark, where only a mark may be
     pub off-mark : finish st ≡ wrong → markOf (tokenAt s at) ≡ M.Absent → walk s st (tokensFrom s at) ≡ wrong
     off-mark z e = halted st z (p (tokenAt s at) ∙ go (tokenAt s at .kind) e)
       where
-        go : (k : Kind) → markBy k (tokenAt s at .next) ≡ M.Absent → onMark f k ≡ halt
+        go : (k : Kind) → markBy k (tokenAt s at .next) ≡ M.Absent → onMark halt f k ≡ halt
         go K.End e = refl
         go K.Stray e = refl
         go K.Word e = refl

@@ -16,8 +16,8 @@ use Rattle.operands.specs.Operands.{Index, by-IX, by-IY, by-SP, OperandT
 use Rattle.operands.specs.Checks.{operandAt, labelOf, labelIn, instructionRead}
 use Rattle.operands.specs.declared.Given.{Given}
 use Rattle.operands.specs.declared.InstructionRead.the-variants.{Read}
-use Rattle.operands.specs.declared.LabelIn.{LabelIn}
-use Rattle.operands.specs.declared.LabelIn.the-variants as L
+use Rattle.values.specs.declared.LabelIn.{LabelIn}
+use Rattle.values.specs.declared.LabelIn.the-variants as L
 use Rattle.operands.specs.declared.Written.{Written}
 use Rattle.operands.proofs.Exactly.{tells}
 

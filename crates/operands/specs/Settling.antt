@@ -5,8 +5,8 @@ use Rattle.isa.specs.declared.Opcode.{Opcode}
 use Rattle.isa.specs.declared.Operand.{Operand}
 use Rattle.isa.specs.declared.Operand.the-variants as O
 use Rattle.operands.specs.declared.Given.{Given}
-use Rattle.operands.specs.declared.LabelIn.{LabelIn}
-use Rattle.operands.specs.declared.LabelIn.the-variants as L
+use Rattle.values.specs.declared.LabelIn.{LabelIn}
+use Rattle.values.specs.declared.LabelIn.the-variants as L
 
 -- an operand of the same kind, with another word
 abbrev pub reworded : Operand → ℕ → Operand

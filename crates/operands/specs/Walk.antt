@@ -8,6 +8,8 @@ use lib.Dec.{eqb}
 use Rattle.numerals.specs.declared.Radix.the-variants.{Decimal, Hexadecimal}
 use Rattle.isa.specs.Registers.{IX, IY, SP, isRegister}
 use Rattle.names.specs.Names.{registerCode}
+use Rattle.tokens.specs.Marks.{onMark, only}
+use Rattle.tokens.specs.Commas.{onComma}
 use Rattle.tokens.specs.declared.Kind.{Kind}
 use Rattle.tokens.specs.declared.Kind.the-variants as K
 use Rattle.tokens.specs.declared.Token.{Token}
@@ -50,14 +52,6 @@ put hash v = afterHash v
 put slash v = done (Memory v)
 put dollar v = done (Relative v)
 
-abbrev pub onMark : (ℕ → Step) → Kind → Step
-onMark f K.End = halt
-onMark f K.Stray = halt
-onMark f K.Word = halt
-onMark f (K.Number v k) = halt
-onMark f K.Text = halt
-onMark f (K.Mark b) = f b
-
 abbrev pub onWord : Step → Kind → Step
 onWord f K.End = halt
 onWord f K.Stray = halt
@@ -65,9 +59,6 @@ onWord f K.Word = f
 onWord f (K.Number v k) = halt
 onWord f K.Text = halt
 onWord f (K.Mark b) = halt
-
-abbrev pub only : ℕ → Step → ℕ → Step
-only x f b = cond (eqb b x) f halt
 
 unfoldable pub starts : ℕ → Step
 starts b =
@@ -83,7 +74,7 @@ valueStep k K.Stray t = halt
 valueStep k K.Word t = to (put k (Label (nameAt t)))
 valueStep k (K.Number v r) t = to (put k (Number (numeral false r v)))
 valueStep k K.Text t = halt
-valueStep k (K.Mark b) t = only (code "-") (to (digits k)) b
+valueStep k (K.Mark b) t = only halt (code "-") (to (digits k)) b
 
 abbrev pub digitsStep : Shape → Kind → Bool → Step
 digitsStep k K.End d = halt
@@ -129,17 +120,17 @@ module _ (line : List ℕ) where
   codeAt t = registerCode (wordAt line t)
 
   abbrev pub step : State → Token → Step
-  step operand t = onMark starts (t .kind)
+  step operand t = onMark halt starts (t .kind)
   step (value k) t = valueStep k (t .kind) t
   step (digits k) t = digitsStep k (t .kind) (t .directly)
-  step (afterHash v) t = onMark (λ b. cond (eqb b (code "[")) (to (indexDot v)) (only (code ",") (emit (Immediate v)) b)) (t .kind)
-  step (indexDot v) t = onMark (only (code ".") (to (indexName v))) (t .kind)
+  step (afterHash v) t = onMark halt (λ b. cond (eqb b (code "[")) (to (indexDot v)) (only halt (code ",") (emit (Immediate v)) b)) (t .kind)
+  step (indexDot v) t = onMark halt (only halt (code ".") (to (indexName v))) (t .kind)
   step (indexName v) t = onWord (indexStep v (codeAt t)) (t .kind)
   step registerName t = onWord (cond (isRegister (codeAt t)) (to (done (Register (codeAt t)))) halt) (t .kind)
-  step indirectDot t = onMark (only (code ".") (to indirectName)) (t .kind)
+  step indirectDot t = onMark halt (only halt (code ".") (to indirectName)) (t .kind)
   step indirectName t = onWord (cond (isRegister (codeAt t)) (to (closing (Indirect (codeAt t)))) halt) (t .kind)
-  step (closing o) t = onMark (only (code "]") (to (done o))) (t .kind)
-  step (done o) t = onMark (only (code ",") (emit o)) (t .kind)
+  step (closing o) t = onMark halt (only halt (code "]") (to (done o))) (t .kind)
+  step (done o) t = onComma halt (emit o) (t .kind)
 
   unfoldable pub walk : State → List Token → Result
   walk st [] = finish st

@@ -2,7 +2,7 @@
 // meaning is in specs/: Operands.antt, Checks.antt and Settling.antt.
 use isa::Operand;
 use numerals::Cursor;
-use values::Name;
+use values::LabelIn;
 use values::Value;
 
 pub mod instruction; // the operands that follow an opcode
@@ -22,12 +22,6 @@ pub enum Written {
     IndexedY(Value),
     IndexedSp(Value),
     Relative(Value),
-}
-
-// The label that an operand names, if it does.
-pub enum LabelIn {
-    Absent,
-    Named(Name),
 }
 
 // An operand with its word. A label's value takes the place of a word 0 when labels are settled.
@@ -60,13 +54,6 @@ enum RegisterRead {
 enum OperandRead {
     Read(Written, Cursor),
     Wrong,
-}
-
-// What stands between operands, or after the last.
-enum Between {
-    Comma(Cursor),
-    Over,
-    Neither,
 }
 
 // The first two of a list of operands, and how many they are, up to 3: no opcode has three.

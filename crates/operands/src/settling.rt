@@ -2,10 +2,10 @@
 ghost use mathlib.Core.Path.{_≡_};
 ghost use Rattle.operands.specs.Settling.{reworded, settledOperand, settledInstruction};
 use super::Given;
-use super::LabelIn;
 use isa::Instruction;
 use isa::Opcode;
 use isa::Operand;
+use values::LabelIn;
 
 fn with_word(o: Operand, word: u16) -> Operand
     ensures { λ r. ⌜ r ≡ reworded o word ⌝ }

@@ -8,11 +8,11 @@ use isa::Opcode;
 use isa::Operand;
 use isa::opcodes::row;
 use operands::Given;
-use operands::LabelIn;
 use statements::Statement;
 use statements::StatementRead;
 use statements::line::read_line;
 use statements::refusals::number_of;
+use values::LabelIn;
 
 // An operand's kind and word, by the format's numbers.
 fn operand(out: &mut [u8], at: usize, o: Operand) -> usize {

@@ -11,7 +11,7 @@ use Rattle.names.specs.Names.{wordOf}
 use Rattle.names.specs.declared.Word.{Word}
 use Rattle.values.proofs.Rows.{row-of}
 use Rattle.operands.specs.Operands.{wordAt}
-use Rattle.operands.specs.declared.LabelIn.the-variants.{Named}
+use Rattle.values.specs.declared.LabelIn.the-variants.{Named}
 use Rattle.statements.specs.Reading.{isWord, isColon, labelled, labelRead, afterLabel, byWord, statementRead}
 use Rattle.statements.specs.Parts.{nowhere, LabelDone}
 use Rattle.statements.specs.declared.Labelled.{Labelled}

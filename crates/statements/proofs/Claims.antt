@@ -10,7 +10,7 @@ use Rattle.expressions.specs.Reading as Expressions
 use Rattle.expressions.specs.declared.ExpressionRead.{ExpressionRead}
 use Rattle.expressions.specs.declared.ExpressionRead.the-variants as E
 use Rattle.expressions.specs.declared.Worth.the-variants as W
-use Rattle.operands.specs.declared.LabelIn.{LabelIn}
+use Rattle.values.specs.declared.LabelIn.{LabelIn}
 use Rattle.items.specs.Items.{Item, cellsOf, allInRange}
 use Rattle.items.specs.Reading as Items
 use Rattle.items.specs.declared.ItemsRead.{ItemsRead}

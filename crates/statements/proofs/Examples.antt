@@ -26,8 +26,8 @@ use Rattle.operands.specs.Walk as Walk
 use Rattle.operands.specs.Checks.{fits, labelIn, instructionRead}
 use Rattle.operands.specs.Checks as Operands
 use Rattle.operands.specs.declared.Given.{Given}
-use Rattle.operands.specs.declared.LabelIn.{LabelIn}
-use Rattle.operands.specs.declared.LabelIn.the-variants.{Absent, Named}
+use Rattle.values.specs.declared.LabelIn.{LabelIn}
+use Rattle.values.specs.declared.LabelIn.the-variants.{Absent, Named}
 use Rattle.items.specs.Items.{cellsOf, allInRange}
 use Rattle.items.specs.Reading.{characters, newline, itemsRead}
 use Rattle.items.specs.Reading as Items

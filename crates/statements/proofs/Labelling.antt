@@ -14,7 +14,7 @@ use Rattle.tokens.specs.declared.Token.{Token}
 use Rattle.values.specs.Values.{nameAt}
 use Rattle.values.specs.declared.Name.{Name}
 use Rattle.values.proofs.Rows.{row-head}
-use Rattle.operands.specs.declared.LabelIn.the-variants.{Absent, Named}
+use Rattle.values.specs.declared.LabelIn.the-variants.{Absent, Named}
 use Rattle.statements.specs.Statements.{Label, label}
 use Rattle.statements.specs.Reading.{isWord, isColon, labelled, labelRead, afterLabel}
 

@@ -13,7 +13,7 @@ use Rattle.tokens.proofs.Places.{EndsAt}
 use Rattle.tokens.proofs.Top.{line-row, one-row, row-ordered}
 use Rattle.values.specs.declared.Name.{Name}
 use Rattle.operands.specs.Operands.{OperandField}
-use Rattle.operands.specs.declared.LabelIn.{LabelIn}
+use Rattle.values.specs.declared.LabelIn.{LabelIn}
 use Rattle.operands.specs.declared.Written.{Written}
 use Rattle.items.specs.Items.{Item, Items, cellsOf}
 use Rattle.items.proofs.Bounds as Items

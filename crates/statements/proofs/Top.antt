@@ -18,8 +18,8 @@ use Rattle.expressions.specs.Reading as Expressions
 use Rattle.expressions.specs.declared.ExpressionRead.{ExpressionRead}
 use Rattle.expressions.specs.declared.Worth.the-variants as E
 use Rattle.operands.specs.Checks.{fits, operandAt, wordOf, given}
-use Rattle.operands.specs.declared.LabelIn.{LabelIn}
-use Rattle.operands.specs.declared.LabelIn.the-variants.{Absent, Named}
+use Rattle.values.specs.declared.LabelIn.{LabelIn}
+use Rattle.values.specs.declared.LabelIn.the-variants.{Absent, Named}
 use Rattle.operands.specs.declared.Written.{Written}
 use Rattle.items.specs.Items.{Item, cellsOf, allInRange}
 use Rattle.items.specs.Reading as Items

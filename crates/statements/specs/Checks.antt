@@ -13,7 +13,7 @@ use Rattle.expressions.specs.Trees.{Tree, depth, deepest}
 use Rattle.expressions.specs.Worths.{worthOf}
 use Rattle.expressions.specs.declared.Worth.the-variants as E
 use Rattle.operands.specs.Checks.{fits, operandAt, wordOf}
-use Rattle.operands.specs.declared.LabelIn.{LabelIn}
+use Rattle.values.specs.declared.LabelIn.{LabelIn}
 use Rattle.operands.specs.declared.Written.{Written}
 use Rattle.items.specs.Items.{allInRange}
 use Rattle.statements.specs.Statements.{Reading, nothing, instruction, org, equ, res, cells, end, Says, UnknownWord, NoReading}

@@ -18,8 +18,8 @@ use Rattle.expressions.specs.declared.ExpressionRead.{ExpressionRead}
 use Rattle.expressions.specs.declared.ExpressionRead.the-variants as E
 use Rattle.operands.specs.Operands.{wordAt}
 use Rattle.operands.specs.Checks.{instructionRead}
-use Rattle.operands.specs.declared.LabelIn.{LabelIn}
-use Rattle.operands.specs.declared.LabelIn.the-variants.{Absent, Named}
+use Rattle.values.specs.declared.LabelIn.{LabelIn}
+use Rattle.values.specs.declared.LabelIn.the-variants.{Absent, Named}
 use Rattle.items.specs.Reading.{itemsRead}
 use Rattle.items.specs.declared.ItemsRead.{ItemsRead}
 use Rattle.items.specs.declared.ItemsRead.the-variants as I

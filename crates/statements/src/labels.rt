@@ -4,9 +4,9 @@ ghost use Rattle.statements.specs.Reading.{isWord, isColon};
 ghost use Rattle.statements.specs.Parts.{nowhere, LabelDone};
 use super::Labelled;
 use numerals::Cursor;
-use operands::LabelIn;
 use tokens::Kind;
 use tokens::tokens::next_token;
+use values::LabelIn;
 use values::Name;
 
 fn is_word(k: Kind) -> bool

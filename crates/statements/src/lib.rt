@@ -3,7 +3,7 @@
 use isa::Opcode;
 use numerals::Cursor;
 use operands::Given;
-use operands::LabelIn;
+use values::LabelIn;
 
 mod labels; // a line's label, and the cursor after it
 pub mod line; // a line's reading

@@ -8,14 +8,12 @@ use mathlib.Core.Path.{_≡_}
 use Rattle.numerals.specs.declared.Numeral.{Numeral}
 use Rattle.numerals.specs.declared.Radix.{Radix}
 use Rattle.numerals.specs.declared.Radix.the-variants.{Decimal}
+use Rattle.tokens.specs.Marks.{IsMark}
 use Rattle.tokens.specs.declared.Kind.the-variants as K
 use Rattle.tokens.specs.declared.Token.{Token}
 use Rattle.values.specs.declared.Name.{Name}
 use Rattle.values.specs.declared.Value.{Value}
 use Rattle.values.specs.declared.Value.the-variants.{Number, Label}
-
-abbrev pub IsMark : ℕ → Token → Type 0
-IsMark b t = t .kind ≡ K.Mark b
 
 abbrev pub numeral : Bool → Radix → ℕ → Numeral
 numeral below k v = record { negative = below; radix = k; magnitude = v }

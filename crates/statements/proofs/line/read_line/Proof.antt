@@ -1,7 +1,7 @@
 -- The label and the tokens behind it are what `label` found, and the statement is read from there.
 use borrow.Author.Needs.{needs}
 use mathlib.Core.Path.{ap, ap₂, _∙_}
-use Rattle.operands.specs.declared.LabelIn.{LabelIn}
+use Rattle.values.specs.declared.LabelIn.{LabelIn}
 use Rattle.statements.specs.Reading.{statementRead, lineRead}
 use Rattle.statements.specs.declared.LineRead.{LineRead}
 use Rattle.statements.specs.declared.StatementRead.{StatementRead}
