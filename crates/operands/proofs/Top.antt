@@ -114,6 +114,6 @@ kind-stays = Settled.kind-stays
 pub examples : Examples
 examples = Examples.examples
 
--- Every promise of this crate is an equation with its meaning: two replies that meet it coincide.
+-- The promises of `instruction`, `settled` and `settled_instruction` are equations with their meanings: two replies that meet one coincide.
 pub coincide : {A : Type 0} {meaning r r′ : A} → r ≡ meaning → r′ ≡ meaning → r ≡ r′
 coincide p q = p ∙ sym q
