@@ -5,5 +5,6 @@ pub mod Walks
 pub mod Readings
 pub mod Bounds
 pub mod Verdicts
+pub mod Writes
 pub mod Examples
 pub mod Top
