@@ -7,22 +7,32 @@ use native.Mathlib.Nat.{add-zero}
 use native.Mathlib.Omega.{arith}
 use lib.ListN.{length, drop, set, length-drop}
 use lib.Seq.{sets}
+use mir.Syntax.{w16}
+use mir.Val.{ofZ}
+use Rattle.numerals.specs.Numbers.{valueOf, inRange, keptOf}
 use Rattle.numerals.specs.declared.Cursor.{Cursor}
+use Rattle.numerals.specs.declared.Kept.the-variants.{Cell, OutOfRange}
+use Rattle.numerals.specs.declared.Numeral.{Numeral}
 use Rattle.tokens.specs.Strings.{Characters}
 use Rattle.tokens.specs.Reading.{characterAt, tokenAt, tokensFrom}
 use Rattle.tokens.specs.declared.Character.the-variants.{Stands, Closed, Broken}
 use Rattle.tokens.specs.declared.Kind.the-variants as K
 use Rattle.tokens.specs.declared.Token.{Token}
 use Rattle.tokens.proofs.Quoted.{Inside, character-means, ReadAt, characters-read}
-use Rattle.items.specs.Items.{Item, itemCells, itemInRange, cellsOf, allInRange}
+use Rattle.values.specs.Reading.{valueAt}
+use Rattle.values.specs.declared.Name.{Name}
+use Rattle.values.specs.declared.Value.the-variants.{Number, Label}
+use Rattle.values.specs.declared.ValueRead.{ValueRead}
+use Rattle.values.specs.declared.ValueRead.the-variants as R
+use Rattle.items.specs.Items.{Item, number, itemCells, itemInRange, cellsOf, allInRange}
 use Rattle.items.specs.Reading.{characters, item, Result, reads, wrong, cons, walk}
-use Rattle.items.specs.Turns.{stringAt, itemAt, measured, followsOf}
+use Rattle.items.specs.Turns.{stringAt, itemBy, itemAt, measured, followsOf}
 use Rattle.items.specs.Writing.{cellsIn, cellsFrom, accepted, cellsAt}
 use Rattle.items.specs.declared.Follows.{Follows}
 use Rattle.items.specs.declared.Follows.the-variants.{Comma, Over, Neither}
 use Rattle.items.specs.declared.ItemRead.the-variants.{Absent}
 use Rattle.items.proofs.Counts.{characters-fit}
-use Rattle.items.proofs.Measures.{quote-at, FoundItem, no-item}
+use Rattle.items.proofs.Measures.{kept-in, kept-out, quote-at, FoundItem, no-item}
 use Rattle.items.proofs.Walks.{itemOn, followsOn, item-turn, done-turn}
 
 -- a row written after another
@@ -86,6 +96,42 @@ text-written s at {t} row to {ms} e q f =
     let w : ms ≡ sets row to (characters (drop (t .start + 1) s) ++ (0 ∷ [])) = f (h .cs) (drop (t .next .at) s) (h .reads) ∙ rw (h .same) in
     w ∙ rw (← e, q)
 
+-- ---- an item at a place
+
+-- "kept modulo 65536"
+pub number-cell : (n : Numeral) {x : ℕ} → keptOf n ≡ Cell x → itemCells (number n) ≡ x ∷ []
+unfolding keptOf
+number-cell n {x} e = go (inRange (valueOf n)) e
+  where
+    go : (b : Bool) → cond b (Cell (ofZ w16 (valueOf n))) OutOfRange ≡ Cell x → itemCells (number n) ≡ x ∷ []
+    go true e = cc
+    go false e = let z : _≡_ {A = ℕ} 0 1 = cc in absurd (omega arith)
+
+module _ (s : List ℕ) (at : ℕ) (row : List ℕ) (to : ℕ) where
+  -- what is written where a value stands
+  by-value : {r : ValueRead} → valueAt s at ≡ r → sets row to (cellsAt (itemAt s at)) ≡ sets row to (cellsAt (itemBy s at r))
+  unfolding itemAt
+  by-value e = ap (λ (r : ValueRead). sets row to (cellsAt (itemBy s at r))) e
+
+  by-range : (n : Numeral) {c : Cursor} {b : Bool} → valueAt s at ≡ R.Found (Number n) c → inRange (valueOf n) ≡ b
+      → sets row to (cellsAt (itemAt s at)) ≡ sets row to (cond b (itemCells (number n)) [])
+  by-range n e q = by-value e ∙ ap (λ (b : Bool). sets row to (cond b (itemCells (number n)) [])) q
+
+  pub number-written : {n : Numeral} {c : Cursor} {x : ℕ} {ms : List ℕ} → valueAt s at ≡ R.Found (Number n) c → keptOf n ≡ Cell x
+      → ms ≡ set row to x → ms ≡ sets row to (cellsAt (itemAt s at))
+  number-written {n} e k w = w ∙ sym (by-range n e (kept-in n k) ∙ ap (sets row to) (number-cell n k))
+
+  pub number-out : {n : Numeral} {c : Cursor} → valueAt s at ≡ R.Found (Number n) c → keptOf n ≡ OutOfRange
+      → row ≡ sets row to (cellsAt (itemAt s at))
+  number-out {n} e k = sym (by-range n e (kept-out n k))
+
+  pub label-written : {w : Name} {c : Cursor} → valueAt s at ≡ R.Found (Label w) c → row ≡ sets row to (cellsAt (itemAt s at))
+  label-written e = sym (by-value e)
+
+  pub other-written : {ms : List ℕ} → valueAt s at ≡ R.Absent → ms ≡ sets row to (cellsAt (stringAt s (tokenAt s at)))
+      → ms ≡ sets row to (cellsAt (itemAt s at))
+  other-written e w = w ∙ sym (by-value e)
+
 -- ---- the items of a row
 
 -- the first item's cells, and those of the rest
@@ -136,7 +182,9 @@ module _ (s : List ℕ) (at : ℕ) (ok : accepted (walk s item (tokensFrom s at)
     pub next-accepted : {d : Cursor} → followsOf (tokenAt s (c .at)) ≡ Comma d → accepted (walk s item (tokensFrom s (d .at))) ≡ true
     next-accepted {d} e = headed (walk s item (tokensFrom s (d .at))) (walked e) .rest
 
-    pub next-written : (row : List ℕ) (to : ℕ) {ms : List ℕ} {d : Cursor} → followsOf (tokenAt s (c .at)) ≡ Comma d
-        → ms ≡ sets row to (cellsAt (itemAt s at)) → sets row to (cellsFrom s (tokensFrom s at)) ≡ sets ms (to + m) (cellsFrom s (tokensFrom s (d .at)))
+    pub next-written : (row : List ℕ) (to : ℕ) {ms : List ℕ} {d : Cursor} {n : ℕ} → followsOf (tokenAt s (c .at)) ≡ Comma d
+        → ms ≡ sets row to (cellsAt (itemAt s at)) → n ≡ to + m
+        → sets row to (cellsFrom s (tokensFrom s at)) ≡ sets ms n (cellsFrom s (tokensFrom s (d .at)))
     unfolding cellsFrom
-    next-written row to {d = d} e w = written row to (walk s item (tokensFrom s (d .at))) (walked e) w
+    next-written row to {ms} {d} e w q =
+        written row to (walk s item (tokensFrom s (d .at))) (walked e) w ∙ ap (λ (x : ℕ). sets ms x (cellsIn (walk s item (tokensFrom s (d .at))))) (sym q)
