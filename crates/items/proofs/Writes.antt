@@ -11,7 +11,7 @@ use mir.Syntax.{w16}
 use mir.Val.{ofZ}
 use Rattle.numerals.specs.Numbers.{valueOf, inRange, keptOf}
 use Rattle.numerals.specs.declared.Cursor.{Cursor}
-use Rattle.numerals.specs.declared.Kept.the-variants.{Cell, OutOfRange}
+use Rattle.numerals.specs.declared.Kept.the-variants as Kept
 use Rattle.numerals.specs.declared.Numeral.{Numeral}
 use Rattle.tokens.specs.Strings.{Characters}
 use Rattle.tokens.specs.Reading.{characterAt, tokenAt, tokensFrom}
@@ -25,12 +25,14 @@ use Rattle.values.specs.declared.Value.the-variants.{Number, Label}
 use Rattle.values.specs.declared.ValueRead.{ValueRead}
 use Rattle.values.specs.declared.ValueRead.the-variants as R
 use Rattle.items.specs.Items.{Item, number, itemCells, itemInRange, cellsOf, allInRange}
-use Rattle.items.specs.Reading.{characters, item, Result, reads, wrong, cons, walk}
+use Rattle.items.specs.Reading.{characters, item, Result, reads, wrong, cons, walk, judged, itemsRead}
 use Rattle.items.specs.Turns.{stringAt, itemBy, itemAt, measured, followsOf}
 use Rattle.items.specs.Writing.{cellsIn, cellsFrom, accepted, cellsAt}
 use Rattle.items.specs.declared.Follows.{Follows}
 use Rattle.items.specs.declared.Follows.the-variants.{Comma, Over, Neither}
 use Rattle.items.specs.declared.ItemRead.the-variants.{Absent}
+use Rattle.items.specs.declared.ItemsRead.{ItemsRead}
+use Rattle.items.specs.declared.ItemsRead.the-variants.{Cells, WrongForm, OutOfRange}
 use Rattle.items.proofs.Counts.{characters-fit}
 use Rattle.items.proofs.Measures.{kept-in, kept-out, quote-at, FoundItem, no-item}
 use Rattle.items.proofs.Walks.{itemOn, followsOn, item-turn, done-turn}
@@ -99,11 +101,11 @@ text-written s at {t} row to {ms} e q f =
 -- ---- an item at a place
 
 -- "kept modulo 65536"
-pub number-cell : (n : Numeral) {x : ℕ} → keptOf n ≡ Cell x → itemCells (number n) ≡ x ∷ []
+pub number-cell : (n : Numeral) {x : ℕ} → keptOf n ≡ Kept.Cell x → itemCells (number n) ≡ x ∷ []
 unfolding keptOf
 number-cell n {x} e = go (inRange (valueOf n)) e
   where
-    go : (b : Bool) → cond b (Cell (ofZ w16 (valueOf n))) OutOfRange ≡ Cell x → itemCells (number n) ≡ x ∷ []
+    go : (b : Bool) → cond b (Kept.Cell (ofZ w16 (valueOf n))) Kept.OutOfRange ≡ Kept.Cell x → itemCells (number n) ≡ x ∷ []
     go true e = cc
     go false e = let z : _≡_ {A = ℕ} 0 1 = cc in absurd (omega arith)
 
@@ -117,11 +119,11 @@ module _ (s : List ℕ) (at : ℕ) (row : List ℕ) (to : ℕ) where
       → sets row to (cellsAt (itemAt s at)) ≡ sets row to (cond b (itemCells (number n)) [])
   by-range n e q = by-value e ∙ ap (λ (b : Bool). sets row to (cond b (itemCells (number n)) [])) q
 
-  pub number-written : {n : Numeral} {c : Cursor} {x : ℕ} {ms : List ℕ} → valueAt s at ≡ R.Found (Number n) c → keptOf n ≡ Cell x
+  pub number-written : {n : Numeral} {c : Cursor} {x : ℕ} {ms : List ℕ} → valueAt s at ≡ R.Found (Number n) c → keptOf n ≡ Kept.Cell x
       → ms ≡ set row to x → ms ≡ sets row to (cellsAt (itemAt s at))
   number-written {n} e k w = w ∙ sym (by-range n e (kept-in n k) ∙ ap (sets row to) (number-cell n k))
 
-  pub number-out : {n : Numeral} {c : Cursor} → valueAt s at ≡ R.Found (Number n) c → keptOf n ≡ OutOfRange
+  pub number-out : {n : Numeral} {c : Cursor} → valueAt s at ≡ R.Found (Number n) c → keptOf n ≡ Kept.OutOfRange
       → row ≡ sets row to (cellsAt (itemAt s at))
   number-out {n} e k = sym (by-range n e (kept-out n k))
 
@@ -188,3 +190,23 @@ module _ (s : List ℕ) (at : ℕ) (ok : accepted (walk s item (tokensFrom s at)
     unfolding cellsFrom
     next-written row to {ms} {d} e w q =
         written row to (walk s item (tokensFrom s (d .at))) (walked e) w ∙ ap (λ (x : ℕ). sets ms x (cellsIn (walk s item (tokensFrom s (d .at))))) (sym q)
+
+-- ---- the cells by the reply of `items`
+
+-- what a reply to a row's result says of the cells
+abbrev pub Given : Result → ItemsRead → Type 0
+Given x (Cells n) = (accepted x ≡ true) × (length (cellsIn x) ≡ n)
+Given x WrongForm = cellsIn x ≡ []
+Given x OutOfRange = cellsIn x ≡ []
+
+judged-given : (x : Result) → Given x (judged x)
+judged-given (reads is) = go (allInRange is) refl
+  where
+    go : (b : Bool) → allInRange is ≡ b → Given (reads is) (cond b (Cells (length (cellsOf is))) OutOfRange)
+    go true q = (q, rw q)
+    go false q = rw q
+judged-given wrong = refl
+
+pub given : (line : List ℕ) (ts : List Token) {r : ItemsRead} → itemsRead line ts ≡ r → Given (walk line item ts) r
+unfolding itemsRead
+given line ts e = subst (Given (walk line item ts)) e (judged-given (walk line item ts))
