@@ -1,41 +1,32 @@
+-- A store past the row's end is none (`set-out`).
 use mathlib.Core.Path.{sym}
 use native.Mathlib.Omega.{arith}
 use lib.Seq.{set-out}
 use borrow.Author.Needs.{needs}
 use Rattle.items.proofs.writing.put.Statement.{statement}
 use Rattle.items.proofs.writing.put.Tie as tie
-use Rattle.items.proofs.writing.put.Reads as reads
-use Rattle.items.proofs.writing.put.Lts as lts
 
--- src/writing.rt:35:9
 returns : tie.Need-returns
 returns c = sym (set-out _ _ _ (omega arith))
 
--- src/writing.rt:37:8
 sub-if2 : tie.Need-sub-if2
 sub-if2 c = search needs
 
--- src/writing.rt:38:9
 returns-2 : tie.Need-returns-2
 returns-2 c = sym (set-out _ _ _ (omega arith))
 
--- src/writing.rt:40:9
 add-row : tie.Need-add-row
 add-row c = search needs
 
--- src/writing.rt:40:5
 mul-row : tie.Need-mul-row
 mul-row c = search needs
 
--- src/writing.rt:40:5
 slice-write-row : tie.Need-slice-write-row
 slice-write-row c = search needs
 
--- src/writing.rt:31:1
 same-length : tie.Need-same-length
 same-length c = search needs
 
--- src/writing.rt:31:1
 returns-3 : tie.Need-returns-3
 returns-3 c = search needs
 

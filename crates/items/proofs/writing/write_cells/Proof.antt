@@ -1,3 +1,4 @@
+-- By the reply of `items`: accepted items are written, and refused ones have no cells (Writes.antt).
 use mathlib.Core.Path.{sym, ap, _∙_}
 use mathlib.Core.List.{List}
 use Prim.Native.Nat.{ℕ}
@@ -8,20 +9,13 @@ use Rattle.items.proofs.Writes.{given}
 use borrow.Author.Needs.{needs}
 use Rattle.items.proofs.writing.write_cells.Statement.{statement}
 use Rattle.items.proofs.writing.write_cells.Tie as tie
-use Rattle.items.proofs.writing.write_cells.Reads as reads
-use Rattle.items.proofs.writing.write_cells.Lts as lts
-use Rattle.items.proofs.reading.items.Reads as items-reads
-use Rattle.items.proofs.writing.write_items.Reads as write-items-reads
 
--- src/writing.rt:147:11
 items-requires : tie.Need-items-requires
 items-requires c κs = search needs
 
--- src/writing.rt:149:28
 enum-told : tie.Need-enum-told
 enum-told c = search needs
 
--- src/writing.rt:149:13
 write-items-requires : tie.Need-write-items-requires
 write-items-requires c κs =
     let a = (c .before .before .before .before .before .before .args) in
@@ -33,22 +27,18 @@ enum-told-2 c = search needs
 enum-told-3 : tie.Need-enum-told-3
 enum-told-3 c = search needs
 
--- src/writing.rt:143:1
 same-length : tie.Need-same-length
 same-length c = search needs
 
--- src/writing.rt:143:1
 returns : tie.Need-returns
 returns c = search needs
 
--- src/writing.rt:143:1
 returns-2 : tie.Need-returns-2
 unfolding cellsFrom
 returns-2 c =
     let a = (c .before .before .before .before .before .args) in
     rw (given (a .s .now) (tokensFrom (a .s .now) (a .from .at)) (sym (c .before .before .items .ensures) ∙ (c .enum-told2 .given) .1))
 
--- src/writing.rt:143:1
 returns-3 : tie.Need-returns-3
 unfolding cellsFrom
 returns-3 c =

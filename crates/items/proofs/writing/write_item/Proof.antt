@@ -1,3 +1,4 @@
+-- By what `value` hands back: a number's cell, nothing for a label, a string at most (Writes.antt).
 use Prim.Native.Nat.{_+_}
 use mathlib.Core.Path.{sym, ap, _∙_}
 use Rattle.values.specs.declared.Value.{Value}
@@ -6,34 +7,22 @@ use Rattle.items.proofs.Writes.{number-written, number-out, label-writt
 use borrow.Author.Needs.{needs}
 use Rattle.items.proofs.writing.write_item.Statement.{statement}
 use Rattle.items.proofs.writing.write_item.Tie as tie
-use Rattle.items.proofs.writing.write_item.Reads as reads
-use Rattle.items.proofs.writing.write_item.Lts as lts
-use Rattle.items.proofs.writing.put.Reads as put-reads
-use Rattle.items.proofs.writing.write_text.Reads as write-text-reads
-use Rattle.numerals.proofs.reading.kept.Reads as kept-reads
-use Rattle.values.proofs.reading.value.Reads as value-reads
 
--- src/writing.rt:94:11
 value-requires : tie.Need-value-requires
 value-requires c κs = search needs
 
--- src/writing.rt:95:26
 enum-known-v : tie.Need-enum-known-v
 enum-known-v c = search needs
 
--- src/writing.rt:96:27
 enum-known-v-2 : tie.Need-enum-known-v-2
 enum-known-v-2 c = search needs
 
--- src/writing.rt:96:39
 kept-requires : tie.Need-kept-requires
 kept-requires c κs = search needs
 
--- src/writing.rt:97:28
 enum-known-x : tie.Need-enum-known-x
 enum-known-x c = search needs
 
--- src/writing.rt:98:21
 put-requires : tie.Need-put-requires
 put-requires c κs = search needs
 
@@ -43,44 +32,36 @@ enum-told c = search needs
 enum-told-2 : tie.Need-enum-told-2
 enum-told-2 c = search needs
 
--- src/writing.rt:105:27
 enum-told-3 : tie.Need-enum-told-3
 enum-told-3 c = search needs
 
--- src/writing.rt:105:13
 write-text-requires : tie.Need-write-text-requires
 write-text-requires c κs = search needs
 
--- src/writing.rt:89:1
 same-length : tie.Need-same-length
 same-length c = search needs
 
--- src/writing.rt:89:1
 returns : tie.Need-returns
 returns c =
     let a = (c .before .before .before .before .before .before .before .before .before .before .before .before .before .before .before .before .before .args) in
     let e = sym (c .before .before .before .before .before .before .before .before .before .before .before .before .before .before .value .ensures) ∙ (c .before .before .before .before .before .before .before .before .before .before .before .before .v .given) .1 ∙ ap (λ (x : Value). R.Found x ((c .before .before .before .before .before .before .before .before .before .before .before .before .v .given) .0 .1 .0)) ((c .before .before .before .before .before .before .before .before .before .v2 .given) .1) in
     number-written (a .s .now) (a .from .at) (a .row .now) (a .at + a .k) e (sym (c .before .before .before .before .before .before .before .kept .ensures) ∙ (c .before .before .before .before .before .x .given) .1) (c .before .before .put .ensures)
 
--- src/writing.rt:89:1
 returns-2 : tie.Need-returns-2
 returns-2 c =
     let a = (c .before .before .before .before .before .before .before .before .before .before .before .before .args) in
     let e = sym (c .before .before .before .before .before .before .before .before .before .value .ensures) ∙ (c .before .before .before .before .before .before .before .v .given) .1 ∙ ap (λ (x : Value). R.Found x ((c .before .before .before .before .before .before .before .v .given) .0 .1 .0)) ((c .before .before .before .before .v2 .given) .1) in
     number-out (a .s .now) (a .from .at) (a .row .now) (a .at + a .k) e (sym (c .before .before .kept .ensures) ∙ (c .enum-told .given) .1)
 
--- src/writing.rt:89:1
 returns-3 : tie.Need-returns-3
 returns-3 c =
     let a = (c .before .before .before .before .before .before .before .before .args) in
     let e = sym (c .before .before .before .before .before .value .ensures) ∙ (c .before .before .before .v .given) .1 ∙ ap (λ (x : Value). R.Found x ((c .before .before .before .v .given) .0 .1 .0)) ((c .enum-told2 .given) .1) in
     label-written (a .s .now) (a .from .at) (a .row .now) (a .at + a .k) e
 
--- src/writing.rt:89:1
 same-length-2 : tie.Need-same-length-2
 same-length-2 c = search needs
 
--- src/writing.rt:89:1
 returns-4 : tie.Need-returns-4
 returns-4 c =
     let a = (c .before .before .before .before .before .before .before .before .before .args) in

@@ -1,3 +1,5 @@
+-- The loop's invariant: the items that are left are accepted, and their cells, written from `at + k` on, give what all of them give; and no
+-- more cells are written than bytes passed. Each turn is a law of Writes.antt. The measure is what is left of the line.
 use Prim.Native.Nat.{_+_, _-_, _≤_}
 use borrow.Author.Needs.{needs}
 use mathlib.Core.Bool.{true}
@@ -14,11 +16,6 @@ use Rattle.items.proofs.Walks.{comma-moves}
 use Rattle.items.proofs.Writes.{some-item, some-end, last-written, next-accepted, next-written}
 use Rattle.items.proofs.writing.write_items.Statement.{statement}
 use Rattle.items.proofs.writing.write_items.Tie as tie
-use Rattle.items.proofs.writing.write_items.Reads as reads
-use Rattle.items.proofs.writing.write_items.Lts as lts
-use Rattle.items.proofs.single.follows.Reads as follows-reads
-use Rattle.items.proofs.single.item.Reads as item-reads
-use Rattle.items.proofs.writing.write_item.Reads as write-item-reads
 
 abbrev Inv-loop : tie.InvT-loop
 Inv-loop s row₀ at i₀ k₀ row i k =
@@ -28,55 +25,43 @@ Inv-loop s row₀ at i₀ k₀ row i k =
 abbrev μ-loop : tie.MeasureT-loop
 μ-loop s row₀ at i₀ k₀ row i k = length s - i
 
--- src/writing.rt:117:5
 loop-holds : tie.Need-loop-holds Inv-loop μ-loop
 loop-holds c =
     let a = (c .before .before .args) in
     (omega arith, refl, (c .before .before .pre), rw add-zero)
 
--- src/writing.rt:118:15
 item-requires : tie.Need-item-requires Inv-loop μ-loop
 item-requires c κs = search needs
 
--- src/writing.rt:120:17
 enum-told : tie.Need-enum-told Inv-loop μ-loop
 enum-told c = search needs
 
--- src/writing.rt:120:17
 same-length : tie.Need-same-length Inv-loop μ-loop
 same-length c = search needs
 
--- src/writing.rt:120:17
 returns : tie.Need-returns Inv-loop μ-loop
 returns c = absurd (some-item (c .before .before .before .before .before .before .args .s .now) (c .before .before .before .loop .i) ((c .before .before .before .loop .inv) .2) (sym (c .before .before .item .ensures) ∙ (c .enum-told .given) .1))
 
--- src/writing.rt:122:29
 enum-known-n : tie.Need-enum-known-n Inv-loop μ-loop
 enum-known-n c = search needs
 
--- src/writing.rt:123:17
 write-item-requires : tie.Need-write-item-requires Inv-loop μ-loop
 write-item-requires c κs = omega arith
 
--- src/writing.rt:124:17
 add-k : tie.Need-add-k Inv-loop μ-loop
 add-k c =
     let h = found-item (c .before .before .before .before .before .before .before .before .before .before .before .args .s .now) (c .before .before .before .before .before .before .before .before .loop .i) (sym (c .before .before .before .before .before .before .before .item .ensures) ∙ (c .before .before .before .before .before .n .given) .1) in
     omega (arith, h .few, h .within)
 
--- src/writing.rt:125:23
 follows-requires : tie.Need-follows-requires Inv-loop μ-loop
 follows-requires c κs = search needs
 
--- src/writing.rt:127:25
 enum-told-2 : tie.Need-enum-told-2 Inv-loop μ-loop
 enum-told-2 c = search needs
 
--- src/writing.rt:127:25
 same-length-2 : tie.Need-same-length-2 Inv-loop μ-loop
 same-length-2 c = search needs
 
--- src/writing.rt:127:25
 returns-2 : tie.Need-returns-2 Inv-loop μ-loop
 returns-2 c =
     let a = (c .before .before .before .before .before .before .before .before .before .before .before .before .before .before .args) in
@@ -85,15 +70,12 @@ returns-2 c =
     let e = sym (c .before .before .follows .ensures) ∙ (c .enum-told2 .given) .1 in
     last-written (a .s .now) (l .i) (l .inv .2) h (l .row) (a .at + l .k) e (c .before .before .before .before .before .write-item .ensures) ∙ sym (l .inv .3)
 
--- src/writing.rt:130:25
 enum-told-3 : tie.Need-enum-told-3 Inv-loop μ-loop
 enum-told-3 c = search needs
 
--- src/writing.rt:130:25
 same-length-3 : tie.Need-same-length-3 Inv-loop μ-loop
 same-length-3 c = search needs
 
--- src/writing.rt:130:25
 returns-3 : tie.Need-returns-3 Inv-loop μ-loop
 returns-3 c =
     let a = (c .before .before .before .before .before .before .before .before .before .before .before .before .before .before .args) in
@@ -101,11 +83,9 @@ returns-3 c =
     let h = found-item (a .s .now) (l .i) (sym (c .before .before .before .before .before .before .before .before .before .before .item .ensures) ∙ (c .before .before .before .before .before .before .before .before .n .given) .1) in
     absurd (some-end (a .s .now) (l .i) (l .inv .2) h (sym (c .before .before .follows .ensures) ∙ (c .enum-told3 .given) .1))
 
--- src/writing.rt:132:36
 enum-known-after : tie.Need-enum-known-after Inv-loop μ-loop
 enum-known-after c = search needs
 
--- src/writing.rt:117:5
 loop-less : tie.Need-loop-less Inv-loop μ-loop
 loop-less c =
     let a = (c .before .before .before .before .before .before .before .before .before .before .before .before .before .before .before .args) in
@@ -114,7 +94,6 @@ loop-less c =
     let m = comma-moves (a .s .now) ((c .before .before .before .before .before .before .before .before .before .n .given) .0 .1 .1 .0 .at) (sym (c .before .before .before .follows .ensures) ∙ (c .before .after .given) .1) in
     omega (arith, h .moved, m)
 
--- src/writing.rt:117:5
 loop-again : tie.Need-loop-again Inv-loop μ-loop
 loop-again c =
     let a = (c .before .before .before .before .before .before .before .before .before .before .before .before .before .before .before .args) in

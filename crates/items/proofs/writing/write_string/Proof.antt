@@ -1,3 +1,5 @@
+-- The loop's invariant: what is left of the string at `i`, written from `at + n` on, gives what the whole string gives (Writes.antt); and
+-- no more cells are written than bytes passed. The measure is what is left of the line.
 use borrow.Author.Needs.{needs}
 use Prim.Native.Nat.{_+_, _-_, _≤_}
 use mathlib.Core.Path.{_≡_, refl, sym, ap, _∙_}
@@ -6,10 +8,6 @@ use lib.ListN.{length, length-set}
 use Rattle.items.proofs.Writes.{Left, string-start, string-on, string-closed, string-broken, string-over, character-moves}
 use Rattle.items.proofs.writing.write_string.Statement.{statement}
 use Rattle.items.proofs.writing.write_string.Tie as tie
-use Rattle.items.proofs.writing.write_string.Reads as reads
-use Rattle.items.proofs.writing.write_string.Lts as lts
-use Rattle.items.proofs.writing.put.Reads as put-reads
-use Rattle.tokens.proofs.strings.character.Reads as character-reads
 
 abbrev Inv-loop : tie.InvT-loop
 Inv-loop s from row₀ at k i₀ n₀ row i n = (n ≤ i) × (length row ≡ length row₀) × Left s from row₀ (at + k) i row (at + n)
@@ -17,39 +15,31 @@ Inv-loop s from row₀ at k i₀ n₀ row i n = (n ≤ i) × (length row ≡ len
 abbrev μ-loop : tie.MeasureT-loop
 μ-loop s from row₀ at k i₀ n₀ row i n = length s - i
 
--- src/writing.rt:50:5
 loop-holds : tie.Need-loop-holds Inv-loop μ-loop
 loop-holds c = (omega arith, refl, string-start (c .before .before .args .s .now) (c .before .before .args .from) (c .before .before .args .row .now) ((c .before .before .args .at) + (c .before .before .args .k)))
 
--- src/writing.rt:51:15
 character-requires : tie.Need-character-requires Inv-loop μ-loop
 character-requires c κs = search needs
 
--- src/writing.rt:52:31
 enum-known-b : tie.Need-enum-known-b Inv-loop μ-loop
 enum-known-b c = search needs
 
--- src/writing.rt:53:33
 cast-put : tie.Need-cast-put Inv-loop μ-loop
 cast-put c = omega (arith, (c .before .known-told .given))
 
--- src/writing.rt:53:17
 put-requires : tie.Need-put-requires Inv-loop μ-loop
 put-requires c κs = search needs
 
--- src/writing.rt:55:17
 add-n : tie.Need-add-n Inv-loop μ-loop
 add-n c =
     let h = character-moves (c .before .before .before .before .before .before .before .before .before .before .before .before .args .s .now) (c .before .before .before .before .before .before .before .before .before .loop .i) (sym (c .before .before .before .before .before .before .before .character .ensures) ∙ (c .before .before .before .before .before .b .given) .1) in
     omega (arith, h)
 
--- src/writing.rt:50:5
 loop-less : tie.Need-loop-less Inv-loop μ-loop
 loop-less c =
     let h = character-moves (c .before .before .before .before .before .before .before .before .before .before .before .before .args .s .now) (c .before .before .before .before .before .before .before .before .before .loop .i) (sym (c .before .before .before .before .before .before .before .character .ensures) ∙ (c .before .before .before .before .before .b .given) .1) in
     omega (arith, h)
 
--- src/writing.rt:50:5
 loop-again : tie.Need-loop-again Inv-loop μ-loop
 loop-again c =
     let a = (c .before .before .before .before .before .before .before .before .before .before .before .before .args) in
@@ -57,45 +47,36 @@ loop-again c =
     let e = sym (c .before .before .before .before .before .before .before .character .ensures) ∙ (c .before .before .before .before .before .b .given) .1 in
     (omega (arith, character-moves (a .s .now) (l .i) e), omega (arith, (c .before .before .put .kept)), string-on (a .s .now) (a .from) (a .row .now) (a .at + a .k) (l .i) (l .row) (a .at + l .n) (l .inv .2) e (c .before .before .put .ensures) (omega arith))
 
--- src/writing.rt:58:21
 enum-told : tie.Need-enum-told Inv-loop μ-loop
 enum-told c = search needs
 
--- src/writing.rt:58:17
 put-requires-2 : tie.Need-put-requires-2 Inv-loop μ-loop
 put-requires-2 c κs = search needs
 
--- src/writing.rt:59:17
 same-length : tie.Need-same-length Inv-loop μ-loop
 same-length c = search needs
 
--- src/writing.rt:59:17
 returns : tie.Need-returns Inv-loop μ-loop
 returns c =
     let a = (c .before .before .before .before .before .before .before .before .before .before .before .args) in
     let l = (c .before .before .before .before .before .before .before .before .loop) in
     string-closed (a .s .now) (a .from) (a .row .now) (a .at + a .k) (l .i) (l .row) (a .at + l .n) (l .inv .2) (sym (c .before .before .before .before .before .before .character .ensures) ∙ (c .before .before .before .before .enum-told .given) .1) (c .before .before .put2 .ensures)
 
--- src/writing.rt:62:17
 enum-told-2 : tie.Need-enum-told-2 Inv-loop μ-loop
 enum-told-2 c = search needs
 
--- src/writing.rt:62:17
 same-length-2 : tie.Need-same-length-2 Inv-loop μ-loop
 same-length-2 c = search needs
 
--- src/writing.rt:62:17
 returns-2 : tie.Need-returns-2 Inv-loop μ-loop
 returns-2 c =
     let a = (c .before .before .before .before .before .before .before .args) in
     let l = (c .before .before .before .before .loop) in
     string-broken (a .s .now) (a .from) (a .row .now) (a .at + a .k) (l .i) (l .row) (a .at + l .n) (l .inv .2) (sym (c .before .before .character .ensures) ∙ (c .enum-told2 .given) .1)
 
--- src/writing.rt:44:1
 same-length-3 : tie.Need-same-length-3 Inv-loop μ-loop
 same-length-3 c = search needs
 
--- src/writing.rt:44:1
 returns-3 : tie.Need-returns-3 Inv-loop μ-loop
 returns-3 c =
     let a = (c .before .before .before .before .args) in
