@@ -6,5 +6,7 @@ pub mod Readings
 pub mod Bounds
 pub mod Verdicts
 pub mod Numbers
+pub mod Writes
+pub mod Small
 pub mod Examples
 pub mod Top

@@ -5,6 +5,7 @@ use numerals::Cursor;
 pub mod reading; // the items that follow DATA
 mod single; // one item
 mod strings; // how many characters a string has
+pub mod writing; // the cells of the items that follow DATA
 
 // What the tokens after DATA are: so many cells, or refusal 3 or 6.
 pub enum ItemsRead {

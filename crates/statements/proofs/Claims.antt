@@ -1,22 +1,25 @@
--- A statement claims as many cells as it gives, and its refusal has the number that the crate below gives it.
+-- DATA claims as many cells as its items take; and a refusal has the number that the crate below gives it.
 use Prim.Native.Nat.{ℕ}
 use mathlib.Core.Bool.{Bool, true, false, cond}
 use mathlib.Core.List.{List}
 use mathlib.Core.Path.{_≡_, refl, sym, ap, _∙_}
-use native.Mathlib.Omega.{arith}
 use lib.IntN.{ℤ}
 use lib.ListN.{length}
 use Rattle.expressions.specs.Reading as Expressions
 use Rattle.expressions.specs.declared.ExpressionRead.{ExpressionRead}
 use Rattle.expressions.specs.declared.ExpressionRead.the-variants as E
 use Rattle.expressions.specs.declared.Worth.the-variants as W
+use Rattle.isa.specs.declared.Opcode.{Opcode}
 use Rattle.values.specs.declared.LabelIn.{LabelIn}
+use Rattle.operands.specs.Checks as Operands
+use Rattle.operands.specs.declared.InstructionRead.{InstructionRead}
+use Rattle.operands.specs.declared.InstructionRead.the-variants as N
 use Rattle.items.specs.Items.{Item, cellsOf, allInRange}
 use Rattle.items.specs.Reading as Items
 use Rattle.items.specs.declared.ItemsRead.{ItemsRead}
 use Rattle.items.specs.declared.ItemsRead.the-variants as I
 use Rattle.statements.specs.Statements.{cells, Says}
-use Rattle.statements.specs.Judging.{refusalOf, judged, claimOf}
+use Rattle.statements.specs.Judging.{refusalOf, instructionResult, judged, claimOf}
 use Rattle.statements.specs.Reading.{expressionResult, itemsResult, lineRead}
 use Rattle.statements.specs.declared.Failure.the-variants.{OutOfRange}
 use Rattle.statements.specs.declared.LineRead.{LineRead}
@@ -46,6 +49,12 @@ expression-number least says (E.Read W.OutOfRange) n = refl
 expression-number least says (E.Read W.ByZero) n = refl
 expression-number least says E.TooDeep n = refl
 expression-number least says E.WrongForm n = refl
+
+pub operands-number : (op : Opcode) (r : InstructionRead) → refusalOf (instructionResult op r) ≡ Operands.refusalOf r
+operands-number op (N.Read a b) = refl
+operands-number op N.WrongForm = refl
+operands-number op N.WrongOperands = refl
+operands-number op N.OutOfRange = refl
 
 pub items-number : (r : ItemsRead) → refusalOf (itemsResult r) ≡ Items.refusalOf r
 items-number (I.Cells n) = refl

@@ -8,6 +8,7 @@ pub mod Judgements
 pub mod Texts
 pub mod Lines
 pub mod Places
+pub mod CellsGiven
 pub mod Instructions
 pub mod Claims
 pub mod Examples

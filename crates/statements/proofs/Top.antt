@@ -1,8 +1,8 @@
--- What this crate promises, beyond the equation at `read_line`: what that equation's right side means. No reader and no token stands
--- here: `Says` goes from a line's bytes to its label and what it says, `checks` is the list of its checks.
+-- What this crate promises, beyond the equations at its functions: what those equations' right sides mean. `Says` goes from a line's
+-- bytes to its label and what it says, and `checks` is the list of its checks; no token and no walk over tokens stands here.
 use Prim.Native.Nat.{ℕ, _≤_, _<_}
 use mathlib.Core.Bool.{true}
-use mathlib.Core.List.{List}
+use mathlib.Core.List.{List, []}
 use mathlib.Core.Logic.{_↔_, _⊎_}
 use mathlib.Core.Path.{_≡_, refl, sym, _∙_}
 use lib.IntN.{ℤ}
@@ -10,6 +10,7 @@ use lib.ListN.{length}
 use mir.Syntax.{w16}
 use mir.Val.{ofZ}
 use Rattle.numerals.specs.declared.Kept.the-variants as N
+use Rattle.isa.specs.Encoding.{wordsOf}
 use Rattle.isa.specs.declared.Opcode.{Opcode}
 use Rattle.values.specs.declared.Name.{Name}
 use Rattle.expressions.specs.Trees.{Tree, depth, deepest}
@@ -18,17 +19,23 @@ use Rattle.expressions.specs.Reading as Expressions
 use Rattle.expressions.specs.declared.ExpressionRead.{ExpressionRead}
 use Rattle.expressions.specs.declared.Worth.the-variants as E
 use Rattle.operands.specs.Checks.{fits, operandAt, wordOf, given}
+use Rattle.operands.specs.Checks as Operands
+use Rattle.operands.specs.Settling.{settledInstruction}
+use Rattle.operands.specs.declared.Given.{Given}
+use Rattle.operands.specs.declared.InstructionRead.{InstructionRead}
 use Rattle.values.specs.declared.LabelIn.{LabelIn}
 use Rattle.values.specs.declared.LabelIn.the-variants.{Absent, Named}
 use Rattle.operands.specs.declared.Written.{Written}
+use Rattle.operands.proofs.Within.{LabelWithin}
 use Rattle.items.specs.Items.{Item, cellsOf, allInRange}
 use Rattle.items.specs.Reading as Items
 use Rattle.items.specs.declared.ItemsRead.{ItemsRead}
 use Rattle.statements.specs.Statements.{Reading, instruction, cells, Says, Labelled, UnknownWord, NoReading}
 use Rattle.statements.specs.FirstFailing.{Pass, First}
 use Rattle.statements.specs.Checks.{resultIn, checks}
-use Rattle.statements.specs.Judging.{numberOf, refusalOf, judged, claimOf}
+use Rattle.statements.specs.Judging.{numberOf, refusalOf, instructionResult, judged, claimOf}
 use Rattle.statements.specs.Reading.{expressionResult, itemsResult, lineRead}
+use Rattle.statements.specs.Cells.{cellsIn}
 use Rattle.statements.specs.declared.Failure.{Failure}
 use Rattle.statements.specs.declared.Failure.the-variants as F
 use Rattle.statements.specs.declared.Statement.{Statement}
@@ -39,6 +46,8 @@ use Rattle.statements.proofs.FirstFails as FirstFails
 use Rattle.statements.proofs.Judgements as Judgements
 use Rattle.statements.proofs.Judgements.{Asks}
 use Rattle.statements.proofs.Places as Places
+use Rattle.statements.proofs.CellsGiven as CellsGiven
+use Rattle.statements.proofs.Instructions as Instructions
 use Rattle.statements.proofs.Claims as Claims
 use Rattle.statements.proofs.Examples as Examples
 use Rattle.statements.proofs.Examples.{Examples}
@@ -125,6 +134,13 @@ items-say = Judgements.items-say
 
 -- ---- cells
 
+-- What `write_cells` writes of a line is the cells of the items that it says; nothing, where it says no DATA that passes.
+pub cells-exactly : (line : List ℕ) {l : LabelIn} {is : List Item} → Says line l (cells is) → allInRange is ≡ true → cellsIn line ≡ cellsOf is
+cells-exactly = CellsGiven.cells-exactly
+
+pub no-cells : (line : List ℕ) → ((l : LabelIn) (is : List Item) → Says line l (cells is) → allInRange is ≡ true → ⊥) → cellsIn line ≡ []
+no-cells = CellsGiven.no-cells
+
 -- DATA claims as many cells as its items take, and these are no more than the line's bytes.
 pub cells-claimed : (line : List ℕ) {l : LabelIn} {is : List Item} {s : Statement} → Says line l (cells is) → lineRead line .statement ≡ Passes s
     → claimOf s ≡ length (cellsOf is)
@@ -132,6 +148,15 @@ cells-claimed = Claims.cells-claimed
 
 pub few-cells : (line : List ℕ) {l : LabelIn} {is : List Item} → Says line l (cells is) → length (cellsOf is) ≤ length line
 few-cells = Places.few-cells
+
+module _ (line : List ℕ) {op : Opcode} {a b : Given} (e : lineRead line .statement ≡ Passes (Instruction op a b)) where
+  -- An instruction claims as many cells as it has words, whatever its labels stand for.
+  pub words-claimed : (v w : ℕ) → length (wordsOf (settledInstruction op a b v w)) ≡ claimOf (Instruction op a b)
+  words-claimed = Instructions.words-claimed line e
+
+  -- The labels that its operands name lie within the line.
+  pub operand-labels-within : LabelWithin (length line) (a .label) × LabelWithin (length line) (b .label)
+  operand-labels-within = Instructions.operand-labels-within line e
 
 -- "RES moves the address and claims no cell", and no other statement but an instruction and DATA claims one.
 pub claims-none : (claimOf Nothing ≡ 0)
@@ -148,6 +173,9 @@ pub expression-number : (least : ℤ) (says : ℕ → Statement) (r : Expression
     → refusalOf (expressionResult least says r) ≡ Expressions.refusalOf r
 expression-number = Claims.expression-number
 
+pub operands-number : (op : Opcode) (r : InstructionRead) → refusalOf (instructionResult op r) ≡ Operands.refusalOf r
+operands-number = Claims.operands-number
+
 pub items-number : (r : ItemsRead) → refusalOf (itemsResult r) ≡ Items.refusalOf r
 items-number = Claims.items-number
 
@@ -157,6 +185,6 @@ items-number = Claims.items-number
 pub examples : Examples
 examples = Examples.examples
 
--- The promise of `read_line` is an equation with its meaning: two replies that meet it coincide.
+-- Every promise of this crate is an equation with its meaning: two replies that meet it coincide.
 pub coincide : {A : Type 0} {meaning r r′ : A} → r ≡ meaning → r′ ≡ meaning → r ≡ r′
 coincide p q = p ∙ sym q

@@ -6,4 +6,5 @@ pub mod FirstFailing
 pub mod Checks
 pub mod Judging
 pub mod Reading
+pub mod Cells
 pub mod Parts

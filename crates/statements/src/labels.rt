@@ -9,7 +9,7 @@ use tokens::tokens::next_token;
 use values::LabelIn;
 use values::Name;
 
-fn is_word(k: Kind) -> bool
+pub(crate) fn is_word(k: Kind) -> bool
     ensures { λ r. ⌜ r ≡ isWord k ⌝ }
 {
     match k {

@@ -5,6 +5,7 @@ use numerals::Cursor;
 use operands::Given;
 use values::LabelIn;
 
+pub mod cells; // the cells that a line's DATA gives
 mod labels; // a line's label, and the cursor after it
 pub mod line; // a line's reading
 pub mod refusals; // the paper's number of a check that fails
