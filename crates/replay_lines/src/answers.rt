@@ -1,4 +1,5 @@
 // A line's reply: the first of its own checks that fails, or 0; its label's place; and what it says.
+ghost use Prim.Native.Nat.{_≤_};
 use super::texts::field;
 use super::texts::letter;
 use super::texts::number;
@@ -10,6 +11,7 @@ use isa::opcodes::row;
 use operands::Given;
 use statements::Statement;
 use statements::StatementRead;
+use statements::cells::write_cells;
 use statements::line::read_line;
 use statements::refusals::number_of;
 use values::LabelIn;
@@ -76,8 +78,42 @@ fn head(out: &mut [u8], refusal: usize, l: LabelIn) -> usize {
     label(out, next, l)
 }
 
+fn wide(x: u16) -> usize {
+    x as usize
+}
+
+fn least(a: usize, b: usize) -> usize
+    ensures { λ r. ⌜ r ≤ b ⌝ }
+{
+    if a < b { a } else { b }
+}
+
+// The first n cells of a row, or all.
+fn cells(out: &mut [u8], at: usize, row: &[u16], n: usize) -> usize {
+    let end = least(n, row.len());
+    let mut next = at;
+    let mut i = 0;
+    while i < end {
+        next = field(out, next, wide(row[i]));
+        i += 1;
+    }
+    next
+}
+
+// DATA: the number of its cells, and those that a row has room for.
+fn data(out: &mut [u8], at: usize, line: &[u8], n: usize, row: &mut [u16]) -> usize {
+    write_cells(line, row, 0);
+    let next = valued(out, at, b'D', n);
+    cells(out, next, row, n)
+}
+
+fn data_shown(out: &mut [u8], at: usize, line: &[u8], n: usize) -> usize {
+    let mut row = [0u16; 64];
+    data(out, at, line, n, &mut row)
+}
+
 // What a line says, behind 0 and its label.
-fn saying(out: &mut [u8], l: LabelIn, s: Statement) -> usize {
+fn saying(out: &mut [u8], line: &[u8], l: LabelIn, s: Statement) -> usize {
     let at = head(out, 0, l);
     match s {
         Statement::Nothing => letter(out, at, b'N'),
@@ -85,15 +121,15 @@ fn saying(out: &mut [u8], l: LabelIn, s: Statement) -> usize {
         Statement::Org(v) => valued(out, at, b'O', v as usize),
         Statement::Equ(v) => valued(out, at, b'Q', v as usize),
         Statement::Res(v) => valued(out, at, b'R', v as usize),
-        Statement::Data(n) => valued(out, at, b'D', n),
+        Statement::Data(n) => data_shown(out, at, line, n),
         Statement::End => letter(out, at, b'E'),
     }
 }
 
 // The whole reply but its line end.
-fn reply(out: &mut [u8], l: LabelIn, s: StatementRead) -> usize {
+fn reply(out: &mut [u8], line: &[u8], l: LabelIn, s: StatementRead) -> usize {
     match s {
-        StatementRead::Passes(said) => saying(out, l, said),
+        StatementRead::Passes(said) => saying(out, line, l, said),
         StatementRead::Fails(f) => head(out, number_of(f) as usize, l),
     }
 }
@@ -103,6 +139,6 @@ pub(crate) fn answer(line: &[u8]) {
     let read = read_line(line);
     let l = read.label;
     let s = read.statement;
-    let at = reply(&mut out, l, s);
+    let at = reply(&mut out, line, l, s);
     write(&mut out, at);
 }
