@@ -210,3 +210,6 @@ judged-given wrong = refl
 pub given : (line : List ℕ) (ts : List Token) {r : ItemsRead} → itemsRead line ts ≡ r → Given (walk line item ts) r
 unfolding itemsRead
 given line ts e = subst (Given (walk line item ts)) e (judged-given (walk line item ts))
+
+pub cells-accepted : (line : List ℕ) (ts : List Token) {n : ℕ} → itemsRead line ts ≡ Cells n → accepted (walk line item ts) ≡ true
+cells-accepted line ts e = given line ts e .0
