@@ -1,7 +1,7 @@
 -- What is written turn by turn is what the whole row gives: a character of a string, an item of a row.
 use Prim.Native.Nat.{ℕ, suc, _+_, _≤_, _<_}
 use mathlib.Core.Bool.{Bool, true, false, false≢true, cond, _&&_}
-use mathlib.Core.List.{List, [], _∷_, _++_, append-nil}
+use mathlib.Core.List.{List, [], _∷_, _++_}
 use mathlib.Core.Path.{_≡_, refl, sym, ap, subst, _∙_}
 use native.Mathlib.Nat.{add-zero}
 use native.Mathlib.Omega.{arith}
@@ -137,12 +137,12 @@ module _ (s : List ℕ) (at : ℕ) (row : List ℕ) (to : ℕ) where
 -- ---- the items of a row
 
 -- the first item's cells, and those of the rest
-record First (i : Item) (r : Result) : Type 0 where
-  fits : itemInRange i ≡ true
-  rest : accepted r ≡ true
-  cells : cellsIn (cons i r) ≡ itemCells i ++ cellsIn r
+pub record First (i : Item) (r : Result) : Type 0 where
+  pub fits : itemInRange i ≡ true
+  pub rest : accepted r ≡ true
+  pub cells : cellsIn (cons i r) ≡ itemCells i ++ cellsIn r
 
-first : (i : Item) (r : Result) → accepted (cons i r) ≡ true → First i r
+pub first : (i : Item) (r : Result) → accepted (cons i r) ≡ true → First i r
 unfolding cellsOf allInRange
 first i (reads is) e = go (itemInRange i) (allInRange is) refl refl e
   where
