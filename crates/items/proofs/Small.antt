@@ -1,6 +1,6 @@
 -- Each cell is below 65536: a character is a byte, and a number in range is kept modulo 65536.
 use Prim.Native.Nat.{ℕ, zero, suc, _<_}
-use mathlib.Core.Bool.{Bool, true, false, false≢true, cond, _&&_}
+use mathlib.Core.Bool.{Bool, true, false, cond}
 use mathlib.Core.List.{List, [], _∷_, _++_}
 use mathlib.Core.Path.{_≡_, refl}
 use native.Mathlib.Omega.{arith}
@@ -20,6 +20,7 @@ use Rattle.items.specs.Items.{Item, ItemText, is-number, is-string, Item
 use Rattle.items.specs.Reading.{item, Result, reads, wrong, walk}
 use Rattle.items.specs.Writing.{cellsIn, cellsFrom}
 use Rattle.items.proofs.Readings.{in-line, sound}
+use Rattle.items.proofs.Writes.{first}
 
 abbrev pub Small : List ℕ → Type 0
 Small xs = (k : ℕ) → getD xs k 0 < 65536
@@ -50,18 +51,12 @@ module _ (line : List ℕ) where
   item-small (is-number {n = n} u) e = cons-small [] (number-small (valueOf n) e) none-small
   item-small (is-string {cs = cs} q r) e = append-small cs (0 ∷ []) (characters-small r) (cons-small [] (omega arith) none-small)
 
-  -- both of two tests
-  two : (a b : Bool) → (a && b) ≡ true → (a ≡ true) × (b ≡ true)
-  two true true e = (refl, refl)
-  two true false e = absurd (false≢true e)
-  two false b e = absurd (false≢true e)
-
   items-small : {ts : List Token} {is : List Item} → Items line ts is → allInRange is ≡ true → Small (cellsOf is)
   unfolding cellsOf allInRange
-  items-small (one {i = i} u) e = append-small (itemCells i) [] (item-small u (two (itemInRange i) true e .0)) none-small
+  items-small (one {i = i} u) e = append-small (itemCells i) [] (item-small u (first i (reads []) e .fits)) none-small
   items-small (more {i = i} {is} c u m r) e =
-      let h = two (itemInRange i) (allInRange is) e in
-      append-small (itemCells i) (cellsOf is) (item-small u (h .0)) (items-small r (h .1))
+      let h = first i (reads is) e in
+      append-small (itemCells i) (cellsOf is) (item-small u (h .fits)) (items-small r (h .rest))
 
   pub cells-small : (at : ℕ) → Small (cellsFrom line (tokensFrom line at))
   unfolding cellsFrom

@@ -1,11 +1,12 @@
 -- What this crate promises, beyond the equations at its functions: what those equations' right sides mean.
 use Prim.Native.Nat.{ℕ, _+_, _≤_, _<_}
 use mathlib.Core.Bool.{true, false}
-use mathlib.Core.List.{List, [], _∷_}
+use mathlib.Core.List.{List, [], _∷_, _++_}
 use mathlib.Core.Logic.{_↔_, _⊎_, ⊎-elim}
 use mathlib.Core.Path.{_≡_, refl, sym, ap, _∙_}
 use native.Mathlib.Omega.{arith}
-use lib.ListN.{length, getD}
+use lib.ListN.{length, getD, take, drop}
+use lib.Seq.{sets, sets-eq}
 use Rattle.numerals.specs.Numbers.{keptOf}
 use Rattle.numerals.specs.declared.Kept.the-variants.{Cell}
 use Rattle.numerals.specs.declared.Numeral.{Numeral}
@@ -107,6 +108,13 @@ refused-writes-none line at = ⊎-elim (Writes.given line (tokensFrom line at)) 
 pub as-many : (line : List ℕ) (at : ℕ) {n : ℕ} → itemsRead line (tokensFrom line at) ≡ Cells n → length (cellsFrom line (tokensFrom line at)) ≡ n
 unfolding cellsFrom
 as-many line at e = Writes.given line (tokensFrom line at) e .1
+
+-- Where the row has room for them they stand at their place, and all else is as it was.
+pub in-place : (line : List ℕ) (at : ℕ) {n : ℕ} (row : List ℕ) (to : ℕ) → itemsRead line (tokensFrom line at) ≡ Cells n → to + n ≤ length row
+    → sets row to (cellsFrom line (tokensFrom line at)) ≡ take to row ++ cellsFrom line (tokensFrom line at) ++ drop (to + n) row
+in-place line at row to e h =
+    let l = as-many line at e in
+    sets-eq (cellsFrom line (tokensFrom line at)) row to (omega arith) ∙ rw l
 
 -- A number's cell is the one that keeps it.
 pub number-cell : (n : Numeral) {x : ℕ} → keptOf n ≡ Cell x → itemCells (number n) ≡ x ∷ []

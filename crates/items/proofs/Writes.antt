@@ -1,7 +1,7 @@
 -- What is written turn by turn is what the whole row gives: a character of a string, an item of a row.
 use Prim.Native.Nat.{ℕ, suc, _+_, _≤_, _<_}
 use mathlib.Core.Bool.{Bool, true, false, false≢true, cond, _&&_}
-use mathlib.Core.List.{List, [], _∷_, _++_, append-nil}
+use mathlib.Core.List.{List, [], _∷_, _++_}
 use mathlib.Core.Path.{_≡_, refl, sym, ap, subst, _∙_}
 use native.Mathlib.Nat.{add-zero}
 use native.Mathlib.Omega.{arith}
@@ -138,12 +138,12 @@ module _ (s : List ℕ) (at : ℕ) (row : List ℕ) (to : ℕ) where
 -- ---- the items of a row
 
 -- the first item's cells, and those of the rest
-record First (i : Item) (r : Result) : Type 0 where
-  fits : itemInRange i ≡ true
-  rest : accepted r ≡ true
-  cells : cellsIn (cons i r) ≡ itemCells i ++ cellsIn r
+pub record First (i : Item) (r : Result) : Type 0 where
+  pub fits : itemInRange i ≡ true
+  pub rest : accepted r ≡ true
+  pub cells : cellsIn (cons i r) ≡ itemCells i ++ cellsIn r
 
-first : (i : Item) (r : Result) → accepted (cons i r) ≡ true → First i r
+pub first : (i : Item) (r : Result) → accepted (cons i r) ≡ true → First i r
 unfolding cellsOf allInRange
 first i (reads is) e = go (itemInRange i) (allInRange is) refl refl e
   where
@@ -211,3 +211,6 @@ judged-given wrong = refl
 pub given : (line : List ℕ) (ts : List Token) {r : ItemsRead} → itemsRead line ts ≡ r → Given (walk line item ts) r
 unfolding itemsRead
 given line ts e = subst (Given (walk line item ts)) e (judged-given (walk line item ts))
+
+pub cells-accepted : (line : List ℕ) (ts : List Token) {n : ℕ} → itemsRead line ts ≡ Cells n → accepted (walk line item ts) ≡ true
+cells-accepted line ts e = given line ts e .0

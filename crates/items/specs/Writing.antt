@@ -1,6 +1,6 @@
 -- The cells that DATA's items give, in the order of the items.
 use Prim.Native.Nat.{ℕ}
-use mathlib.Core.Bool.{Bool, true, false, cond}
+use mathlib.Core.Bool.{Bool, false, cond}
 use mathlib.Core.List.{List, []}
 use Rattle.tokens.specs.declared.Token.{Token}
 use Rattle.items.specs.Items.{itemCells, itemInRange, cellsOf, allInRange}

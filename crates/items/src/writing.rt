@@ -27,7 +27,7 @@ use values::Value;
 use values::ValueRead;
 use values::reading::value;
 
-// The cell k places after a place; what does not fit is left out.
+// The cell k places after a place; what does not fit is left out. Two numbers, since their sum may not fit a usize.
 fn put(row: &mut [u16], at: usize, k: usize, v: u16)
     ensures { λ _. ⌜ now (row .exit) ≡ set (now (row .entry)) (at + k) v ⌝ }
 {

@@ -43,29 +43,37 @@ same-length c = search needs
 
 returns : tie.Need-returns
 returns c =
-    let a = (c .before .before .before .before .before .before .before .before .before .before .before .before .before .before .before .before .before .args) in
-    let e = sym (c .before .before .before .before .before .before .before .before .before .before .before .before .before .before .value .ensures) ∙ (c .before .before .before .before .before .before .before .before .before .before .before .before .v .given) .1 ∙ ap (λ (x : Value). R.Found x ((c .before .before .before .before .before .before .before .before .before .before .before .before .v .given) .0 .1 .0)) ((c .before .before .before .before .before .before .before .before .before .v2 .given) .1) in
-    number-written (a .s .now) (a .from .at) (a .row .now) (a .at + a .k) e (sym (c .before .before .before .before .before .before .before .kept .ensures) ∙ (c .before .before .before .before .before .x .given) .1) (c .before .before .put .ensures)
+    let k = c .before .before .before .before .before .before .before in
+    let d = k .before .before .before .before .before in
+    let a = d .before .before .before .before .before .args in
+    let e = ap (λ (x : Value). R.Found x (d .v .given .0 .1 .0)) (k .before .before .v2 .given .1) in
+    number-written (a .s .now) (a .from .at) (a .row .now) (a .at + a .k) (sym (d .before .before .value .ensures) ∙ d .v .given .1 ∙ e)
+    (sym (k .kept .ensures) ∙ c .before .before .before .before .before .x .given .1) (c .before .before .put .ensures)
 
 returns-2 : tie.Need-returns-2
 returns-2 c =
-    let a = (c .before .before .before .before .before .before .before .before .before .before .before .before .args) in
-    let e = sym (c .before .before .before .before .before .before .before .before .before .value .ensures) ∙ (c .before .before .before .before .before .before .before .v .given) .1 ∙ ap (λ (x : Value). R.Found x ((c .before .before .before .before .before .before .before .v .given) .0 .1 .0)) ((c .before .before .before .before .v2 .given) .1) in
-    number-out (a .s .now) (a .from .at) (a .row .now) (a .at + a .k) e (sym (c .before .before .kept .ensures) ∙ (c .enum-told .given) .1)
+    let d = c .before .before .before .before .before .before .before in
+    let a = d .before .before .before .before .before .args in
+    let e = ap (λ (x : Value). R.Found x (d .v .given .0 .1 .0)) (c .before .before .before .before .v2 .given .1) in
+    number-out (a .s .now) (a .from .at) (a .row .now) (a .at + a .k) (sym (d .before .before .value .ensures) ∙ d .v .given .1 ∙ e)
+    (sym (c .before .before .kept .ensures) ∙ c .enum-told .given .1)
 
 returns-3 : tie.Need-returns-3
 returns-3 c =
-    let a = (c .before .before .before .before .before .before .before .before .args) in
-    let e = sym (c .before .before .before .before .before .value .ensures) ∙ (c .before .before .before .v .given) .1 ∙ ap (λ (x : Value). R.Found x ((c .before .before .before .v .given) .0 .1 .0)) ((c .enum-told2 .given) .1) in
-    label-written (a .s .now) (a .from .at) (a .row .now) (a .at + a .k) e
+    let d = c .before .before .before in
+    let a = d .before .before .before .before .before .args in
+    let e = ap (λ (x : Value). R.Found x (d .v .given .0 .1 .0)) (c .enum-told2 .given .1) in
+    label-written (a .s .now) (a .from .at) (a .row .now) (a .at + a .k) (sym (d .before .before .value .ensures) ∙ d .v .given .1 ∙ e)
 
 same-length-2 : tie.Need-same-length-2
 same-length-2 c = search needs
 
 returns-4 : tie.Need-returns-4
 returns-4 c =
-    let a = (c .before .before .before .before .before .before .before .before .before .args) in
-    other-written (a .s .now) (a .from .at) (a .row .now) (a .at + a .k) (sym (c .before .before .before .before .before .before .value .ensures) ∙ (c .before .before .before .before .enum-told3 .given) .1) (c .before .before .write-text .ensures)
+    let d = c .before .before .before .before in
+    let a = d .before .before .before .before .before .args in
+    other-written (a .s .now) (a .from .at) (a .row .now) (a .at + a .k) (sym (d .before .before .value .ensures) ∙ d .enum-told3 .given .1)
+    (c .before .before .write-text .ensures)
 
 pub write-item-spec : {M : Type 1} → statement M
 write-item-spec =

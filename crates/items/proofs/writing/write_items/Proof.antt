@@ -3,7 +3,7 @@
 use Prim.Native.Nat.{_+_, _-_, _≤_}
 use borrow.Author.Needs.{needs}
 use mathlib.Core.Bool.{true}
-use mathlib.Core.Path.{_≡_, refl, sym, ap, _∙_}
+use mathlib.Core.Path.{_≡_, refl, sym, _∙_}
 use native.Mathlib.Nat.{add-zero}
 use native.Mathlib.Omega.{arith}
 use lib.ListN.{length}
@@ -26,9 +26,7 @@ abbrev μ-loop : tie.MeasureT-loop
 μ-loop s row₀ at i₀ k₀ row i k = length s - i
 
 loop-holds : tie.Need-loop-holds Inv-loop μ-loop
-loop-holds c =
-    let a = (c .before .before .args) in
-    (omega arith, refl, (c .before .before .pre), rw add-zero)
+loop-holds c = (omega arith, refl, c .before .before .pre, rw add-zero)
 
 item-requires : tie.Need-item-requires Inv-loop μ-loop
 item-requires c κs = search needs
@@ -40,7 +38,9 @@ same-length : tie.Need-same-length Inv-loop μ-loop
 same-length c = search needs
 
 returns : tie.Need-returns Inv-loop μ-loop
-returns c = absurd (some-item (c .before .before .before .before .before .before .args .s .now) (c .before .before .before .loop .i) ((c .before .before .before .loop .inv) .2) (sym (c .before .before .item .ensures) ∙ (c .enum-told .given) .1))
+returns c =
+    let l = c .before .before .before .loop in
+    absurd (some-item (c .before .before .before .before .before .before .args .s .now) (l .i) (l .inv .2) (sym (c .before .before .item .ensures) ∙ c .enum-told .given .1))
 
 enum-known-n : tie.Need-enum-known-n Inv-loop μ-loop
 enum-known-n c = search needs
@@ -50,7 +50,10 @@ write-item-requires c κs = omega arith
 
 add-k : tie.Need-add-k Inv-loop μ-loop
 add-k c =
-    let h = found-item (c .before .before .before .before .before .before .before .before .before .before .before .args .s .now) (c .before .before .before .before .before .before .before .before .loop .i) (sym (c .before .before .before .before .before .before .before .item .ensures) ∙ (c .before .before .before .before .before .n .given) .1) in
+    let d = c .before .before .before .before .before in
+    let a = d .before .before .before .before .before .before .args in
+    let l = d .before .before .before .loop in
+    let h = found-item (a .s .now) (l .i) (sym (d .before .before .item .ensures) ∙ d .n .given .1) in
     omega (arith, h .few, h .within)
 
 follows-requires : tie.Need-follows-requires Inv-loop μ-loop
@@ -64,10 +67,11 @@ same-length-2 c = search needs
 
 returns-2 : tie.Need-returns-2 Inv-loop μ-loop
 returns-2 c =
-    let a = (c .before .before .before .before .before .before .before .before .before .before .before .before .before .before .args) in
-    let l = (c .before .before .before .before .before .before .before .before .before .before .before .loop) in
-    let h = found-item (a .s .now) (l .i) (sym (c .before .before .before .before .before .before .before .before .before .before .item .ensures) ∙ (c .before .before .before .before .before .before .before .before .n .given) .1) in
-    let e = sym (c .before .before .follows .ensures) ∙ (c .enum-told2 .given) .1 in
+    let d = c .before .before .before .before .before .before .before .before in
+    let a = d .before .before .before .before .before .before .args in
+    let l = d .before .before .before .loop in
+    let h = found-item (a .s .now) (l .i) (sym (d .before .before .item .ensures) ∙ d .n .given .1) in
+    let e = sym (c .before .before .follows .ensures) ∙ c .enum-told2 .given .1 in
     last-written (a .s .now) (l .i) (l .inv .2) h (l .row) (a .at + l .k) e (c .before .before .before .before .before .write-item .ensures) ∙ sym (l .inv .3)
 
 enum-told-3 : tie.Need-enum-told-3 Inv-loop μ-loop
@@ -78,33 +82,36 @@ same-length-3 c = search needs
 
 returns-3 : tie.Need-returns-3 Inv-loop μ-loop
 returns-3 c =
-    let a = (c .before .before .before .before .before .before .before .before .before .before .before .before .before .before .args) in
-    let l = (c .before .before .before .before .before .before .before .before .before .before .before .loop) in
-    let h = found-item (a .s .now) (l .i) (sym (c .before .before .before .before .before .before .before .before .before .before .item .ensures) ∙ (c .before .before .before .before .before .before .before .before .n .given) .1) in
-    absurd (some-end (a .s .now) (l .i) (l .inv .2) h (sym (c .before .before .follows .ensures) ∙ (c .enum-told3 .given) .1))
+    let d = c .before .before .before .before .before .before .before .before in
+    let a = d .before .before .before .before .before .before .args in
+    let l = d .before .before .before .loop in
+    let h = found-item (a .s .now) (l .i) (sym (d .before .before .item .ensures) ∙ d .n .given .1) in
+    absurd (some-end (a .s .now) (l .i) (l .inv .2) h (sym (c .before .before .follows .ensures) ∙ c .enum-told3 .given .1))
 
 enum-known-after : tie.Need-enum-known-after Inv-loop μ-loop
 enum-known-after c = search needs
 
 loop-less : tie.Need-loop-less Inv-loop μ-loop
 loop-less c =
-    let a = (c .before .before .before .before .before .before .before .before .before .before .before .before .before .before .before .args) in
-    let l = (c .before .before .before .before .before .before .before .before .before .before .before .before .loop) in
-    let h = found-item (a .s .now) (l .i) (sym (c .before .before .before .before .before .before .before .before .before .before .before .item .ensures) ∙ (c .before .before .before .before .before .before .before .before .before .n .given) .1) in
-    let m = comma-moves (a .s .now) ((c .before .before .before .before .before .before .before .before .before .n .given) .0 .1 .1 .0 .at) (sym (c .before .before .before .follows .ensures) ∙ (c .before .after .given) .1) in
-    omega (arith, h .moved, m)
+    let d = c .before .before .before .before .before .before .before .before .before in
+    let a = d .before .before .before .before .before .before .args in
+    let l = d .before .before .before .loop in
+    let h = found-item (a .s .now) (l .i) (sym (d .before .before .item .ensures) ∙ d .n .given .1) in
+    let e = sym (c .before .before .before .follows .ensures) ∙ c .before .after .given .1 in
+    omega (arith, h .moved, comma-moves (a .s .now) (d .n .given .0 .1 .1 .0 .at) e)
 
 loop-again : tie.Need-loop-again Inv-loop μ-loop
 loop-again c =
-    let a = (c .before .before .before .before .before .before .before .before .before .before .before .before .before .before .before .args) in
-    let l = (c .before .before .before .before .before .before .before .before .before .before .before .before .loop) in
-    let h = found-item (a .s .now) (l .i) (sym (c .before .before .before .before .before .before .before .before .before .before .before .item .ensures) ∙ (c .before .before .before .before .before .before .before .before .before .n .given) .1) in
-    let e = sym (c .before .before .before .follows .ensures) ∙ (c .before .after .given) .1 in
-    let m = comma-moves (a .s .now) ((c .before .before .before .before .before .before .before .before .before .n .given) .0 .1 .1 .0 .at) e in (
-      omega (arith, h .few, m),
-      omega (arith, (c .before .before .before .before .before .before .write-item .kept)),
+    let d = c .before .before .before .before .before .before .before .before .before in
+    let a = d .before .before .before .before .before .before .args in
+    let l = d .before .before .before .loop in
+    let h = found-item (a .s .now) (l .i) (sym (d .before .before .item .ensures) ∙ d .n .given .1) in
+    let w = c .before .before .before .before .before .before .write-item in
+    let e = sym (c .before .before .before .follows .ensures) ∙ c .before .after .given .1 in (
+      omega (arith, h .few, comma-moves (a .s .now) (d .n .given .0 .1 .1 .0 .at) e),
+      omega (arith, w .kept),
       next-accepted (a .s .now) (l .i) (l .inv .2) h e,
-      l .inv .3 ∙ next-written (a .s .now) (l .i) (l .inv .2) h (l .row) (a .at + l .k) e (c .before .before .before .before .before .before .write-item .ensures) (omega arith),
+      l .inv .3 ∙ next-written (a .s .now) (l .i) (l .inv .2) h (l .row) (a .at + l .k) e (w .ensures) (omega arith),
     )
 
 pub write-items-spec : {M : Type 1} → statement M

@@ -2,9 +2,9 @@
 -- no more cells are written than bytes passed. The measure is what is left of the line.
 use borrow.Author.Needs.{needs}
 use Prim.Native.Nat.{_+_, _-_, _≤_}
-use mathlib.Core.Path.{_≡_, refl, sym, ap, _∙_}
+use mathlib.Core.Path.{_≡_, refl, sym, _∙_}
 use native.Mathlib.Omega.{arith}
-use lib.ListN.{length, length-set}
+use lib.ListN.{length}
 use Rattle.items.proofs.Writes.{Left, string-start, string-on, string-closed, string-broken, string-over, character-moves}
 use Rattle.items.proofs.writing.write_string.Statement.{statement}
 use Rattle.items.proofs.writing.write_string.Tie as tie
@@ -16,7 +16,9 @@ abbrev μ-loop : tie.MeasureT-loop
 μ-loop s from row₀ at k i₀ n₀ row i n = length s - i
 
 loop-holds : tie.Need-loop-holds Inv-loop μ-loop
-loop-holds c = (omega arith, refl, string-start (c .before .before .args .s .now) (c .before .before .args .from) (c .before .before .args .row .now) ((c .before .before .args .at) + (c .before .before .args .k)))
+loop-holds c =
+    let a = c .before .before .args in
+    (omega arith, refl, string-start (a .s .now) (a .from) (a .row .now) (a .at + a .k))
 
 character-requires : tie.Need-character-requires Inv-loop μ-loop
 character-requires c κs = search needs
@@ -25,27 +27,34 @@ enum-known-b : tie.Need-enum-known-b Inv-loop μ-loop
 enum-known-b c = search needs
 
 cast-put : tie.Need-cast-put Inv-loop μ-loop
-cast-put c = omega (arith, (c .before .known-told .given))
+cast-put c = omega (arith, c .before .known-told .given)
 
 put-requires : tie.Need-put-requires Inv-loop μ-loop
 put-requires c κs = search needs
 
 add-n : tie.Need-add-n Inv-loop μ-loop
 add-n c =
-    let h = character-moves (c .before .before .before .before .before .before .before .before .before .before .before .before .args .s .now) (c .before .before .before .before .before .before .before .before .before .loop .i) (sym (c .before .before .before .before .before .before .before .character .ensures) ∙ (c .before .before .before .before .before .b .given) .1) in
+    let d = c .before .before .before .before .before in
+    let h = character-moves (d .before .before .before .before .before .before .before .args .s .now) (d .before .before .before .before .loop .i) (sym (d .before .before .character .ensures) ∙ d .b .given .1) in
     omega (arith, h)
 
 loop-less : tie.Need-loop-less Inv-loop μ-loop
 loop-less c =
-    let h = character-moves (c .before .before .before .before .before .before .before .before .before .before .before .before .args .s .now) (c .before .before .before .before .before .before .before .before .before .loop .i) (sym (c .before .before .before .before .before .before .before .character .ensures) ∙ (c .before .before .before .before .before .b .given) .1) in
+    let d = c .before .before .before .before .before in
+    let h = character-moves (d .before .before .before .before .before .before .before .args .s .now) (d .before .before .before .before .loop .i) (sym (d .before .before .character .ensures) ∙ d .b .given .1) in
     omega (arith, h)
 
 loop-again : tie.Need-loop-again Inv-loop μ-loop
 loop-again c =
-    let a = (c .before .before .before .before .before .before .before .before .before .before .before .before .args) in
-    let l = (c .before .before .before .before .before .before .before .before .before .loop) in
-    let e = sym (c .before .before .before .before .before .before .before .character .ensures) ∙ (c .before .before .before .before .before .b .given) .1 in
-    (omega (arith, character-moves (a .s .now) (l .i) e), omega (arith, (c .before .before .put .kept)), string-on (a .s .now) (a .from) (a .row .now) (a .at + a .k) (l .i) (l .row) (a .at + l .n) (l .inv .2) e (c .before .before .put .ensures) (omega arith))
+    let d = c .before .before .before .before .before in
+    let a = d .before .before .before .before .before .before .before .args in
+    let l = d .before .before .before .before .loop in
+    let e = sym (d .before .before .character .ensures) ∙ d .b .given .1 in (
+      omega (arith, character-moves (a .s .now) (l .i) e),
+      omega (arith, c .before .before .put .kept),
+      string-on (a .s .now) (a .from) (a .row .now) (a .at + a .k) (l .i) (l .row) (a .at + l .n) (l .inv .2) e
+          (c .before .before .put .ensures) (omega arith),
+    )
 
 enum-told : tie.Need-enum-told Inv-loop μ-loop
 enum-told c = search needs
@@ -58,9 +67,12 @@ same-length c = search needs
 
 returns : tie.Need-returns Inv-loop μ-loop
 returns c =
-    let a = (c .before .before .before .before .before .before .before .before .before .before .before .args) in
-    let l = (c .before .before .before .before .before .before .before .before .loop) in
-    string-closed (a .s .now) (a .from) (a .row .now) (a .at + a .k) (l .i) (l .row) (a .at + l .n) (l .inv .2) (sym (c .before .before .before .before .before .before .character .ensures) ∙ (c .before .before .before .before .enum-told .given) .1) (c .before .before .put2 .ensures)
+    let d = c .before .before .before .before in
+    let a = d .before .before .before .before .before .before .before .args in
+    let l = d .before .before .before .before .loop in
+    let e = sym (d .before .before .character .ensures) ∙ d .enum-told .given .1 in
+    string-closed (a .s .now) (a .from) (a .row .now) (a .at + a .k) (l .i) (l .row) (a .at + l .n) (l .inv .2) e
+    (c .before .before .put2 .ensures)
 
 enum-told-2 : tie.Need-enum-told-2 Inv-loop μ-loop
 enum-told-2 c = search needs
@@ -70,17 +82,18 @@ same-length-2 c = search needs
 
 returns-2 : tie.Need-returns-2 Inv-loop μ-loop
 returns-2 c =
-    let a = (c .before .before .before .before .before .before .before .args) in
-    let l = (c .before .before .before .before .loop) in
-    string-broken (a .s .now) (a .from) (a .row .now) (a .at + a .k) (l .i) (l .row) (a .at + l .n) (l .inv .2) (sym (c .before .before .character .ensures) ∙ (c .enum-told2 .given) .1)
+    let a = c .before .before .before .before .before .before .before .args in
+    let l = c .before .before .before .before .loop in
+    string-broken (a .s .now) (a .from) (a .row .now) (a .at + a .k) (l .i) (l .row) (a .at + l .n) (l .inv .2)
+    (sym (c .before .before .character .ensures) ∙ c .enum-told2 .given .1)
 
 same-length-3 : tie.Need-same-length-3 Inv-loop μ-loop
 same-length-3 c = search needs
 
 returns-3 : tie.Need-returns-3 Inv-loop μ-loop
 returns-3 c =
-    let a = (c .before .before .before .before .args) in
-    let l = (c .before .loop) in
+    let a = c .before .before .before .before .args in
+    let l = c .before .loop in
     string-over (a .s .now) (a .from) (a .row .now) (a .at + a .k) (l .i) (l .row) (a .at + l .n) (l .inv .2) (omega arith)
 
 pub write-string-spec : {M : Type 1} → statement M
