@@ -8,18 +8,20 @@ use native.Mathlib.Omega.{arith}
 use lib.Dec.{eqb, T, ltb→lt}
 use borrow.Author.Tests.{eqb-true, ne-eqb, lt-ltb}
 use Rattle.numerals.specs.declared.Numeral.{Numeral}
-use Rattle.numerals.specs.declared.Radix.the-variants.{Decimal, Hexadecimal}
 use Rattle.isa.specs.Registers.{IX, IY, SP, isRegister}
 use Rattle.tokens.specs.Marks.{IsMark, onMark, only}
 use Rattle.tokens.specs.declared.Kind.{Kind}
 use Rattle.tokens.specs.declared.Kind.the-variants as K
 use Rattle.tokens.specs.declared.Token.{Token}
-use Rattle.values.specs.Values.{numeral, nameAt, NumberText, plain, minus, ValueText, number, label}
+use Rattle.values.specs.Values.{numeral, BelowZero, nameAt, NumberText, plain, minus, ValueText, number, label}
+use Rattle.values.specs.Values as Values
+use Rattle.values.specs.Reading.{valueBy}
 use Rattle.values.specs.declared.Value.{Value}
 use Rattle.values.specs.declared.Value.the-variants.{Number, Label}
+use Rattle.values.proofs.Begins.{value-cases, digits-cases, digits-read}
 use Rattle.operands.specs.Operands as G
 use Rattle.operands.specs.Operands.{Index, by-IX, by-IY, by-SP, RegisterName, OperandText, Operands, one, more, OperandField, none, some}
-use Rattle.operands.specs.Walk.{Shape, hash, slash, dollar, State, operand, value, digits, afterHash, indexDot, indexName, registerName, indirectDot, indirectName, closing, done, put, Step, to, emit, halt, Result, reads, wrong, onWord, starts, valueStep, digitsStep, indexStep, cons, finish, stepped, codeAt, step, walk, operandsOf}
+use Rattle.operands.specs.Walk.{Shape, hash, slash, dollar, State, operand, value, digits, afterHash, indexDot, indexName, registerName, indirectDot, indirectName, closing, done, put, Step, to, emit, halt, Result, reads, wrong, onWord, starts, indexStep, cons, finish, stepped, codeAt, step, walk, operandsOf}
 use Rattle.operands.specs.declared.Written.{Written}
 use Rattle.operands.specs.declared.Written.the-variants.{Immediate, Register, Memory, Indirect, IndexedX, IndexedY, IndexedSp, Relative}
 
@@ -44,7 +46,7 @@ module _ (line : List ℕ) where
       → walk line (value k) (us ++ rest) ≡ walk line (put k (Number n)) rest
   unfolding walk
   number-complete (plain e) k rest = rw e
-  number-complete (minus m e d) k rest = rw (m, e, d)
+  number-complete (minus m (Values.digits e d)) k rest = rw (m, e, d)
 
   value-complete : {us : List Token} {v : Value} → ValueText us v → (k : Shape) (rest : List Token)
       → walk line (value k) (us ++ rest) ≡ walk line (put k v) rest
@@ -127,8 +129,7 @@ module _ (line : List ℕ) where
   abbrev Passed : State → List Token → Type 0
   Passed operand cur = cur ≡ []
   Passed (value k) cur = (us : List Token) (v : Value) → ValueText us v → Put k v (cur ++ us)
-  Passed (digits k) cur =
-      (t : Token) (v : ℕ) → t .kind ≡ K.Number v Decimal → t .directly ≡ true → Put k (Number (numeral true Decimal v)) (cur ++ t ∷ [])
+  Passed (digits k) cur = (t : Token) (n : Numeral) → BelowZero t n → Put k (Number n) (cur ++ t ∷ [])
   Passed (afterHash v) cur = Put hash v cur
   Passed (indexDot v) cur =
       (d t z : Token) (r : ℕ) (o : Written) → IsMark (code ".") d → RegisterName line t r → Index r v o → IsMark (code "]") z
@@ -227,33 +228,32 @@ module _ (line : List ℕ) where
       go false false false false true q₁ q₂ q₃ q₄ q₅ = λ us v u. G.relative (is-mark t b (code "$") e q₅) u
       go false false false false false q₁ q₂ q₃ q₄ q₅ = tt
 
-  value-case : (k : Shape) (t : Token) (cur : List Token) → Passed (value k) cur → Stepped t cur (valueStep k (t .kind) t)
-  value-case k t cur h = go (t .kind) refl
+  value-case : (k : Shape) (t : Token) (cur : List Token) → Passed (value k) cur → Stepped t cur (step line (value k) t)
+  value-case k t cur h =
+      value-cases t (λ q. by q (one (Label (nameAt t)) (label q))) (λ v x q. by q (one (Number (numeral false x v)) (number (plain q))))
+      (λ q. by q (minus-case q)) (λ z. subst (Stepped t cur) (sym (z Step _ _ _ halt)) tt)
     where
-      go : (j : Kind) → t .kind ≡ j → Stepped t cur (valueStep k j t)
-      go K.End q = tt
-      go K.Stray q = tt
-      go K.Word q = put-passed k (Label (nameAt t)) (cur ++ t ∷ []) (h (t ∷ []) (Label (nameAt t)) (label q))
-      go (K.Number n x) q =
-          put-passed k (Number (numeral false x n)) (cur ++ t ∷ []) (h (t ∷ []) (Number (numeral false x n)) (number (plain q)))
-      go K.Text q = tt
-      go (K.Mark b) q =
-          only-case t cur (code "-") b (to (digits k)) q
-          (λ e u v x g. subst (λ (l : List Token). Put k (Number (numeral true Decimal v)) l) (sym (append-assoc cur (t ∷ []) (u ∷ [])))
-          (h (t ∷ u ∷ []) (Number (numeral true Decimal v)) (number (minus e x g))))
+      goes : Kind → Step
+      goes x = valueBy (to (put k (Label (nameAt t)))) (λ n. to (put k (Number n))) (to (digits k)) halt x
 
-  digits-case : (k : Shape) (t : Token) (cur : List Token) → Passed (digits k) cur → Stepped t cur (digitsStep k (t .kind) (t .directly))
-  digits-case k t cur h = go (t .kind) (t .directly) refl refl
+      by : {x : Kind} → t .kind ≡ x → Stepped t cur (goes x) → Stepped t cur (step line (value k) t)
+      by q p = subst (λ (x : Kind). Stepped t cur (goes x)) (sym q) p
+
+      one : (v : Value) → ValueText (t ∷ []) v → Passed (put k v) (cur ++ t ∷ [])
+      one v u = put-passed k v (cur ++ t ∷ []) (h (t ∷ []) v u)
+
+      minus-case : IsMark (code "-") t → Passed (digits k) (cur ++ t ∷ [])
+      minus-case e u n b =
+          subst (λ (l : List Token). Put k (Number n) l) (sym (append-assoc cur (t ∷ []) (u ∷ []))) (h (t ∷ u ∷ []) (Number n) (number (minus e b)))
+
+  digits-case : (k : Shape) (t : Token) (cur : List Token) → Passed (digits k) cur → Stepped t cur (step line (digits k) t)
+  digits-case k t cur h = digits-cases t below (λ z. subst (Stepped t cur) (sym (z Step goes halt)) tt)
     where
-      go : (j : Kind) (d : Bool) → t .kind ≡ j → t .directly ≡ d → Stepped t cur (digitsStep k j d)
-      go K.End d q r = tt
-      go K.Stray d q r = tt
-      go K.Word d q r = tt
-      go (K.Number v Decimal) true q r = put-passed k (Number (numeral true Decimal v)) (cur ++ t ∷ []) (h t v q r)
-      go (K.Number v Decimal) false q r = tt
-      go (K.Number v Hexadecimal) d q r = tt
-      go K.Text d q r = tt
-      go (K.Mark b) d q r = tt
+      goes : Numeral → Step
+      goes n = to (put k (Number n))
+
+      below : (n : Numeral) → BelowZero t n → Stepped t cur (step line (digits k) t)
+      below n b = subst (Stepped t cur) (sym (digits-read goes halt b)) (put-passed k (Number n) (cur ++ t ∷ []) (h t n b))
 
   step-passed : (st : State) (t : Token) (cur : List Token) → Passed st cur → Stepped t cur (step line st t)
   step-passed operand t cur h = rw h (mark-case t [] starts (λ b e. start-case t b e))

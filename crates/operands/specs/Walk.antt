@@ -2,10 +2,9 @@
 -- `proofs/Top.antt` shows that it finds exactly the rule's operands.
 use Prim.Native.Nat.{ℕ}
 use Prim.Native.Char.{code}
-use mathlib.Core.Bool.{Bool, true, false, cond}
+use mathlib.Core.Bool.{cond}
 use mathlib.Core.List.{List, [], _∷_}
 use lib.Dec.{eqb}
-use Rattle.numerals.specs.declared.Radix.the-variants.{Decimal, Hexadecimal}
 use Rattle.isa.specs.Registers.{IX, IY, SP, isRegister}
 use Rattle.names.specs.Names.{registerCode}
 use Rattle.tokens.specs.Marks.{onMark, only}
@@ -13,7 +12,8 @@ use Rattle.tokens.specs.Commas.{onComma}
 use Rattle.tokens.specs.declared.Kind.{Kind}
 use Rattle.tokens.specs.declared.Kind.the-variants as K
 use Rattle.tokens.specs.declared.Token.{Token}
-use Rattle.values.specs.Values.{numeral, nameAt}
+use Rattle.values.specs.Values.{nameAt}
+use Rattle.values.specs.Reading.{valueBy, digitsBy}
 use Rattle.values.specs.declared.Value.{Value}
 use Rattle.values.specs.declared.Value.the-variants.{Number, Label}
 use Rattle.operands.specs.Operands.{wordAt}
@@ -68,23 +68,6 @@ starts b =
     (cond (eqb b (code "[")) (to indirectDot)
     (cond (eqb b (code "$")) (to (value dollar)) halt))))
 
-abbrev pub valueStep : Shape → Kind → Token → Step
-valueStep k K.End t = halt
-valueStep k K.Stray t = halt
-valueStep k K.Word t = to (put k (Label (nameAt t)))
-valueStep k (K.Number v r) t = to (put k (Number (numeral false r v)))
-valueStep k K.Text t = halt
-valueStep k (K.Mark b) t = only halt (code "-") (to (digits k)) b
-
-abbrev pub digitsStep : Shape → Kind → Bool → Step
-digitsStep k K.End d = halt
-digitsStep k K.Stray d = halt
-digitsStep k K.Word d = halt
-digitsStep k (K.Number v Decimal) d = cond d (to (put k (Number (numeral true Decimal v)))) halt
-digitsStep k (K.Number v Hexadecimal) d = halt
-digitsStep k K.Text d = halt
-digitsStep k (K.Mark b) d = halt
-
 -- an index by a register's code
 unfoldable pub indexStep : Value → ℕ → Step
 indexStep v r =
@@ -121,8 +104,8 @@ module _ (line : List ℕ) where
 
   abbrev pub step : State → Token → Step
   step operand t = onMark halt starts (t .kind)
-  step (value k) t = valueStep k (t .kind) t
-  step (digits k) t = digitsStep k (t .kind) (t .directly)
+  step (value k) t = valueBy (to (put k (Label (nameAt t)))) (λ n. to (put k (Number n))) (to (digits k)) halt (t .kind)
+  step (digits k) t = digitsBy (λ n. to (put k (Number n))) halt (t .kind) (t .directly)
   step (afterHash v) t = onMark halt (λ b. cond (eqb b (code "[")) (to (indexDot v)) (only halt (code ",") (emit (Immediate v)) b)) (t .kind)
   step (indexDot v) t = onMark halt (only halt (code ".") (to (indexName v))) (t .kind)
   step (indexName v) t = onWord (indexStep v (codeAt t)) (t .kind)

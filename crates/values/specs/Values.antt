@@ -18,10 +18,14 @@ use Rattle.values.specs.declared.Value.the-variants.{Number, Label}
 abbrev pub numeral : Bool → Radix → ℕ → Numeral
 numeral below k v = record { negative = below; radix = k; magnitude = v }
 
+-- the digits of a number below zero: decimal, and directly after its `-`
+pub data BelowZero : Token → Numeral → Type 0 where
+  digits : {t : Token} {v : ℕ} → t .kind ≡ K.Number v Decimal → t .directly ≡ true → BelowZero t (numeral true Decimal v)
+
 -- a number: one token, or a decimal one with `-` directly before
 pub data NumberText : List Token → Numeral → Type 0 where
   plain : {t : Token} {v : ℕ} {k : Radix} → t .kind ≡ K.Number v k → NumberText (t ∷ []) (numeral false k v)
-  minus : {m t : Token} {v : ℕ} → IsMark (code "-") m → t .kind ≡ K.Number v Decimal → t .directly ≡ true → NumberText (m ∷ t ∷ []) (numeral true Decimal v)
+  minus : {m t : Token} {n : Numeral} → IsMark (code "-") m → BelowZero t n → NumberText (m ∷ t ∷ []) n
 
 -- a word's place in the line
 abbrev pub nameAt : Token → Name
