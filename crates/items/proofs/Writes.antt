@@ -183,12 +183,13 @@ module _ (s : List ℕ) (at : ℕ) (ok : accepted (walk s item (tokensFrom s at)
     last-written row to e w = sym (written row to (reads []) (walked e) w)
 
     pub next-accepted : {d : Cursor} → followsOf (tokenAt s (c .at)) ≡ Comma d → accepted (walk s item (tokensFrom s (d .at))) ≡ true
+    unfolding walk
     next-accepted {d} e = headed (walk s item (tokensFrom s (d .at))) (walked e) .rest
 
     pub next-written : (row : List ℕ) (to : ℕ) {ms : List ℕ} {d : Cursor} {n : ℕ} → followsOf (tokenAt s (c .at)) ≡ Comma d
         → ms ≡ sets row to (cellsAt (itemAt s at)) → n ≡ to + m
         → sets row to (cellsFrom s (tokensFrom s at)) ≡ sets ms n (cellsFrom s (tokensFrom s (d .at)))
-    unfolding cellsFrom
+    unfolding cellsFrom walk
     next-written row to {ms} {d} e w q =
         written row to (walk s item (tokensFrom s (d .at))) (walked e) w ∙ ap (λ (x : ℕ). sets ms x (cellsIn (walk s item (tokensFrom s (d .at))))) (sym q)
 
