@@ -1,18 +1,14 @@
 -- The walk reads what the rule gives and nothing else.
 use Prim.Native.Nat.{ℕ, zero, suc, _+_, _-_, _≤_, _<_}
 use Prim.Native.Char.{code}
-use mathlib.Core.Bool.{Bool, true, false, cond}
-use mathlib.Core.List.{List, [], _∷_, _++_, append-assoc, append-nil}
+use mathlib.Core.List.{List, [], _∷_, _++_, append-nil}
 use mathlib.Core.Path.{_≡_, refl, sym, ap, subst, _∙_}
 use native.Mathlib.Omega.{arith}
-use lib.Dec.{eqb}
 use lib.ListN.{length, drop}
-use borrow.Author.Tests.{eqb-true}
 use Rattle.numerals.specs.declared.Numeral.{Numeral}
 use Rattle.tokens.specs.Strings.{Characters}
 use Rattle.tokens.specs.Marks.{IsMark}
 use Rattle.tokens.specs.Reading.{tokenAt, tokensFrom}
-use Rattle.tokens.specs.Commas.{onComma}
 use Rattle.tokens.specs.declared.Kind.{Kind}
 use Rattle.tokens.specs.declared.Kind.the-variants as K
 use Rattle.tokens.specs.declared.Token.{Token}
@@ -21,9 +17,11 @@ use Rattle.values.specs.Values.{BelowZero, plain, minus}
 use Rattle.values.specs.Values as Values
 use Rattle.values.specs.Reading.{valueBy}
 use Rattle.values.proofs.Rows.{row-of, ends-of}
+use Rattle.values.proofs.Walks as Walks
+use Rattle.values.proofs.Walks.{never, Each}
 use Rattle.values.proofs.Begins.{value-cases, digits-cases, digits-read}
 use Rattle.items.specs.Items.{Item, number, ItemText, is-number, is-string, Items, one, more}
-use Rattle.items.specs.Reading.{characters, State, item, digits, done, Step, to, emit, halt, Result, reads, wrong, onText, cons, stepped, stringOf, step, walk}
+use Rattle.items.specs.Reading.{characters, State, item, digits, done, Step, to, halt, reads, onText, cons, finish, stringOf, step, walk}
 use Rattle.items.proofs.Counts.{characters-of}
 use Rattle.items.proofs.Measures.{quote-at}
 
@@ -34,8 +32,7 @@ abbrev Spelt : List ℕ → Token → Type 0
 Spelt line t = t .kind ≡ K.Text → Characters (drop (t .start + 1) line) (characters (drop (t .start + 1) line)) (drop (t .next .at) line)
 
 abbrev pub InLine : List ℕ → List Token → Type 0
-InLine line [] = Unit
-InLine line (t ∷ ts) = Spelt line t × InLine line ts
+InLine line ts = Each (Spelt line) ts
 
 spelt : (line : List ℕ) (at : ℕ) → Spelt line (tokenAt line at)
 spelt line at e =
@@ -94,9 +91,7 @@ module _ (line : List ℕ) where
   Read (done i) cur = ItemText line cur i
 
   abbrev Stepped : Token → List Token → Step → Type 0
-  Stepped t cur (to st) = Read st (cur ++ t ∷ [])
-  Stepped t cur (emit i) = ItemText line cur i × IsMark (code ",") t
-  Stepped t cur halt = Unit
+  Stepped t cur x = Walks.Stepped (ItemText line) Read t cur x
 
   step-read : (st : State) (t : Token) (cur : List Token) → Spelt line t → Read st cur → Stepped t cur (step line st t)
   step-read item t cur w h =
@@ -121,42 +116,15 @@ module _ (line : List ℕ) where
     where
       goes : Numeral → Step
       goes n = to (done (number n))
-  step-read (done i) t cur w h = go (t .kind) refl
-    where
-      comma-case : (b : ℕ) (y : Bool) → IsMark b t → eqb b (code ",") ≡ y → Stepped t cur (cond y (emit i) halt)
-      comma-case b true q e = (h, q ∙ ap K.Mark (eqb-true b (code ",") e))
-      comma-case b false q e = tt
+  step-read (done i) t cur w h = Walks.comma-case (ItemText line) Read t cur i h
 
-      go : (k : Kind) → t .kind ≡ k → Stepped t cur (onComma halt (emit i) k)
-      go K.End q = tt
-      go K.Stray q = tt
-      go K.Word q = tt
-      go (K.Number v k) q = tt
-      go K.Text q = tt
-      go (K.Mark b) q = comma-case b (eqb b (code ",")) q refl
-
-  pub never : {is : List Item} → _≡_ {A = Result} wrong (reads is) → ⊥
-  never e = let z : _≡_ {A = ℕ} 0 1 = cc in omega arith
-
-  pub un-cons : (i : Item) (r : Result) (is : List Item) → cons i r ≡ reads is → (us : List Item) × (r ≡ reads us) × (is ≡ i ∷ us)
-  un-cons i (reads us) is e = (us, refl, cc)
-  un-cons i wrong is e = absurd (never e)
-
-  walk-sound : (ts : List Token) (st : State) (cur : List Token) (is : List Item) → InLine line ts → Read st cur → walk line st ts ≡ reads is
-      → Items line (cur ++ ts) is
-  unfolding walk
-  walk-sound [] item cur is w h e = absurd (never e)
-  walk-sound [] digits cur is w h e = absurd (never e)
-  walk-sound [] (done i) cur is w h e = let q : i ∷ [] ≡ is = cc in rw (append-nil cur, ← q) (one h)
-  walk-sound (t ∷ ts) st cur is w h e =
-      go (step line st t) (step-read st t cur (w .0) h) e (λ st′ cur′ is′ h′ e′. walk-sound ts st′ cur′ is′ (w .1) h′ e′)
-    where
-      go : (x : Step) → Stepped t cur x → stepped x (λ next. walk line next ts) ≡ reads is
-          → ((st′ : State) (cur′ : List Token) (is′ : List Item) → Read st′ cur′ → walk line st′ ts ≡ reads is′ → Items line (cur′ ++ ts) is′)
-          → Items line (cur ++ t ∷ ts) is
-      go (to st′) c e f = rw append-assoc at (f st′ (cur ++ t ∷ []) is c e)
-      go (emit i) c e f = let u = un-cons i (walk line item ts) is e in rw (u .2) (more t (c .0) (c .1) (f item [] (u .0) refl (u .1)))
-      go halt c e f = absurd (never e)
+  end-sound : (st : State) (cur : List Token) (is : List Item) → Read st cur → finish st ≡ reads is → Items line cur is
+  end-sound item cur is h e = absurd (never e)
+  end-sound digits cur is h e = absurd (never e)
+  end-sound (done i) cur is h e = let q : i ∷ [] ≡ is = cc in rw (← q) (one h)
 
   pub sound : {ts : List Token} {is : List Item} → InLine line ts → walk line item ts ≡ reads is → Items line ts is
-  sound {ts} {is} w e = walk-sound ts item [] is w refl e
+  unfolding walk
+  sound {ts} {is} w e =
+      Walks.sound item (step line) finish (ItemText line) (Items line) (λ ts us i is c u q r. more c u q r) Read refl (Spelt line)
+      step-read end-sound ts is w e

@@ -6,13 +6,12 @@ use mathlib.Core.List.{List, [], _∷_, _++_}
 use mathlib.Core.Path.{_≡_, refl, sym, ap, _∙_}
 use native.Mathlib.Nat.{add-zero}
 use native.Mathlib.Omega.{arith}
-use lib.Dec.{eqb}
-use lib.ListN.{length, drop, length-append}
+use lib.ListN.{length, length-append}
 use Rattle.numerals.specs.declared.Cursor.{Cursor}
 use Rattle.numerals.specs.declared.Numeral.{Numeral}
 use Rattle.tokens.specs.Marks.{IsMark}
 use Rattle.tokens.specs.Reading.{tokenAt, tokensFrom}
-use Rattle.tokens.specs.Commas.{followsBy, followsOf}
+use Rattle.tokens.specs.Commas.{followsOf}
 use Rattle.tokens.specs.declared.Follows.{Follows}
 use Rattle.tokens.specs.declared.Follows.the-variants.{Comma, Over, Neither}
 use Rattle.tokens.specs.declared.Kind.{Kind}
@@ -24,9 +23,11 @@ use Rattle.values.specs.declared.Value.the-variants.{Number, Label}
 use Rattle.values.specs.declared.ValueRead.{ValueRead}
 use Rattle.values.specs.declared.ValueRead.the-variants as R
 use Rattle.values.proofs.Rows.{row-of}
+use Rattle.values.proofs.Walks as Walks
+use Rattle.values.proofs.Walks.{turned, finished}
 use Rattle.values.proofs.Begins.{value-cases, digits-cases, digits-read, digits-row}
 use Rattle.items.specs.Items.{Item, number, string, itemCells, itemInRange, cellsOf, allInRange}
-use Rattle.items.specs.Reading.{State, item, digits, done, Step, to, emit, halt, Result, reads, wrong, onText, cons, finish, stepped, stringOf, step, walk, judged, itemsRead}
+use Rattle.items.specs.Reading.{State, item, digits, done, Step, to, halt, Result, reads, wrong, onText, cons, finish, stringOf, step, walk, judged, itemsRead}
 use Rattle.items.specs.Turns.{Standing, stands, none, stringAt, itemBy, itemAt, measured, verdict}
 use Rattle.items.specs.declared.ItemRead.the-variants.{Absent}
 use Rattle.items.specs.declared.ItemsRead.the-variants.{Cells, WrongForm, OutOfRange}
@@ -45,35 +46,24 @@ itemOn s (stands i c) = walk s (done i) (tokensFrom s (c .at))
 itemOn s none = wrong
 
 abbrev pub followsOn : List ℕ → Item → Follows → Result
-followsOn s i (Comma c) = cons i (walk s item (tokensFrom s (c .at)))
-followsOn s i Over = reads (i ∷ [])
-followsOn s i Neither = wrong
+followsOn s i x = Walks.followsOn item (step s) finish s i x
 
 module _ (s : List ℕ) (at : ℕ) where
-  -- a token that the walk takes
-  turned : (st : State) {x : Step} {ts : List Token} → tokensFrom s at ≡ tokenAt s at ∷ ts → step s st (tokenAt s at) ≡ x
-      → walk s st (tokensFrom s at) ≡ stepped x (λ next. walk s next ts)
+  -- a token that the walk takes, and one that it does not
+  taken : (st x : State) {ts : List Token} → tokensFrom s at ≡ tokenAt s at ∷ ts → step s st (tokenAt s at) ≡ to x
+      → walk s st (tokensFrom s at) ≡ walk s x ts
   unfolding walk
-  turned st {ts = ts} e h = rw e (ap (λ (y : Step). stepped y (λ next. walk s next ts)) h)
+  taken st x e h = turned item (step s) finish s at st e h
 
-  -- a token that it does not take
   halted : (st : State) → finish st ≡ wrong → step s st (tokenAt s at) ≡ halt → walk s st (tokensFrom s at) ≡ wrong
   unfolding walk
-  halted st z h = go (tokenAt s at .kind) refl
-    where
-      go : (k : Kind) → tokenAt s at .kind ≡ k → walk s st (tokensFrom s at) ≡ wrong
-      go K.End q = rw (row-of s at q) z
-      go K.Stray q = turned st (row-of s at q) h
-      go K.Word q = turned st (row-of s at q) h
-      go (K.Number v k) q = turned st (row-of s at q) h
-      go K.Text q = turned st (row-of s at q) h
-      go (K.Mark b) q = turned st (row-of s at q) h
+  halted st z h = Walks.halted item (step s) finish s at st z h
 
   digits-turn : walk s digits (tokensFrom s at) ≡ valueOn s (minusAt s at)
   unfolding minusAt
   digits-turn =
       digits-cases (tokenAt s at)
-      (λ n b. turned digits (digits-row s at b) (digits-read goes halt b) ∙ ap (valueOn s) (sym (digits-read found R.Absent b)))
+      (λ n b. taken digits (done (number n)) (digits-row s at b) (digits-read goes halt b) ∙ ap (valueOn s) (sym (digits-read found R.Absent b)))
       (λ h. halted digits refl (h Step goes halt) ∙ ap (valueOn s) (sym (h ValueRead found R.Absent)))
     where
       found : Numeral → ValueRead
@@ -94,7 +84,7 @@ module _ (s : List ℕ) (at : ℕ) where
 
       yes : (i : Item) → tokensFrom s at ≡ tokenAt s at ∷ tokensFrom s (tokenAt s at .next .at) → step s item (tokenAt s at) ≡ to (done i)
           → itemAt s at ≡ stands i (tokenAt s at .next) → walk s item (tokensFrom s at) ≡ itemOn s (itemAt s at)
-      yes i e h p = turned s at item {x = to (done i)} e h ∙ ap (itemOn s) (sym p)
+      yes i e h p = taken s at item (done i) e h ∙ ap (itemOn s) (sym p)
 
       -- what follows a `-`, which is no string
       minus : IsMark (code "-") (tokenAt s at) → (r : ValueRead) → valueOn s r ≡ itemOn s (itemBy s at r)
@@ -106,7 +96,7 @@ module _ (s : List ℕ) (at : ℕ) where
       minus-turn q =
           let next = tokenAt s at .next .at in
           let p : itemAt s at ≡ itemBy s at (minusAt s next) = rw q in
-          turned s at item {x = to digits} (row-of s at q) (rw q) ∙ digits-turn s next ∙ minus q (minusAt s next) ∙ ap (itemOn s) (sym p)
+          taken s at item digits (row-of s at q) (rw q) ∙ digits-turn s next ∙ minus q (minusAt s next) ∙ ap (itemOn s) (sym p)
 
       -- no value, so a string at most
       string-turn : (k : Kind) → tokenAt s at .kind ≡ k
@@ -122,19 +112,7 @@ module _ (s : List ℕ) (at : ℕ) where
 
   pub done-turn : (i : Item) → walk s (done i) (tokensFrom s at) ≡ followsOn s i (followsOf (tokenAt s at))
   unfolding walk
-  done-turn i = go (tokenAt s at .kind) refl
-    where
-      go : (k : Kind) → tokenAt s at .kind ≡ k → walk s (done i) (tokensFrom s at) ≡ followsOn s i (followsBy k (tokenAt s at .next))
-      go K.End q = rw (row-of s at q)
-      go K.Stray q = rw (row-of s at q, q)
-      go K.Word q = rw (row-of s at q, q)
-      go (K.Number v k) q = rw (row-of s at q, q)
-      go K.Text q = rw (row-of s at q, q)
-      go (K.Mark b) q = mark (eqb b (code ",")) refl
-        where
-          mark : (y : Bool) → eqb b (code ",") ≡ y → walk s (done i) (tokensFrom s at) ≡ followsOn s i (cond y (Comma (tokenAt s at .next)) Neither)
-          mark true x = rw (row-of s at q, q, x)
-          mark false x = rw (row-of s at q, q, x)
+  done-turn i = finished item (step s) finish s at (done i) i refl refl
 
 -- ---- the verdict on what is left
 
@@ -177,4 +155,5 @@ module _ (s : List ℕ) (at n : ℕ) (f : Bool) where
 
     pub turn-comma : {g : Bool} {d : Cursor} → followsOf (tokenAt s (c .at)) ≡ Comma d → g ≡ (f && b)
         → verdict n f (walk s item (tokensFrom s at)) ≡ verdict (n + m) g (walk s item (tokensFrom s (d .at)))
+    unfolding walk
     turn-comma {g} {d} e q = ap (verdict n f) (walked e) ∙ added g (walk s item (tokensFrom s (d .at))) q

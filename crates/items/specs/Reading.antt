@@ -1,4 +1,4 @@
--- The reading of DATA's items as a walk over their tokens; `proofs/Top.antt` shows that it finds exactly the rule's items.
+-- The reading of DATA's items as a walk over their tokens (values' Walks.antt); `proofs/Top.antt` shows that it finds exactly the rule's items.
 use Prim.Native.Nat.{ℕ, _+_}
 use mathlib.Core.Bool.{cond}
 use mathlib.Core.List.{List, [], _∷_}
@@ -11,6 +11,8 @@ use Rattle.tokens.specs.declared.Kind.{Kind}
 use Rattle.tokens.specs.declared.Kind.the-variants as K
 use Rattle.tokens.specs.declared.Token.{Token}
 use Rattle.values.specs.Reading.{valueBy, digitsBy}
+use Rattle.values.specs.Walks as Walks
+pub use Rattle.values.specs.Walks.{to, emit, halt, reads, wrong, cons}
 use Rattle.items.specs.Items.{Item, number, string, cellsOf, allInRange}
 use Rattle.items.specs.declared.ItemsRead.{ItemsRead}
 use Rattle.items.specs.declared.ItemsRead.the-variants.{Cells, WrongForm, OutOfRange}
@@ -31,14 +33,11 @@ pub data State : Type 0 where
   digits : State  -- the digits after `-`
   done : Item → State  -- a comma or the end
 
-pub data Step : Type 0 where
-  to : State → Step
-  emit : Item → Step  -- a comma ends the item
-  halt : Step
+abbrev pub Step : Type 0
+Step = Walks.Step State Item
 
-pub data Result : Type 0 where
-  reads : List Item → Result
-  wrong : Result
+abbrev pub Result : Type 0
+Result = Walks.Result Item
 
 -- what a string leads to; any other token leads to `other`
 abbrev pub onText : {S : Type 0} → S → S → Kind → S
@@ -49,19 +48,10 @@ onText other text (K.Number v k) = other
 onText other text K.Text = text
 onText other text (K.Mark b) = other
 
-abbrev pub cons : Item → Result → Result
-cons i (reads is) = reads (i ∷ is)
-cons i wrong = wrong
-
 abbrev pub finish : State → Result
 finish item = wrong
 finish digits = wrong
 finish (done i) = reads (i ∷ [])
-
-abbrev pub stepped : Step → (State → Result) → Result
-stepped (to st) r = r st
-stepped (emit i) r = cons i (r item)
-stepped halt r = wrong
 
 module _ (line : List ℕ) where
   -- a string's item
@@ -75,8 +65,7 @@ module _ (line : List ℕ) where
   step (done i) t = onComma halt (emit i) (t .kind)
 
   unfoldable pub walk : State → List Token → Result
-  walk st [] = finish st
-  walk st (t ∷ ts) = stepped (step st t) (λ next. walk next ts)
+  walk st ts = Walks.walk item step finish st ts
 
 -- form 3, then ranges 6
 abbrev pub judged : Result → ItemsRead

@@ -14,6 +14,7 @@ use Rattle.isa.specs.Opcodes.{table, countOf}
 use Rattle.isa.specs.Operands.{allows}
 use Rattle.isa.specs.declared.Opcode.{Opcode}
 use Rattle.tokens.specs.declared.Token.{Token}
+use Rattle.values.proofs.Walks.{never}
 use Rattle.operands.specs.Operands.{OperandField}
 use Rattle.operands.specs.Walk.{Result, reads, wrong, operandsOf}
 use Rattle.operands.specs.Checks.{operandWith, operandAt, fits, wordOf, given, ranged, judged, judgedForm, instructionRead}
@@ -21,7 +22,7 @@ use Rattle.operands.specs.declared.Given.{Given}
 use Rattle.operands.specs.declared.InstructionRead.{InstructionRead}
 use Rattle.operands.specs.declared.InstructionRead.the-variants.{Read, WrongForm, WrongOperands, OutOfRange}
 use Rattle.operands.specs.declared.Written.{Written}
-use Rattle.operands.proofs.Readings.{never, field-sound, field-complete}
+use Rattle.operands.proofs.Readings.{field-sound, field-complete}
 
 -- ---- number and kinds
 

@@ -2,7 +2,7 @@
 use Prim.Native.Nat.{ℕ, _≤_, _<_}
 use Prim.Native.Char.{code}
 use mathlib.Core.Bool.{Bool, true, false, cond}
-use mathlib.Core.List.{List, [], _∷_}
+use mathlib.Core.List.{List, []}
 use mathlib.Core.Path.{_≡_, refl, sym, ap, subst, _∙_}
 use native.Mathlib.Omega.{arith}
 use lib.Dec.{eqb}
@@ -17,7 +17,9 @@ use Rattle.tokens.specs.declared.Kind.the-variants as K
 use Rattle.tokens.specs.declared.Token.{Token}
 use Rattle.tokens.proofs.Parted.{comma-moves}
 use Rattle.values.proofs.Rows.{row-of}
-use Rattle.operands.specs.Walk.{operand, done, Result, reads, wrong, cons, walk, operandsOf}
+use Rattle.values.proofs.Walks as Walks
+use Rattle.values.proofs.Walks.{finished}
+use Rattle.operands.specs.Walk.{operand, done, Result, reads, wrong, cons, finish, step, walk, operandsOf}
 use Rattle.operands.specs.Peeks.{Goes, keep, keepAll, noneListed, listed}
 use Rattle.operands.specs.declared.ListRead.the-variants as L
 use Rattle.operands.specs.declared.FirstTwo.{FirstTwo}
@@ -29,30 +31,16 @@ unfolding keepAll
 listed-cons all o (reads os) = refl
 listed-cons all o wrong = refl
 
--- what is read of an operand and what follows it
+-- an operand and what follows it
 abbrev followsOn : List ℕ → Written → Follows → Result
-followsOn s o (Comma c) = cons o (walk s operand (tokensFrom s (c .at)))
-followsOn s o Over = reads (o ∷ [])
-followsOn s o Neither = wrong
+followsOn s o x = Walks.followsOn operand (step s) finish s o x
 
 module _ (s : List ℕ) (at : ℕ) where
   -- ---- what follows an operand
 
   pub done-turn : (o : Written) → walk s (done o) (tokensFrom s at) ≡ followsOn s o (followsOf (tokenAt s at))
   unfolding walk
-  done-turn o = go (tokenAt s at .kind) refl
-    where
-      go : (k : Kind) → tokenAt s at .kind ≡ k → walk s (done o) (tokensFrom s at) ≡ followsOn s o (followsBy k (tokenAt s at .next))
-      go K.End q = rw (row-of s at q)
-      go K.Stray q = rw (row-of s at q, q)
-      go K.Word q = rw (row-of s at q, q)
-      go (K.Number v k) q = rw (row-of s at q, q)
-      go K.Text q = rw (row-of s at q, q)
-      go (K.Mark b) q = mark (eqb b (code ",")) refl
-        where
-          mark : (y : Bool) → eqb b (code ",") ≡ y → walk s (done o) (tokensFrom s at) ≡ followsOn s o (cond y (Comma (tokenAt s at .next)) Neither)
-          mark true x = rw (row-of s at q, q, x)
-          mark false x = rw (row-of s at q, q, x)
+  done-turn o = finished operand (step s) finish s at (done o) o refl refl
 
   -- no operands, or some
   abbrev Row : Follows → Type 0
@@ -105,6 +93,7 @@ module _ (s : List ℕ) (all : FirstTwo) (at : ℕ) where
 
     pub some-comma : {m : Cursor} {more : FirstTwo} → more ≡ keep all o → followsOf (tokenAt s (c .at)) ≡ Comma m
         → (listed all (walk s operand (tokensFrom s at)) ≡ listed more (walk s operand (tokensFrom s (m .at)))) × (at < m .at) × (m .at ≤ length s)
+    unfolding walk
     some-comma {m} {more} q e =
         let h = comma-moves s (c .at) e in
         let r = walk s operand (tokensFrom s (m .at)) in

@@ -11,6 +11,7 @@ use Rattle.numerals.specs.declared.Cursor.{Cursor}
 use Rattle.isa.specs.Registers.{IX, IY, SP, isRegister}
 use Rattle.tokens.specs.Marks.{onMark, only}
 use Rattle.tokens.specs.Reading.{tokenAt, tokensFrom}
+use Rattle.tokens.specs.Commas.{atComma}
 use Rattle.tokens.specs.declared.Kind.{Kind}
 use Rattle.tokens.specs.declared.Kind.the-variants as K
 use Rattle.tokens.specs.declared.Token.{Token}
@@ -156,7 +157,7 @@ module _ (s : List ℕ) (at : ℕ) where
     -- ---- after `#v`
 
     hashRest : ℕ → Step
-    hashRest b = cond (eqb b (code "[")) (to (indexDot v)) (only halt (code ",") (emit (Immediate v)) b)
+    hashRest b = cond (eqb b (code "[")) (to (indexDot v)) (atComma halt (emit (Immediate v)) b)
 
     pub rest-index : {b : ℕ} {c : Cursor} {r : OperandRead} → markOf (tokenAt s at) ≡ M.Is b c → b ≡ code "[" → Goes s (indexDot v) (c .at) r
         → Goes s (afterHash v) at r
@@ -167,11 +168,11 @@ module _ (s : List ℕ) (at : ℕ) where
         → Goes s (afterHash v) at (O.Read (Immediate v) (record { at = at }))
     unfolding hashRest
     rest-no {b} {c} e q =
-        let w : hashRest b ≡ only halt (code ",") (emit (Immediate v)) b = rw (ne-eqb b (code "[") q) in
+        let w : hashRest b ≡ atComma halt (emit (Immediate v)) b = rw (ne-eqb b (code "[") q) in
         record {
           same =
               on-mark s at (afterHash v) hashRest (λ u. refl) b c e ∙ ap (λ (z : Step). stepped z (λ y. walk s y (tokensFrom s (c .at)))) w
-              ∙ sym (on-mark s at (done (Immediate v)) (only halt (code ",") (emit (Immediate v))) (λ u. refl) b c e);
+              ∙ sym (on-mark s at (done (Immediate v)) (atComma halt (emit (Immediate v))) (λ u. refl) b c e);
           on = omega arith;
         }
 

@@ -2,7 +2,7 @@
 use Prim.Native.Nat.{ℕ, _≤_, _<_}
 use Prim.Native.Char.{code}
 use mathlib.Core.Bool.{Bool, true, false, cond}
-use mathlib.Core.List.{List, [], _∷_}
+use mathlib.Core.List.{List, _∷_}
 use mathlib.Core.Path.{_≡_, refl, sym, ap, subst, _∙_}
 use native.Mathlib.Omega.{arith}
 use lib.ListN.{length}
@@ -22,8 +22,10 @@ use Rattle.values.specs.declared.Value.the-variants.{Number, Label}
 use Rattle.values.specs.declared.ValueRead.{ValueRead}
 use Rattle.values.specs.declared.ValueRead.the-variants as V′
 use Rattle.values.proofs.Rows.{row-of, ends-of}
+use Rattle.values.proofs.Walks as Walks
+use Rattle.values.proofs.Walks.{turned}
 use Rattle.values.proofs.Begins.{value-cases, digits-cases, digits-read, digits-row}
-use Rattle.operands.specs.Walk.{Shape, State, value, digits, put, Step, to, halt, Result, wrong, onWord, finish, stepped, codeAt, step, walk}
+use Rattle.operands.specs.Walk.{Shape, State, operand, value, digits, put, Step, to, halt, Result, wrong, onWord, finish, stepped, codeAt, step, walk}
 use Rattle.operands.specs.Peeks.{markBy, markOf, registerBy, registerOf}
 use Rattle.operands.specs.declared.MarkRead.the-variants as M
 use Rattle.operands.specs.declared.RegisterRead.the-variants as R
@@ -43,22 +45,11 @@ module _ (s : List ℕ) (at : ℕ) where
   pub taken : (st x : State) (ts : List Token) → tokensFrom s at ≡ tokenAt s at ∷ ts → step s st (tokenAt s at) ≡ to x
       → walk s st (tokensFrom s at) ≡ walk s x ts
   unfolding walk
-  taken st x ts e h = rw e (ap (λ (y : Step). stepped y (λ z. walk s z ts)) h)
+  taken st x ts e h = turned operand (step s) finish s at st e h
 
   pub halted : (st : State) → finish st ≡ wrong → step s st (tokenAt s at) ≡ halt → walk s st (tokensFrom s at) ≡ wrong
   unfolding walk
-  halted st z h = go (tokenAt s at .kind) refl
-    where
-      one : (ts : List Token) → tokensFrom s at ≡ tokenAt s at ∷ ts → walk s st (tokensFrom s at) ≡ wrong
-      one ts e = rw e (ap (λ (x : Step). stepped x (λ y. walk s y ts)) h)
-
-      go : (k : Kind) → tokenAt s at .kind ≡ k → walk s st (tokensFrom s at) ≡ wrong
-      go K.End q = rw (row-of s at q) z
-      go K.Stray q = one [] (row-of s at q)
-      go K.Word q = one (tokensFrom s (tokenAt s at .next .at)) (row-of s at q)
-      go (K.Number v x) q = one (tokensFrom s (tokenAt s at .next .at)) (row-of s at q)
-      go K.Text q = one (tokensFrom s (tokenAt s at .next .at)) (row-of s at q)
-      go (K.Mark b) q = one (tokensFrom s (tokenAt s at .next .at)) (row-of s at q)
+  halted st z h = Walks.halted operand (step s) finish s at st z h
 
   -- ---- marks
 

@@ -1,5 +1,5 @@
--- The reading of an operand field as a walk over its tokens: one state for each thing that may be next, one step a token.
--- `proofs/Top.antt` shows that it finds exactly the rule's operands.
+-- The reading of an operand field as a walk over its tokens (values' Walks.antt); `proofs/Top.antt` shows that it finds exactly the rule's
+-- operands.
 use Prim.Native.Nat.{ℕ}
 use Prim.Native.Char.{code}
 use mathlib.Core.Bool.{cond}
@@ -8,12 +8,14 @@ use lib.Dec.{eqb}
 use Rattle.isa.specs.Registers.{IX, IY, SP, isRegister}
 use Rattle.names.specs.Names.{registerCode}
 use Rattle.tokens.specs.Marks.{onMark, only}
-use Rattle.tokens.specs.Commas.{onComma}
+use Rattle.tokens.specs.Commas.{atComma, onComma}
 use Rattle.tokens.specs.declared.Kind.{Kind}
 use Rattle.tokens.specs.declared.Kind.the-variants as K
 use Rattle.tokens.specs.declared.Token.{Token}
 use Rattle.values.specs.Values.{nameAt}
 use Rattle.values.specs.Reading.{valueBy, digitsBy}
+use Rattle.values.specs.Walks as Walks
+pub use Rattle.values.specs.Walks.{to, emit, halt, reads, wrong, cons}
 use Rattle.values.specs.declared.Value.{Value}
 use Rattle.values.specs.declared.Value.the-variants.{Number, Label}
 use Rattle.operands.specs.Operands.{wordAt}
@@ -38,14 +40,11 @@ pub data State : Type 0 where
   closing : Written → State  -- `]`
   done : Written → State  -- a comma or the end
 
-pub data Step : Type 0 where
-  to : State → Step
-  emit : Written → Step  -- a comma ends the operand
-  halt : Step
+abbrev pub Step : Type 0
+Step = Walks.Step State Written
 
-pub data Result : Type 0 where
-  reads : List Written → Result
-  wrong : Result
+abbrev pub Result : Type 0
+Result = Walks.Result Written
 
 abbrev pub put : Shape → Value → State
 put hash v = afterHash v
@@ -75,10 +74,6 @@ indexStep v r =
     (cond (eqb r IY) (to (closing (IndexedY v)))
     (cond (eqb r SP) (to (closing (IndexedSp v))) halt))
 
-abbrev pub cons : Written → Result → Result
-cons o (reads os) = reads (o ∷ os)
-cons o wrong = wrong
-
 abbrev pub finish : State → Result
 finish operand = wrong
 finish (value k) = wrong
@@ -92,10 +87,9 @@ finish indirectName = wrong
 finish (closing o) = wrong
 finish (done o) = reads (o ∷ [])
 
+-- where a step leads: after a comma, an operand begins
 abbrev pub stepped : Step → (State → Result) → Result
-stepped (to st) r = r st
-stepped (emit o) r = cons o (r operand)
-stepped halt r = wrong
+stepped = Walks.stepped operand
 
 module _ (line : List ℕ) where
   -- the code of the register that a word of the line names, or 16
@@ -106,7 +100,7 @@ module _ (line : List ℕ) where
   step operand t = onMark halt starts (t .kind)
   step (value k) t = valueBy (to (put k (Label (nameAt t)))) (λ n. to (put k (Number n))) (to (digits k)) halt (t .kind)
   step (digits k) t = digitsBy (λ n. to (put k (Number n))) halt (t .kind) (t .directly)
-  step (afterHash v) t = onMark halt (λ b. cond (eqb b (code "[")) (to (indexDot v)) (only halt (code ",") (emit (Immediate v)) b)) (t .kind)
+  step (afterHash v) t = onMark halt (λ b. cond (eqb b (code "[")) (to (indexDot v)) (atComma halt (emit (Immediate v)) b)) (t .kind)
   step (indexDot v) t = onMark halt (only halt (code ".") (to (indexName v))) (t .kind)
   step (indexName v) t = onWord (indexStep v (codeAt t)) (t .kind)
   step registerName t = onWord (cond (isRegister (codeAt t)) (to (done (Register (codeAt t)))) halt) (t .kind)
@@ -116,8 +110,7 @@ module _ (line : List ℕ) where
   step (done o) t = onComma halt (emit o) (t .kind)
 
   unfoldable pub walk : State → List Token → Result
-  walk st [] = finish st
-  walk st (t ∷ ts) = stepped (step st t) (λ next. walk next ts)
+  walk st ts = Walks.walk operand step finish st ts
 
   -- what follows an opcode: no operands, or some
   unfoldable pub operandsOf : List Token → Result

@@ -2,6 +2,7 @@
 pub mod Displaced
 pub mod Rows
 pub mod Begins
+pub mod Walks
 pub mod Finds
 pub mod Examples
 pub mod Top
