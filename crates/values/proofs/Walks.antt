@@ -113,8 +113,10 @@ abbrev pub Each : (Token → Type 0) → List Token → Type 0
 Each Known [] = Unit
 Each Known (t ∷ ts) = Known t × Each Known ts
 
+-- Listed is the rule for the list. What has been passed stays passed at each step, and the end makes a list of it.
 module _ {S A : Type 0} (begin : S) (step : S → Token → Step S A) (finish : S → Result A) (Text : List Token → A → Type 0)
-    (Listed : List Token → List A → Type 0) (more : (ts us : List Token) (a : A) (xs : List A) (c : Token) → Text ts a → IsMark (code ",") c → Listed us xs → Listed (ts ++ c ∷ us) (a ∷ xs))
+    (Listed : List Token → List A → Type 0)
+    (more : (ts us : List Token) (a : A) (xs : List A) (c : Token) → Text ts a → IsMark (code ",") c → Listed us xs → Listed (ts ++ c ∷ us) (a ∷ xs))
     (Passed : S → List Token → Type 0) (none : Passed begin []) (Known : Token → Type 0)
     (passes : (st : S) (t : Token) (cur : List Token) → Known t → Passed st cur → Stepped Text Passed t cur (step st t))
     (ends : (st : S) (cur : List Token) (xs : List A) → Passed st cur → finish st ≡ reads xs → Listed cur xs) where
