@@ -1,5 +1,4 @@
 -- The paper's numbers of the answers are all different: each tells its answer.
-use Prim.Native.Nat.{ℕ}
 use mathlib.Core.Path.{_≡_, refl}
 use native.Mathlib.Omega.{arith}
 use lib.IntN.{ℤ}

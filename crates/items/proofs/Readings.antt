@@ -16,7 +16,7 @@ use Rattle.tokens.proofs.Places.{token-placed}
 use Rattle.values.specs.Values.{BelowZero, plain, minus}
 use Rattle.values.specs.Values as Values
 use Rattle.values.specs.Reading.{valueBy}
-use Rattle.values.proofs.Rows.{row-of, ends-of}
+use Rattle.tokens.proofs.Heads.{row-of, ends-of}
 use Rattle.values.proofs.Walks as Walks
 use Rattle.values.proofs.Walks.{never, Each}
 use Rattle.values.proofs.Begins.{value-cases, digits-cases, digits-read}

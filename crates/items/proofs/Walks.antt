@@ -22,11 +22,11 @@ use Rattle.values.specs.Values.{numeral}
 use Rattle.values.specs.declared.Value.the-variants.{Number, Label}
 use Rattle.values.specs.declared.ValueRead.{ValueRead}
 use Rattle.values.specs.declared.ValueRead.the-variants as R
-use Rattle.values.proofs.Rows.{row-of}
+use Rattle.tokens.proofs.Heads.{row-of}
 use Rattle.values.proofs.Walks as Walks
 use Rattle.values.proofs.Walks.{turned, finished}
 use Rattle.values.proofs.Begins.{value-cases, digits-cases, digits-read, digits-row}
-use Rattle.items.specs.Items.{Item, number, string, itemCells, itemInRange, cellsOf, allInRange}
+use Rattle.items.specs.Items.{Item, number, itemCells, itemInRange, cellsOf, allInRange}
 use Rattle.items.specs.Reading.{State, item, digits, done, Step, to, halt, Result, reads, wrong, onText, cons, finish, stringOf, step, walk, judged, itemsRead}
 use Rattle.items.specs.Turns.{Standing, stands, none, stringAt, itemBy, itemAt, measured, verdict}
 use Rattle.items.specs.declared.ItemRead.the-variants.{Absent}

@@ -17,8 +17,6 @@ use Rattle.isa.specs.declared.Operand.{Operand}
 use Rattle.isa.specs.declared.Operand.the-variants as O
 use Rattle.isa.proofs.Top as isa
 use Rattle.tokens.specs.declared.Token.{Token}
-use Rattle.values.specs.declared.LabelIn.{LabelIn}
-use Rattle.values.specs.declared.LabelIn.the-variants as L
 use Rattle.values.specs.declared.Value.{Value}
 use Rattle.values.specs.declared.Value.the-variants.{Number, Label}
 use Rattle.operands.specs.Operands as G

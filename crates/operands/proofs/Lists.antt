@@ -16,7 +16,7 @@ use Rattle.tokens.specs.declared.Kind.{Kind}
 use Rattle.tokens.specs.declared.Kind.the-variants as K
 use Rattle.tokens.specs.declared.Token.{Token}
 use Rattle.tokens.proofs.Parted.{comma-moves}
-use Rattle.values.proofs.Rows.{row-of}
+use Rattle.tokens.proofs.Heads.{row-of}
 use Rattle.values.proofs.Walks as Walks
 use Rattle.values.proofs.Walks.{finished}
 use Rattle.operands.specs.Walk.{operand, done, Result, reads, wrong, cons, finish, step, walk, operandsOf}

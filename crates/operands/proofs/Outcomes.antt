@@ -19,7 +19,7 @@ use Rattle.values.specs.Reading.{valueAt}
 use Rattle.values.specs.declared.Value.{Value}
 use Rattle.values.specs.declared.ValueRead.{ValueRead}
 use Rattle.values.specs.declared.ValueRead.the-variants as V′
-use Rattle.values.proofs.Rows.{row-of}
+use Rattle.tokens.proofs.Heads.{row-of}
 use Rattle.operands.specs.Operands.{Index}
 use Rattle.operands.specs.Walk.{Shape, hash, slash, dollar, State, operand, value, afterHash, indexDot, indexName, registerName, indirectName, closing, done, Step, to, emit, halt, wrong, onWord, starts, indexStep, finish, stepped, codeAt, step, walk}
 use Rattle.operands.specs.Peeks.{markBy, markOf, registerOf, Onward, Goes}

@@ -5,12 +5,12 @@ use Rattle.isa.specs.Operands.{allows}
 use Rattle.isa.specs.declared.Kinds.{Kinds}
 use Rattle.isa.specs.declared.Operand.{Operand}
 use Rattle.isa.specs.declared.Operand.the-variants as O
+use Rattle.values.specs.declared.LabelIn.{LabelIn}
+use Rattle.values.specs.declared.LabelIn.the-variants as L
 use Rattle.values.specs.declared.Name.{Name}
 use Rattle.operands.specs.Checks.{operandWith, labelIn, given}
 use Rattle.operands.specs.Settling.{reworded, settledBy, settledOperand}
 use Rattle.operands.specs.declared.Given.{Given}
-use Rattle.values.specs.declared.LabelIn.{LabelIn}
-use Rattle.values.specs.declared.LabelIn.the-variants as L
 use Rattle.operands.specs.declared.Written.{Written}
 use Rattle.operands.specs.declared.Written.the-variants.{Absent, Immediate, Register, Memory, Indirect, IndexedX, IndexedY, IndexedSp, Relative}
 

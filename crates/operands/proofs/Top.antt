@@ -14,14 +14,15 @@ use Rattle.isa.specs.declared.Opcode.{Opcode}
 use Rattle.tokens.specs.Reading.{tokensFrom}
 use Rattle.tokens.specs.declared.Token.{Token}
 use Rattle.tokens.proofs.Places.{Within}
+use Rattle.values.specs.declared.LabelIn.the-variants as L
 use Rattle.values.specs.declared.Name.{Name}
+use Rattle.values.proofs.Within.{LabelWithin}
 use Rattle.operands.specs.Operands.{OperandField}
 use Rattle.operands.specs.Walk.{reads, wrong, operandsOf}
 use Rattle.operands.specs.Checks.{operandWith, operandAt, labelIn, given, fits, instructionRead, refusalOf}
 use Rattle.operands.specs.Settling.{settledOperand, settledInstruction}
 use Rattle.operands.specs.declared.Given.{Given}
 use Rattle.operands.specs.declared.InstructionRead.the-variants.{Read}
-use Rattle.values.specs.declared.LabelIn.the-variants as L
 use Rattle.operands.specs.declared.Written.{Written}
 use Rattle.operands.proofs.Readings as Readings
 use Rattle.operands.proofs.Exactly as Exactly
@@ -29,7 +30,6 @@ use Rattle.operands.proofs.Exactly.{Fits, Accepted, Unfit, Unranged}
 use Rattle.operands.proofs.Settled as Settled
 use Rattle.operands.proofs.Encodes as Encodes
 use Rattle.operands.proofs.Within as Bounds
-use Rattle.operands.proofs.Within.{LabelWithin}
 use Rattle.operands.proofs.Examples as Examples
 use Rattle.operands.proofs.Examples.{Examples}
 

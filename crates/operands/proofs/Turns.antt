@@ -21,7 +21,7 @@ use Rattle.values.specs.declared.Value.{Value}
 use Rattle.values.specs.declared.Value.the-variants.{Number, Label}
 use Rattle.values.specs.declared.ValueRead.{ValueRead}
 use Rattle.values.specs.declared.ValueRead.the-variants as V′
-use Rattle.values.proofs.Rows.{row-of, ends-of}
+use Rattle.tokens.proofs.Heads.{row-of, ends-of}
 use Rattle.values.proofs.Walks as Walks
 use Rattle.values.proofs.Walks.{turned}
 use Rattle.values.proofs.Begins.{value-cases, digits-cases, digits-read, digits-row}

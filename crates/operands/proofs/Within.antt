@@ -10,21 +10,14 @@ use Rattle.tokens.proofs.Places.{Within, row-within, parts-within}
 use Rattle.values.specs.Values.{ValueText}
 use Rattle.values.specs.declared.Value.{Value}
 use Rattle.values.specs.declared.Value.the-variants.{Number, Label}
-use Rattle.values.proofs.Within.{NameWithin, ValueWithin, value-within}
+use Rattle.values.proofs.Within.{ValueWithin, LabelWithin, value-within}
 use Rattle.operands.specs.Operands as G
 use Rattle.operands.specs.Operands.{Index, by-IX, by-IY, by-SP, OperandText, Operands, one, more, OperandField, none, some}
 use Rattle.operands.specs.Checks.{operandAt, labelOf, labelIn, instructionRead}
 use Rattle.operands.specs.declared.Given.{Given}
 use Rattle.operands.specs.declared.InstructionRead.the-variants.{Read}
-use Rattle.values.specs.declared.LabelIn.{LabelIn}
-use Rattle.values.specs.declared.LabelIn.the-variants as L
 use Rattle.operands.specs.declared.Written.{Written}
 use Rattle.operands.proofs.Exactly.{tells}
-
--- a label's place in a line of n bytes
-abbrev pub LabelWithin : ℕ → LabelIn → Type 0
-LabelWithin n L.Absent = Unit
-LabelWithin n (L.Named x) = NameWithin n x
 
 module _ (n : ℕ) where
   label-of-within : (v : Value) → ValueWithin n v → LabelWithin n (labelOf v)

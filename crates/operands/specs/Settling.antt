@@ -4,9 +4,9 @@ use Rattle.isa.specs.declared.Instruction.{Instruction}
 use Rattle.isa.specs.declared.Opcode.{Opcode}
 use Rattle.isa.specs.declared.Operand.{Operand}
 use Rattle.isa.specs.declared.Operand.the-variants as O
-use Rattle.operands.specs.declared.Given.{Given}
 use Rattle.values.specs.declared.LabelIn.{LabelIn}
 use Rattle.values.specs.declared.LabelIn.the-variants as L
+use Rattle.operands.specs.declared.Given.{Given}
 
 -- an operand of the same kind, with another word
 abbrev pub reworded : Operand → ℕ → Operand

@@ -9,9 +9,9 @@ use Rattle.tokens.specs.declared.Kind.the-variants as K
 use Rattle.tokens.specs.declared.Token.{Token}
 use Rattle.names.specs.Names.{wordOf}
 use Rattle.names.specs.declared.Word.{Word}
-use Rattle.values.proofs.Rows.{row-of}
-use Rattle.operands.specs.Operands.{wordAt}
+use Rattle.tokens.proofs.Heads.{row-of}
 use Rattle.values.specs.declared.LabelIn.the-variants.{Named}
+use Rattle.operands.specs.Operands.{wordAt}
 use Rattle.statements.specs.Reading.{isWord, isColon, labelled, labelRead, afterLabel, byWord, statementRead}
 use Rattle.statements.specs.Parts.{nowhere, LabelDone}
 use Rattle.statements.specs.declared.Labelled.{Labelled}

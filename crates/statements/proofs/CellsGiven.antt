@@ -12,9 +12,9 @@ use Rattle.tokens.proofs.Top.{line-row, one-row}
 use Rattle.names.specs.Names.{wordOf}
 use Rattle.names.specs.declared.Word.{Word}
 use Rattle.names.specs.declared.Word.the-variants as W
+use Rattle.tokens.proofs.Heads.{row-of}
 use Rattle.values.specs.declared.LabelIn.{LabelIn}
 use Rattle.values.specs.declared.LabelIn.the-variants.{Absent, Named}
-use Rattle.values.proofs.Rows.{row-of}
 use Rattle.operands.specs.Operands.{wordAt}
 use Rattle.items.specs.Items.{Item, Items, cellsOf, allInRange}
 use Rattle.items.specs.Reading.{itemsRead}
@@ -23,7 +23,7 @@ use Rattle.items.specs.declared.ItemsRead.{ItemsRead}
 use Rattle.items.specs.declared.ItemsRead.the-variants as I
 use Rattle.items.proofs.Readings.{complete}
 use Rattle.items.proofs.Top as Items
-use Rattle.statements.specs.Statements.{cells, Label, Body, items, LineText, labelled, unlabelled, Says}
+use Rattle.statements.specs.Statements.{cells, Body, items, LineText, labelled, unlabelled, Says}
 use Rattle.statements.specs.Reading.{isWord, afterLabel}
 use Rattle.statements.specs.Cells.{isData, bodyCells, cellsIn}
 use Rattle.statements.proofs.Labelling.{never, word-kind, Labels, label-is, none-is, labels, label-after, behind-label}

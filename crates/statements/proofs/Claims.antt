@@ -5,12 +5,12 @@ use mathlib.Core.List.{List}
 use mathlib.Core.Path.{_≡_, refl, sym, ap, _∙_}
 use lib.IntN.{ℤ}
 use lib.ListN.{length}
+use Rattle.values.specs.declared.LabelIn.{LabelIn}
 use Rattle.expressions.specs.Reading as Expressions
 use Rattle.expressions.specs.declared.ExpressionRead.{ExpressionRead}
 use Rattle.expressions.specs.declared.ExpressionRead.the-variants as E
 use Rattle.expressions.specs.declared.Worth.the-variants as W
 use Rattle.isa.specs.declared.Opcode.{Opcode}
-use Rattle.values.specs.declared.LabelIn.{LabelIn}
 use Rattle.operands.specs.Checks as Operands
 use Rattle.operands.specs.declared.InstructionRead.{InstructionRead}
 use Rattle.operands.specs.declared.InstructionRead.the-variants as N

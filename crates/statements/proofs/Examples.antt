@@ -18,6 +18,8 @@ use Rattle.tokens.specs.Reading.{blanks, closing, tokenHere, tokenAt, tokensWit
 use Rattle.names.specs.Names.{capital, isNamed, statementWords, wordIn, registers, placeIn, registerCode}
 use Rattle.names.specs.Names as Names
 use Rattle.values.specs.Ranges.{displacementOf}
+use Rattle.values.specs.declared.LabelIn.{LabelIn}
+use Rattle.values.specs.declared.LabelIn.the-variants.{Absent, Named}
 use Rattle.expressions.specs.Trees.{depth}
 use Rattle.expressions.specs.Worths.{within32, ofNumber, operation, operate, worthOf}
 use Rattle.expressions.specs.Reading.{markSymbol, operand, operator, expressionRead}
@@ -26,8 +28,6 @@ use Rattle.operands.specs.Walk as Walk
 use Rattle.operands.specs.Checks.{fits, labelIn, instructionRead}
 use Rattle.operands.specs.Checks as Operands
 use Rattle.operands.specs.declared.Given.{Given}
-use Rattle.values.specs.declared.LabelIn.{LabelIn}
-use Rattle.values.specs.declared.LabelIn.the-variants.{Absent, Named}
 use Rattle.items.specs.Items.{cellsOf, allInRange}
 use Rattle.items.specs.Reading.{characters, newline, itemsRead}
 use Rattle.items.specs.Reading as Items

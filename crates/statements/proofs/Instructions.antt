@@ -1,8 +1,8 @@
 -- An instruction that passes was read from the line's tokens as its operands; so what holds of these holds of it.
-use Prim.Native.Nat.{ℕ, suc}
+use Prim.Native.Nat.{ℕ}
 use mathlib.Core.Bool.{Bool, true, false, cond}
 use mathlib.Core.List.{List}
-use mathlib.Core.Path.{_≡_, refl, sym, ap, subst, _∙_}
+use mathlib.Core.Path.{_≡_, refl, ap, subst, _∙_}
 use lib.Dec.{leb}
 use lib.IntN.{ℤ}
 use lib.ListN.{length}
@@ -11,6 +11,7 @@ use mir.Val.{ofZ}
 use Rattle.isa.specs.Encoding.{wordsOf}
 use Rattle.isa.specs.declared.Opcode.{Opcode}
 use Rattle.tokens.specs.Reading.{tokensFrom}
+use Rattle.values.proofs.Within.{LabelWithin}
 use Rattle.expressions.specs.Trees.{Tree, depth, deepest}
 use Rattle.expressions.specs.Worths.{worthOf}
 use Rattle.expressions.specs.declared.Worth.{Worth}
@@ -22,7 +23,6 @@ use Rattle.operands.specs.declared.Given.{Given}
 use Rattle.operands.specs.declared.InstructionRead.{InstructionRead}
 use Rattle.operands.specs.declared.InstructionRead.the-variants as I
 use Rattle.operands.specs.declared.Written.{Written}
-use Rattle.operands.proofs.Within.{LabelWithin}
 use Rattle.operands.proofs.Top.{reads-exactly, words-count, label-within}
 use Rattle.items.specs.Items.{cellsOf, allInRange}
 use Rattle.statements.specs.Statements.{Reading, nothing, instruction, org, equ, res, cells, end, Says}

@@ -8,9 +8,9 @@ use Rattle.tokens.specs.Rows.{RowOf}
 use Rattle.tokens.specs.Reading.{tokensFrom}
 use Rattle.tokens.specs.declared.Token.{Token}
 use Rattle.tokens.proofs.Top.{line-row, one-row}
-use Rattle.values.specs.declared.Name.{Name}
 use Rattle.values.specs.declared.LabelIn.{LabelIn}
 use Rattle.values.specs.declared.LabelIn.the-variants.{Absent, Named}
+use Rattle.values.specs.declared.Name.{Name}
 use Rattle.statements.specs.Statements.{Reading, Label, LineText, NoSuchWord, Says, Labelled, UnknownWord, NoReading}
 use Rattle.statements.specs.FirstFailing.{Check, check, Pass, First}
 use Rattle.statements.specs.Checks.{Unfit, TooDeep, NumberOut, ZeroDivisor, ResultOut, OfReading, checks}

@@ -1,6 +1,6 @@
 -- Where a line's label and what follows its statement's word stand; so neither passes the line's end.
 use Prim.Native.Nat.{ℕ, _≤_, _<_}
-use mathlib.Core.List.{List, _∷_}
+use mathlib.Core.List.{List}
 use mathlib.Core.Path.{_≡_, sym, subst}
 use native.Mathlib.Omega.{arith}
 use lib.ListN.{length}
@@ -11,9 +11,9 @@ use Rattle.tokens.specs.declared.Kind.{Kind}
 use Rattle.tokens.specs.declared.Token.{Token}
 use Rattle.tokens.proofs.Places.{EndsAt}
 use Rattle.tokens.proofs.Top.{line-row, one-row, row-ordered}
+use Rattle.values.specs.declared.LabelIn.{LabelIn}
 use Rattle.values.specs.declared.Name.{Name}
 use Rattle.operands.specs.Operands.{OperandField}
-use Rattle.values.specs.declared.LabelIn.{LabelIn}
 use Rattle.operands.specs.declared.Written.{Written}
 use Rattle.items.specs.Items.{Item, Items, cellsOf}
 use Rattle.items.proofs.Bounds as Items

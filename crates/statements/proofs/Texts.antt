@@ -4,9 +4,9 @@ use mathlib.Core.List.{List, _∷_}
 use mathlib.Core.Path.{_≡_, refl, sym, ap, subst, _∙_}
 use Rattle.tokens.specs.Reading.{tokensFrom}
 use Rattle.tokens.specs.declared.Token.{Token}
-use Rattle.values.specs.declared.Name.{Name}
 use Rattle.values.specs.declared.LabelIn.{LabelIn}
 use Rattle.values.specs.declared.LabelIn.the-variants.{Absent, Named}
+use Rattle.values.specs.declared.Name.{Name}
 use Rattle.statements.specs.Statements.{Reading, Label, Body, LineText, labelled, unlabelled, NoSuchWord, behind, first}
 use Rattle.statements.specs.Judging.{judged}
 use Rattle.statements.specs.Reading.{labelRead, afterLabel, statementRead}

@@ -12,7 +12,10 @@ use mir.Val.{ofZ}
 use Rattle.numerals.specs.declared.Kept.the-variants as N
 use Rattle.isa.specs.Encoding.{wordsOf}
 use Rattle.isa.specs.declared.Opcode.{Opcode}
+use Rattle.values.specs.declared.LabelIn.{LabelIn}
+use Rattle.values.specs.declared.LabelIn.the-variants.{Absent, Named}
 use Rattle.values.specs.declared.Name.{Name}
+use Rattle.values.proofs.Within.{LabelWithin}
 use Rattle.expressions.specs.Trees.{Tree, depth, deepest}
 use Rattle.expressions.specs.Worths.{worthOf}
 use Rattle.expressions.specs.Reading as Expressions
@@ -23,10 +26,7 @@ use Rattle.operands.specs.Checks as Operands
 use Rattle.operands.specs.Settling.{settledInstruction}
 use Rattle.operands.specs.declared.Given.{Given}
 use Rattle.operands.specs.declared.InstructionRead.{InstructionRead}
-use Rattle.values.specs.declared.LabelIn.{LabelIn}
-use Rattle.values.specs.declared.LabelIn.the-variants.{Absent, Named}
 use Rattle.operands.specs.declared.Written.{Written}
-use Rattle.operands.proofs.Within.{LabelWithin}
 use Rattle.items.specs.Items.{Item, cellsOf, allInRange}
 use Rattle.items.specs.Reading as Items
 use Rattle.items.specs.declared.ItemsRead.{ItemsRead}

@@ -8,13 +8,11 @@ use mathlib.Core.Path.{_≡_}
 use lib.IntN.{ℤ, pos, negsuc}
 use lib.Signed.{leZ}
 use Rattle.numerals.specs.declared.Kept.the-variants as N
-use Rattle.isa.specs.declared.Opcode.{Opcode}
+use Rattle.values.specs.declared.LabelIn.{LabelIn}
 use Rattle.expressions.specs.Trees.{Tree, depth, deepest}
 use Rattle.expressions.specs.Worths.{worthOf}
 use Rattle.expressions.specs.declared.Worth.the-variants as E
 use Rattle.operands.specs.Checks.{fits, operandAt, wordOf}
-use Rattle.values.specs.declared.LabelIn.{LabelIn}
-use Rattle.operands.specs.declared.Written.{Written}
 use Rattle.items.specs.Items.{allInRange}
 use Rattle.statements.specs.Statements.{Reading, nothing, instruction, org, equ, res, cells, end, Says, UnknownWord, NoReading}
 use Rattle.statements.specs.FirstFailing.{Check, check}

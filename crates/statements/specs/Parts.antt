@@ -7,11 +7,11 @@ use lib.IntN.{ℤ}
 use mir.Syntax.{w16}
 use mir.Val.{ofZ}
 use Rattle.tokens.specs.Reading.{tokensFrom}
+use Rattle.values.specs.declared.LabelIn.the-variants.{Absent}
 use Rattle.expressions.specs.declared.ExpressionRead.{ExpressionRead}
 use Rattle.expressions.specs.declared.ExpressionRead.the-variants as E
 use Rattle.expressions.specs.declared.Worth.{Worth}
 use Rattle.expressions.specs.declared.Worth.the-variants as W
-use Rattle.values.specs.declared.LabelIn.the-variants.{Absent}
 use Rattle.statements.specs.Checks.{resultIn}
 use Rattle.statements.specs.Reading.{labelRead, afterLabel}
 use Rattle.statements.specs.declared.Failure.the-variants.{WrongForm, TooDeep, OutOfRange, ByZero}

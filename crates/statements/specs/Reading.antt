@@ -13,13 +13,13 @@ use Rattle.names.specs.Names.{wordOf}
 use Rattle.names.specs.declared.Word.{Word}
 use Rattle.names.specs.declared.Word.the-variants as W
 use Rattle.values.specs.Values.{nameAt}
+use Rattle.values.specs.declared.LabelIn.{LabelIn}
+use Rattle.values.specs.declared.LabelIn.the-variants.{Absent, Named}
 use Rattle.expressions.specs.Reading.{expressionRead}
 use Rattle.expressions.specs.declared.ExpressionRead.{ExpressionRead}
 use Rattle.expressions.specs.declared.ExpressionRead.the-variants as E
 use Rattle.operands.specs.Operands.{wordAt}
 use Rattle.operands.specs.Checks.{instructionRead}
-use Rattle.values.specs.declared.LabelIn.{LabelIn}
-use Rattle.values.specs.declared.LabelIn.the-variants.{Absent, Named}
 use Rattle.items.specs.Reading.{itemsRead}
 use Rattle.items.specs.declared.ItemsRead.{ItemsRead}
 use Rattle.items.specs.declared.ItemsRead.the-variants as I

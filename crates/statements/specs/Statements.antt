@@ -13,11 +13,11 @@ use Rattle.names.specs.declared.Word.{Word}
 use Rattle.names.specs.declared.Word.the-variants as W
 use Rattle.tokens.specs.Marks.{IsMark}
 use Rattle.values.specs.Values.{nameAt}
+use Rattle.values.specs.declared.LabelIn.{LabelIn}
+use Rattle.values.specs.declared.LabelIn.the-variants.{Absent, Named}
 use Rattle.values.specs.declared.Name.{Name}
 use Rattle.expressions.specs.Trees.{Tree, Expression}
 use Rattle.operands.specs.Operands.{wordAt, OperandField}
-use Rattle.values.specs.declared.LabelIn.{LabelIn}
-use Rattle.values.specs.declared.LabelIn.the-variants.{Absent, Named}
 use Rattle.operands.specs.declared.Written.{Written}
 use Rattle.items.specs.Items.{Item, Items}
 

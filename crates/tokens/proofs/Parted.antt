@@ -3,7 +3,7 @@ use Prim.Native.Nat.{ℕ, _≤_, _<_}
 use Prim.Native.Char.{code}
 use mathlib.Core.Bool.{Bool, true, false, cond}
 use mathlib.Core.List.{List}
-use mathlib.Core.Path.{_≡_, refl, ap, subst}
+use mathlib.Core.Path.{_≡_, refl, ap}
 use native.Mathlib.Omega.{arith}
 use lib.Dec.{eqb}
 use lib.ListN.{length}
@@ -13,7 +13,8 @@ use Rattle.tokens.specs.Commas.{followsBy, followsOf}
 use Rattle.tokens.specs.declared.Follows.the-variants.{Comma, Neither}
 use Rattle.tokens.specs.declared.Kind.{Kind}
 use Rattle.tokens.specs.declared.Kind.the-variants.{End, Stray, Word, Number, Text, Mark}
-use Rattle.tokens.proofs.Places.{EndsAt, token-placed}
+use Rattle.tokens.proofs.Places.{token-placed}
+use Rattle.tokens.proofs.Heads.{ends-of}
 
 pub comma-moves : (s : List ℕ) (at : ℕ) {c : Cursor} → followsOf (tokenAt s at) ≡ Comma c → (at < c .at) × (c .at ≤ length s)
 comma-moves s at {c} e = go (tokenAt s at .kind) refl e
@@ -29,6 +30,6 @@ comma-moves s at {c} e = go (tokenAt s at .kind) refl e
         mark : (y : Bool) → cond y (Comma (tokenAt s at .next)) Neither ≡ Comma c → (at < c .at) × (c .at ≤ length s)
         mark true e =
             let p : tokenAt s at .next .at ≡ c .at = ap (λ (x : Cursor). x .at) (cc) in
-            let h = subst (λ (k : Kind). EndsAt k (length s) (tokenAt s at .start) (tokenAt s at .next .at)) q (token-placed s at .ends) in
+            let h = ends-of s at q in
             (omega (arith, token-placed s at .starts, h .0), omega (arith, h .1))
         mark false e = let z : _≡_ {A = ℕ} 0 1 = cc in absurd (omega arith)

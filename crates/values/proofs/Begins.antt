@@ -16,7 +16,7 @@ use Rattle.tokens.specs.declared.Kind.the-variants as K
 use Rattle.tokens.specs.declared.Token.{Token}
 use Rattle.values.specs.Values.{numeral, BelowZero, digits}
 use Rattle.values.specs.Reading.{valueBy, digitsBy}
-use Rattle.values.proofs.Rows.{row-of}
+use Rattle.tokens.proofs.Heads.{row-of}
 
 module _ {A : Type 0} (t : Token) where
   pub value-cases : (t .kind ≡ K.Word → A) → ((v : ℕ) (k : Radix) → t .kind ≡ K.Number v k → A) → (IsMark (code "-") t → A)

@@ -20,7 +20,7 @@ use Rattle.values.specs.declared.Value.{Value}
 use Rattle.values.specs.declared.Value.the-variants as V′
 use Rattle.values.specs.declared.ValueRead.{ValueRead}
 use Rattle.values.specs.declared.ValueRead.the-variants.{Found, Absent}
-use Rattle.values.proofs.Rows.{row-of, ends-of, row-head}
+use Rattle.tokens.proofs.Heads.{row-of, ends-of, row-head}
 use Rattle.values.proofs.Begins.{value-cases, digits-cases, digits-read}
 
 -- a value stands at a place, up to a cursor

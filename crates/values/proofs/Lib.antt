@@ -1,6 +1,5 @@
 -- Laws of the definitions, by topic; Top.antt restates what the crate promises.
 pub mod Displaced
-pub mod Rows
 pub mod Begins
 pub mod Walks
 pub mod Finds

@@ -16,7 +16,7 @@ use Rattle.tokens.specs.declared.Kind.{Kind}
 use Rattle.tokens.specs.declared.Kind.the-variants as K
 use Rattle.tokens.specs.declared.Token.{Token}
 use Rattle.values.specs.Walks.{Step, to, emit, halt, Result, reads, wrong, cons, stepped, walk}
-use Rattle.values.proofs.Rows.{row-of}
+use Rattle.tokens.proofs.Heads.{row-of}
 
 module _ {A : Type 0} where
   pub never : {xs : List A} → _≡_ {A = Result A} wrong (reads xs) → ⊥

@@ -1,7 +1,7 @@
 -- The arms are the definition's clauses.
 use mathlib.Core.Path.{sym, ap, _∙_}
-use Rattle.operands.specs.Settling.{settledBy}
 use Rattle.values.specs.declared.LabelIn.{LabelIn}
+use Rattle.operands.specs.Settling.{settledBy}
 use borrow.Author.Needs.{needs}
 use Rattle.operands.proofs.settling.settled.Statement.{statement}
 use Rattle.operands.proofs.settling.settled.Tie as tie
