@@ -133,27 +133,28 @@ verdict-cons n true i (reads is) =
 verdict-cons n false i (reads is) = refl
 verdict-cons n f i wrong = refl
 
+-- the item, and what follows it
+pub walked : (s : List ℕ) (at : ℕ) {m : ℕ} {b : Bool} {c : Cursor} {x : Follows} (h : FoundItem s at m b c) → followsOf (tokenAt s (c .at)) ≡ x
+    → walk s item (tokensFrom s at) ≡ followsOn s (h .item) x
+walked s at {c = c} h e = item-turn s at ∙ ap (itemOn s) (h .is) ∙ done-turn s (c .at) (h .item) ∙ ap (followsOn s (h .item)) e
+
 module _ (s : List ℕ) (at n : ℕ) (f : Bool) where
   pub turn-absent : measured (itemAt s at) ≡ Absent → verdict n f (walk s item (tokensFrom s at)) ≡ WrongForm
   turn-absent e = ap (verdict n f) (item-turn s at ∙ ap (itemOn s) (no-item s at e))
 
   module _ {m : ℕ} {b : Bool} {c : Cursor} (h : FoundItem s at m b c) where
-    -- the item, and what follows it
-    walked : {x : Follows} → followsOf (tokenAt s (c .at)) ≡ x → walk s item (tokensFrom s at) ≡ followsOn s (h .item) x
-    walked e = item-turn s at ∙ ap (itemOn s) (h .is) ∙ done-turn s (c .at) (h .item) ∙ ap (followsOn s (h .item)) e
-
     added : (g : Bool) (r : Result) → g ≡ (f && b) → verdict n f (cons (h .item) r) ≡ verdict (n + m) g r
     added g r e = verdict-cons n f (h .item) r ∙ rw (← h .cells, ← h .fits, ← e)
 
     pub turn-over : {g : Bool} → followsOf (tokenAt s (c .at)) ≡ Over → g ≡ (f && b)
         → verdict n f (walk s item (tokensFrom s at)) ≡ cond g (Cells (n + m)) OutOfRange
     unfolding cellsOf allInRange
-    turn-over {g} e q = ap (verdict n f) (walked e) ∙ added g (reads []) q ∙ rw (and-true g, add-zero (n + m))
+    turn-over {g} e q = ap (verdict n f) (walked s at h e) ∙ added g (reads []) q ∙ rw (and-true g, add-zero (n + m))
 
     pub turn-neither : followsOf (tokenAt s (c .at)) ≡ Neither → verdict n f (walk s item (tokensFrom s at)) ≡ WrongForm
-    turn-neither e = ap (verdict n f) (walked e)
+    turn-neither e = ap (verdict n f) (walked s at h e)
 
     pub turn-comma : {g : Bool} {d : Cursor} → followsOf (tokenAt s (c .at)) ≡ Comma d → g ≡ (f && b)
         → verdict n f (walk s item (tokensFrom s at)) ≡ verdict (n + m) g (walk s item (tokensFrom s (d .at)))
     unfolding walk
-    turn-comma {g} {d} e q = ap (verdict n f) (walked e) ∙ added g (walk s item (tokensFrom s (d .at))) q
+    turn-comma {g} {d} e q = ap (verdict n f) (walked s at h e) ∙ added g (walk s item (tokensFrom s (d .at))) q

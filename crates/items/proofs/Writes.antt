@@ -1,5 +1,5 @@
 -- What is written turn by turn is what the whole row gives: a character of a string, an item of a row.
-use Prim.Native.Nat.{ℕ, suc, _+_, _≤_, _<_}
+use Prim.Native.Nat.{ℕ, suc, _+_, _≤_}
 use mathlib.Core.Bool.{Bool, true, false, false≢true, cond, _&&_}
 use mathlib.Core.List.{List, [], _∷_, _++_}
 use mathlib.Core.Path.{_≡_, refl, sym, ap, subst, _∙_}
@@ -17,7 +17,6 @@ use Rattle.tokens.specs.Strings.{Characters}
 use Rattle.tokens.specs.Reading.{characterAt, tokenAt, tokensFrom}
 use Rattle.tokens.specs.declared.Character.the-variants.{Stands, Closed, Broken}
 use Rattle.tokens.specs.Commas.{followsOf}
-use Rattle.tokens.specs.declared.Follows.{Follows}
 use Rattle.tokens.specs.declared.Follows.the-variants.{Comma, Over, Neither}
 use Rattle.tokens.specs.declared.Kind.the-variants as K
 use Rattle.tokens.specs.declared.Token.{Token}
@@ -36,7 +35,7 @@ use Rattle.items.specs.declared.ItemsRead.{ItemsRead}
 use Rattle.items.specs.declared.ItemsRead.the-variants.{Cells, WrongForm, OutOfRange}
 use Rattle.items.proofs.Counts.{characters-fit}
 use Rattle.items.proofs.Measures.{kept-in, kept-out, quote-at, FoundItem, no-item}
-use Rattle.items.proofs.Walks.{itemOn, followsOn, item-turn, done-turn}
+use Rattle.items.proofs.Walks.{itemOn, item-turn, walked}
 
 -- a row written after another
 pub sets-append : (row : List ℕ) (to : ℕ) (xs ys : List ℕ) → sets row to (xs ++ ys) ≡ sets (sets row to xs) (to + length xs) ys
@@ -87,9 +86,6 @@ module _ (s : List ℕ) (from : ℕ) (row : List ℕ) (to : ℕ) where
 
     pub string-over : length s ≤ i → Whole ms
     string-over l cs rest r = let h = left cs rest r in absurd (omega (arith, characters-fit (h .1), length-drop i s))
-
-pub character-moves : (s : List ℕ) (i : ℕ) {b : ℕ} {c : Cursor} → characterAt s i ≡ Stands b c → (i < c .at) × (c .at ≤ length s)
-character-moves s i {b} {c} e = let t : Inside s i (Stands b c) = subst (Inside s i) e (character-means s i) in (t .0, t .1)
 
 -- a string at a place
 pub text-written : (s : List ℕ) (at : ℕ) {t : Token} (row : List ℕ) (to : ℕ) {ms : List ℕ} → t ≡ tokenAt s at → t .kind ≡ K.Text
@@ -158,12 +154,8 @@ module _ (s : List ℕ) (at : ℕ) (ok : accepted (walk s item (tokensFrom s at)
   some-item e = false≢true (sym (ap accepted (item-turn s at ∙ ap (itemOn s) (no-item s at e))) ∙ ok)
 
   module _ {m : ℕ} {b : Bool} {c : Cursor} (h : FoundItem s at m b c) where
-    -- the item, and what follows it
-    walked : {x : Follows} → followsOf (tokenAt s (c .at)) ≡ x → walk s item (tokensFrom s at) ≡ followsOn s (h .item) x
-    walked e = item-turn s at ∙ ap (itemOn s) (h .is) ∙ done-turn s (c .at) (h .item) ∙ ap (followsOn s (h .item)) e
-
     pub some-end : followsOf (tokenAt s (c .at)) ≡ Neither → ⊥
-    some-end e = false≢true (sym (ap accepted (walked e)) ∙ ok)
+    some-end e = false≢true (sym (ap accepted (walked s at h e)) ∙ ok)
 
     headed : (r : Result) → walk s item (tokensFrom s at) ≡ cons (h .item) r → First (h .item) r
     headed r e = first (h .item) r (sym (ap accepted e) ∙ ok)
@@ -180,18 +172,18 @@ module _ (s : List ℕ) (at : ℕ) (ok : accepted (walk s item (tokensFrom s at)
     pub last-written : (row : List ℕ) (to : ℕ) {ms : List ℕ} → followsOf (tokenAt s (c .at)) ≡ Over → ms ≡ sets row to (cellsAt (itemAt s at))
         → ms ≡ sets row to (cellsFrom s (tokensFrom s at))
     unfolding cellsOf allInRange
-    last-written row to e w = sym (written row to (reads []) (walked e) w)
+    last-written row to e w = sym (written row to (reads []) (walked s at h e) w)
 
     pub next-accepted : {d : Cursor} → followsOf (tokenAt s (c .at)) ≡ Comma d → accepted (walk s item (tokensFrom s (d .at))) ≡ true
     unfolding walk
-    next-accepted {d} e = headed (walk s item (tokensFrom s (d .at))) (walked e) .rest
+    next-accepted {d} e = headed (walk s item (tokensFrom s (d .at))) (walked s at h e) .rest
 
     pub next-written : (row : List ℕ) (to : ℕ) {ms : List ℕ} {d : Cursor} {n : ℕ} → followsOf (tokenAt s (c .at)) ≡ Comma d
         → ms ≡ sets row to (cellsAt (itemAt s at)) → n ≡ to + m
         → sets row to (cellsFrom s (tokensFrom s at)) ≡ sets ms n (cellsFrom s (tokensFrom s (d .at)))
     unfolding cellsFrom walk
     next-written row to {ms} {d} e w q =
-        written row to (walk s item (tokensFrom s (d .at))) (walked e) w ∙ ap (λ (x : ℕ). sets ms x (cellsIn (walk s item (tokensFrom s (d .at))))) (sym q)
+        written row to (walk s item (tokensFrom s (d .at))) (walked s at h e) w ∙ ap (λ (x : ℕ). sets ms x (cellsIn (walk s item (tokensFrom s (d .at))))) (sym q)
 
 -- ---- the cells by the reply of `items`
 

@@ -5,7 +5,8 @@ use Prim.Native.Nat.{_+_, _-_, _≤_}
 use mathlib.Core.Path.{_≡_, refl, sym, _∙_}
 use native.Mathlib.Omega.{arith}
 use lib.ListN.{length}
-use Rattle.items.proofs.Writes.{Left, string-start, string-on, string-closed, string-broken, string-over, character-moves}
+use Rattle.items.proofs.Counts.{character-moves}
+use Rattle.items.proofs.Writes.{Left, string-start, string-on, string-closed, string-broken, string-over}
 use Rattle.items.proofs.writing.write_string.Statement.{statement}
 use Rattle.items.proofs.writing.write_string.Tie as tie
 
