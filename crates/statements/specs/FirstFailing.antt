@@ -1,4 +1,4 @@
--- "The first check that fails": of any list of checks, and of whatever is answered where one fails.
+-- The first check that fails: of any list of checks, and of whatever is answered where one fails.
 use mathlib.Core.List.{List, [], _∷_}
 use mathlib.Core.Logic.{_⊎_}
 use mathlib.Core.Path.{_≡_}
