@@ -9,7 +9,7 @@ pub mod Texts
 pub mod Lines
 pub mod Places
 pub mod CellsGiven
-pub mod Instructions
+pub mod Passing
 pub mod Claims
 pub mod Examples
 pub mod Top

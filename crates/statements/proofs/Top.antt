@@ -47,7 +47,7 @@ use Rattle.statements.proofs.Judgements as Judgements
 use Rattle.statements.proofs.Judgements.{Asks}
 use Rattle.statements.proofs.Places as Places
 use Rattle.statements.proofs.CellsGiven as CellsGiven
-use Rattle.statements.proofs.Instructions as Instructions
+use Rattle.statements.proofs.Passing as Passing
 use Rattle.statements.proofs.Claims as Claims
 use Rattle.statements.proofs.Examples as Examples
 use Rattle.statements.proofs.Examples.{Examples}
@@ -141,22 +141,27 @@ cells-exactly = CellsGiven.cells-exactly
 pub no-cells : (line : List ℕ) → ((l : LabelIn) (is : List Item) → Says line l (cells is) → allInRange is ≡ true → ⊥) → cellsIn line ≡ []
 no-cells = CellsGiven.no-cells
 
--- DATA claims as many cells as its items take, and these are no more than the line's bytes.
+-- DATA claims as many cells as its items take.
 pub cells-claimed : (line : List ℕ) {l : LabelIn} {is : List Item} {s : Statement} → Says line l (cells is) → lineRead line .statement ≡ Passes s
     → claimOf s ≡ length (cellsOf is)
 cells-claimed = Claims.cells-claimed
 
-pub few-cells : (line : List ℕ) {l : LabelIn} {is : List Item} → Says line l (cells is) → length (cellsOf is) ≤ length line
-few-cells = Places.few-cells
+module _ (line : List ℕ) {n : ℕ} (e : lineRead line .statement ≡ Passes (Data n)) where
+  -- As many are written, and they are no more than the line's bytes.
+  pub cells-written : length (cellsIn line) ≡ claimOf (Data n)
+  cells-written = Passing.cells-written line e
+
+  pub cells-few : claimOf (Data n) ≤ length line
+  cells-few = Passing.cells-few line e
 
 module _ (line : List ℕ) {op : Opcode} {a b : Given} (e : lineRead line .statement ≡ Passes (Instruction op a b)) where
   -- An instruction claims as many cells as it has words, whatever its labels stand for.
   pub words-claimed : (v w : ℕ) → length (wordsOf (settledInstruction op a b v w)) ≡ claimOf (Instruction op a b)
-  words-claimed = Instructions.words-claimed line e
+  words-claimed = Passing.words-claimed line e
 
   -- The labels that its operands name lie within the line.
   pub operand-labels-within : LabelWithin (length line) (a .label) × LabelWithin (length line) (b .label)
-  operand-labels-within = Instructions.operand-labels-within line e
+  operand-labels-within = Passing.operand-labels-within line e
 
 -- "RES moves the address and claims no cell", and no other statement but an instruction and DATA claims one.
 pub claims-none : (claimOf Nothing ≡ 0)

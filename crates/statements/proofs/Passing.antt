@@ -1,8 +1,9 @@
--- An instruction that passes was read from the line's tokens as its operands; so what holds of these holds of it.
-use Prim.Native.Nat.{ℕ}
+-- An instruction or DATA that passes was read from the line's tokens; so what holds of its operands or items holds of it.
+use Prim.Native.Nat.{ℕ, _≤_}
 use mathlib.Core.Bool.{Bool, true, false, cond}
 use mathlib.Core.List.{List}
 use mathlib.Core.Path.{_≡_, refl, ap, subst, _∙_}
+use native.Mathlib.Omega.{arith}
 use lib.Dec.{leb}
 use lib.IntN.{ℤ}
 use lib.ListN.{length}
@@ -24,11 +25,12 @@ use Rattle.operands.specs.declared.InstructionRead.{InstructionRead}
 use Rattle.operands.specs.declared.InstructionRead.the-variants as I
 use Rattle.operands.specs.declared.Written.{Written}
 use Rattle.operands.proofs.Top.{reads-exactly, words-count, label-within}
-use Rattle.items.specs.Items.{cellsOf, allInRange}
+use Rattle.items.specs.Items.{Item, cellsOf, allInRange}
 use Rattle.statements.specs.Statements.{Reading, nothing, instruction, org, equ, res, cells, end, Says}
 use Rattle.statements.specs.Checks.{leastUnsigned, leastSigned, resultIn}
 use Rattle.statements.specs.Judging.{resultOf, worthResult, treeResult, instructionResult, judged, claimOf}
 use Rattle.statements.specs.Reading.{lineRead}
+use Rattle.statements.specs.Cells.{cellsIn}
 use Rattle.statements.specs.declared.Failure.the-variants as F
 use Rattle.statements.specs.declared.Statement.{Statement}
 use Rattle.statements.specs.declared.Statement.the-variants.{Instruction, Org, Equ, Res, Data}
@@ -36,7 +38,8 @@ use Rattle.statements.specs.declared.StatementRead.{StatementRead}
 use Rattle.statements.specs.declared.StatementRead.the-variants.{Passes, Fails}
 use Rattle.statements.proofs.Labelling.{never}
 use Rattle.statements.proofs.Lines.{says-exactly}
-use Rattle.statements.proofs.Places.{operands-from}
+use Rattle.statements.proofs.CellsGiven.{cells-exactly}
+use Rattle.statements.proofs.Places.{operands-from, few-cells}
 
 -- ---- which reading says an instruction
 
@@ -87,13 +90,45 @@ module _ (op : Opcode) (a b : Given) where
       go false q = never (cc)
   given-by end e = never (cc)
 
--- ---- its operands
+-- ---- which reading says DATA
+
+module _ (n : ℕ) where
+  -- a reading is DATA with items in range that take so many cells
+  abbrev Taken-by : Reading → Type 0
+  Taken-by r = (is : List Item) × (r ≡ cells is) × (allInRange is ≡ true) × (length (cellsOf is) ≡ n)
+
+  taken-by : (r : Reading) → judged r ≡ Passes (Data n) → Taken-by r
+  unfolding judged
+  taken-by nothing e = never (cc)
+  taken-by (instruction op os) e = go (Operands.judged op os) e
+    where
+      go : (i : InstructionRead) → instructionResult op i ≡ Passes (Data n) → Taken-by (instruction op os)
+      go (I.Read x y) e = never (cc)
+      go I.WrongForm e = never (cc)
+      go I.WrongOperands e = never (cc)
+      go I.OutOfRange e = never (cc)
+  taken-by (org t) e = let h = tree-makes leastUnsigned Org t e .1 in never (cc)
+  taken-by (equ t) e = let h = tree-makes leastSigned Equ t e .1 in never (cc)
+  taken-by (res t) e = let h = tree-makes leastUnsigned Res t e .1 in never (cc)
+  taken-by (cells is) e = go (allInRange is) refl e
+    where
+      go : (t : Bool) → allInRange is ≡ t → cond t (Passes (Data (length (cellsOf is)))) (Fails F.OutOfRange) ≡ Passes (Data n) → Taken-by (cells is)
+      go true q e = (is, refl, q, cc)
+      go false q e = never (cc)
+  taken-by end e = never (cc)
+
+-- ---- of the line
+
+-- the reading of a line that passes
+reading-of : (line : List ℕ) {s : Statement} → lineRead line .statement ≡ Passes s
+    → (r : Reading) × Says line (lineRead line .label) r × (judged r ≡ Passes s)
+reading-of line e = says-exactly line .0 (ap (λ (x : StatementRead). record { label = lineRead line .label; statement = x }) e)
 
 pub instruction-from : (line : List ℕ) {op : Opcode} {a b : Given} → lineRead line .statement ≡ Passes (Instruction op a b)
     → (at : ℕ) × (instructionRead line op (tokensFrom line at) ≡ I.Read a b)
 unfolding instructionRead
 instruction-from line {op} {a} {b} e =
-    let h = says-exactly line .0 (ap (λ (x : StatementRead). record { label = lineRead line .label; statement = x }) e) in
+    let h = reading-of line e in
     let g = given-by op a b (h .0) (h .2) in
     let f = operands-from line (subst (λ (r : Reading). Says line (lineRead line .label) r) (g .1) (h .1)) in
     (f .0, ap (Operands.judgedForm op) (reads-exactly line (tokensFrom line (f .0)) .1 (f .1)) ∙ g .2)
@@ -106,3 +141,17 @@ module _ (line : List ℕ) {op : Opcode} {a b : Given} (e : lineRead line .state
   -- its labels stand in the line
   pub operand-labels-within : LabelWithin (length line) (a .label) × LabelWithin (length line) (b .label)
   operand-labels-within = let h = instruction-from line e in label-within line (h .0) op (h .1)
+
+module _ (line : List ℕ) {n : ℕ} (e : lineRead line .statement ≡ Passes (Data n)) where
+  items-said : (is : List Item) × Says line (lineRead line .label) (cells is) × (allInRange is ≡ true) × (length (cellsOf is) ≡ n)
+  items-said =
+      let h = reading-of line e in
+      let g = taken-by n (h .0) (h .2) in
+      (g .0, subst (λ (r : Reading). Says line (lineRead line .label) r) (g .1) (h .1), g .2, g .3)
+
+  -- as many cells are written as are claimed
+  pub cells-written : length (cellsIn line) ≡ claimOf (Data n)
+  cells-written = let h = items-said in ap length (cells-exactly line (h .1) (h .2)) ∙ h .3
+
+  pub cells-few : claimOf (Data n) ≤ length line
+  cells-few = let h = items-said in omega (arith, few-cells line (h .1), h .3)
