@@ -8,10 +8,11 @@ use Rattle.tokens.specs.Rows.{RowOf}
 use Rattle.tokens.specs.Reading.{tokensFrom}
 use Rattle.tokens.specs.declared.Token.{Token}
 use Rattle.tokens.proofs.Top.{line-row, one-row}
+use Rattle.names.specs.declared.Word.the-variants as W
 use Rattle.values.specs.declared.LabelIn.{LabelIn}
 use Rattle.values.specs.declared.LabelIn.the-variants.{Absent, Named}
 use Rattle.values.specs.declared.Name.{Name}
-use Rattle.statements.specs.Statements.{Reading, Label, LineText, NoSuchWord, Says, Labelled, UnknownWord, NoReading}
+use Rattle.statements.specs.Statements.{Reading, end, Label, ends, LineText, labelled, unlabelled, WordIn, behind, first, Says, Labelled, HasWord, UnknownWord, NoReading}
 use Rattle.statements.specs.FirstFailing.{Check, check, Pass, First}
 use Rattle.statements.specs.Checks.{Unfit, TooDeep, NumberOut, ZeroDivisor, ResultOut, OfReading, checks}
 use Rattle.statements.specs.Judging.{numberOf, judged}
@@ -39,8 +40,8 @@ module _ (line : List ℕ) where
   text-here : {l : LabelIn} {r : Reading} → Says line l r → LineText line row l r
   text-here {l} {r} x = subst (λ (ts : List Token). LineText line ts l r) (its-row (x .row)) (x .text)
 
-  word-here : UnknownWord line → NoSuchWord line row
-  word-here u = subst (NoSuchWord line) (its-row (u .row)) (u .word)
+  word-here : UnknownWord line → WordIn line W.Unknown row
+  word-here u = subst (WordIn line W.Unknown) (its-row (u .row)) (u .word)
 
   pub data Verdict : Type 0 where
     reads : (l : LabelIn) (r : Reading) → Says line l r → ((l′ : LabelIn) (r′ : Reading) → Says line l′ r′ → (l ≡ l′) × (r ≡ r′))
@@ -193,6 +194,20 @@ module _ (line : List ℕ) where
           (r, subst (λ (k : LabelIn). Says line k r) g x, h)
       out e (no-such-word u unread f) = let g : Passes s ≡ Fails F.UnknownWord = ap (λ (a : LineRead). a .statement) (sym e) ∙ f in never (cc)
       out e (no-form known unread f) = let g : Passes s ≡ Fails F.WrongForm = ap (λ (a : LineRead). a .statement) (sym e) ∙ f in never (cc)
+
+  -- ---- END
+
+  -- nothing is asked of what follows its word
+  pub end-exactly : ((l : LabelIn) × Says line l end) ↔ HasWord line W.End
+  end-exactly = (λ h. record { tokens = h .1 .tokens; row = h .1 .row; word = out (h .1 .text) }, λ h. back (h .row) (h .word))
+    where
+      out : {ts : List Token} {l : LabelIn} → LineText line ts l end → WordIn line W.End ts
+      out (labelled a (ends s)) = behind a s
+      out (unlabelled none (ends s)) = first none s
+
+      back : {ts : List Token} → RowOf line ts → WordIn line W.End ts → (l : LabelIn) × Says line l end
+      back {ts} r (behind {n = n} a s) = (Named n, record { tokens = ts; row = r; text = labelled a (ends s) })
+      back {ts} r (first none s) = (Absent, record { tokens = ts; row = r; text = unlabelled none (ends s) })
 
   -- ---- the label
 

@@ -4,10 +4,11 @@ use mathlib.Core.List.{List, _∷_}
 use mathlib.Core.Path.{_≡_, refl, sym, ap, subst, _∙_}
 use Rattle.tokens.specs.Reading.{tokensFrom}
 use Rattle.tokens.specs.declared.Token.{Token}
+use Rattle.names.specs.declared.Word.the-variants as W
 use Rattle.values.specs.declared.LabelIn.{LabelIn}
 use Rattle.values.specs.declared.LabelIn.the-variants.{Absent, Named}
 use Rattle.values.specs.declared.Name.{Name}
-use Rattle.statements.specs.Statements.{Reading, Label, Body, LineText, labelled, unlabelled, NoSuchWord, behind, first}
+use Rattle.statements.specs.Statements.{Reading, Label, Body, LineText, labelled, unlabelled, WordIn, behind, first}
 use Rattle.statements.specs.Judging.{judged}
 use Rattle.statements.specs.Reading.{labelRead, afterLabel, statementRead}
 use Rattle.statements.specs.declared.Failure.the-variants as F
@@ -37,18 +38,18 @@ module _ (line : List ℕ) where
   text-first none (labelled {us = us} {n = n} b body) = absurd (none n us b)
   text-first none (unlabelled bare body) = (refl, body)
 
-  unknown-behind : {ts us : List Token} {n : Name} → Label ts n us → NoSuchWord line ts → UnknownHere line us
+  unknown-behind : {ts us : List Token} {n : Name} → Label ts n us → WordIn line W.Unknown ts → UnknownHere line us
   unknown-behind a (behind b s) = subst (UnknownHere line) (sym (label-once a b .1)) (here s)
   unknown-behind {us = us} {n = n} a (first bare s) = absurd (bare n us a)
 
-  unknown-first : {ts : List Token} → NoLabel ts → NoSuchWord line ts → UnknownHere line ts
+  unknown-first : {ts : List Token} → NoLabel ts → WordIn line W.Unknown ts → UnknownHere line ts
   unknown-first none (behind {us = us} {n = n} {w = w} b s) = absurd (none n (w ∷ us) b)
   unknown-first none (first bare s) = here s
 
-  is-behind : {ts us : List Token} {n : Name} → Label ts n us → UnknownHere line us → NoSuchWord line ts
+  is-behind : {ts us : List Token} {n : Name} → Label ts n us → UnknownHere line us → WordIn line W.Unknown ts
   is-behind a (here s) = behind a s
 
-  is-first : {ts : List Token} → NoLabel ts → UnknownHere line ts → NoSuchWord line ts
+  is-first : {ts : List Token} → NoLabel ts → UnknownHere line ts → WordIn line W.Unknown ts
   is-first none (here s) = first none s
 
   -- ---- the three cases, with the reader's answer
@@ -58,9 +59,9 @@ module _ (line : List ℕ) where
 
   pub data TextVerdict (ts : List Token) : Type 0 where
     reads : (l : LabelIn) (r : Reading) → LineText line ts l r → ((l′ : LabelIn) (r′ : Reading) → LineText line ts l′ r′ → (l ≡ l′) × (r ≡ r′))
-        → (NoSuchWord line ts → ⊥) → answer ts ≡ record { label = l; statement = judged r } → TextVerdict ts
-    no-such-word : NoSuchWord line ts → Unread ts → answer ts .statement ≡ Fails F.UnknownWord → TextVerdict ts
-    no-form : (NoSuchWord line ts → ⊥) → Unread ts → answer ts .statement ≡ Fails F.WrongForm → TextVerdict ts
+        → (WordIn line W.Unknown ts → ⊥) → answer ts ≡ record { label = l; statement = judged r } → TextVerdict ts
+    no-such-word : WordIn line W.Unknown ts → Unread ts → answer ts .statement ≡ Fails F.UnknownWord → TextVerdict ts
+    no-form : (WordIn line W.Unknown ts → ⊥) → Unread ts → answer ts .statement ≡ Fails F.WrongForm → TextVerdict ts
 
   answered : (ts us : List Token) {l : LabelIn} {st : StatementRead} → labelRead ts ≡ l → afterLabel ts ≡ us → statementRead line us ≡ st
       → answer ts ≡ record { label = l; statement = st }

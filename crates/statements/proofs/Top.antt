@@ -12,6 +12,7 @@ use mir.Val.{ofZ}
 use Rattle.numerals.specs.declared.Kept.the-variants as N
 use Rattle.isa.specs.Encoding.{wordsOf}
 use Rattle.isa.specs.declared.Opcode.{Opcode}
+use Rattle.names.specs.declared.Word.the-variants as W
 use Rattle.values.specs.declared.LabelIn.{LabelIn}
 use Rattle.values.specs.declared.LabelIn.the-variants.{Absent, Named}
 use Rattle.values.specs.declared.Name.{Name}
@@ -30,7 +31,7 @@ use Rattle.operands.specs.declared.Written.{Written}
 use Rattle.items.specs.Items.{Item, cellsOf, allInRange}
 use Rattle.items.specs.Reading as Items
 use Rattle.items.specs.declared.ItemsRead.{ItemsRead}
-use Rattle.statements.specs.Statements.{Reading, instruction, cells, Says, Labelled, UnknownWord, NoReading}
+use Rattle.statements.specs.Statements.{Reading, instruction, cells, end, Says, Labelled, HasWord, UnknownWord, NoReading}
 use Rattle.statements.specs.FirstFailing.{Pass, First}
 use Rattle.statements.specs.Checks.{resultIn, checks}
 use Rattle.statements.specs.Judging.{numberOf, refusalOf, instructionResult, judged, claimOf}
@@ -99,6 +100,10 @@ module _ (line : List ℕ) where
   -- "3 form": no reading at all. "word 4; form 3": an unknown word is never 3, and all other refusals are of lines with a reading.
   pub form-exactly : (lineRead line .statement ≡ Fails F.WrongForm) ↔ ((UnknownWord line → ⊥) × NoReading line)
   form-exactly = Lines.form-exactly line
+
+  -- "All bytes after END as a statement's word are ignored": a line says END exactly where its statement's word is END.
+  pub end-exactly : ((l : LabelIn) × Says line l end) ↔ HasWord line W.End
+  end-exactly = Lines.end-exactly line
 
   -- ---- the label
 

@@ -58,11 +58,10 @@ module _ (line : List ℕ) where
     labelled : {ts us : List Token} {n : Name} {r : Reading} → Label ts n us → Body us r → LineText ts (Named n) r
     unlabelled : {ts : List Token} {r : Reading} → ((n : Name) (us : List Token) → Label ts n us → ⊥) → Body ts r → LineText ts Absent r
 
-  -- the first token after any label is a word, and none that statements have
-  pub data NoSuchWord : List Token → Type 0 where
-    behind : {ts us : List Token} {n : Name} {w : Token} → Label ts n (w ∷ us) → StatementWord w W.Unknown → NoSuchWord ts
-    first : {us : List Token} {w : Token} → ((n : Name) (vs : List Token) → Label (w ∷ us) n vs → ⊥) → StatementWord w W.Unknown
-        → NoSuchWord (w ∷ us)
+  -- the statement's word among a line's tokens, behind its label or first
+  pub data WordIn (x : Word) : List Token → Type 0 where
+    behind : {ts us : List Token} {n : Name} {w : Token} → Label ts n (w ∷ us) → StatementWord w x → WordIn x ts
+    first : {us : List Token} {w : Token} → ((n : Name) (vs : List Token) → Label (w ∷ us) n vs → ⊥) → StatementWord w x → WordIn x (w ∷ us)
 
 -- ---- over a line's bytes
 
@@ -79,11 +78,15 @@ pub record Labelled (line : List ℕ) (n : Name) : Type 0 where
   pub row : RowOf line tokens
   pub label : Label tokens n rest
 
--- the line's statement has an unknown word, whatever follows it
-pub record UnknownWord (line : List ℕ) : Type 0 where
+-- the line's statement has this word, whatever follows it
+pub record HasWord (line : List ℕ) (x : Word) : Type 0 where
   pub tokens : List Token
   pub row : RowOf line tokens
-  pub word : NoSuchWord line tokens
+  pub word : WordIn line x tokens
+
+-- it has a word, and none that statements have
+abbrev pub UnknownWord : List ℕ → Type 0
+UnknownWord line = HasWord line W.Unknown
 
 -- the line says nothing that the rules give
 abbrev pub NoReading : List ℕ → Type 0
