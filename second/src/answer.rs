@@ -112,7 +112,7 @@ fn answer_line(line: &[u8]) -> Reply {
         Ok(Some(Statement::Equ(value))) => Ok(LineSays::Equ(value)),
         Ok(Some(Statement::Res(value))) => Ok(LineSays::Res(value)),
         Ok(Some(Statement::End)) => Ok(LineSays::End),
-        Ok(Some(Statement::Data(cells))) => Ok(LineSays::Data(cells.len())),
+        Ok(Some(Statement::Data(cells))) => Ok(LineSays::Data(cells)),
         Ok(Some(Statement::Instruction(written))) => Ok(LineSays::Instruction(
             written.instruction,
             [name(written.labels[0]), name(written.labels[1])],

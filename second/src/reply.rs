@@ -43,6 +43,9 @@ pub enum Reply {
     Line(Name, Result<LineSays, u8>),
 }
 
+/// How many of DATA's cells a reply shows, after their number.
+const MOST_SHOWN: usize = 64;
+
 /// A word's place in its line: where it starts, and where it ends; both 0 for no word.
 #[derive(Clone, Copy, Debug, PartialEq, Eq)]
 pub struct Name(pub usize, pub usize);
@@ -68,8 +71,8 @@ pub enum LineSays {
     Org(u16),
     Equ(u16),
     Res(u16),
-    /// How many cells.
-    Data(usize),
+    /// Its cells.
+    Data(Vec<u16>),
     End,
 }
 
@@ -127,7 +130,10 @@ impl Display for LineSays {
             LineSays::Org(value) => write!(out, "O {}", value),
             LineSays::Equ(value) => write!(out, "Q {}", value),
             LineSays::Res(value) => write!(out, "R {}", value),
-            LineSays::Data(cells) => write!(out, "D {}", cells),
+            LineSays::Data(cells) => {
+                write!(out, "D {}", cells.len())?;
+                cells.iter().take(MOST_SHOWN).try_for_each(|cell| write!(out, " {}", cell))
+            }
             LineSays::End => out.write_str("E"),
         }
     }

@@ -8,10 +8,10 @@ use native.Mathlib.Omega.{arith}
 use lib.Dec.{ltb, leb·suc-suc}
 use borrow.Author.Tests.{ltb-true, ltb-false, lt-ltb, le-ltb}
 use Rattle.numerals.specs.declared.Radix.{Radix}
+use Rattle.tokens.specs.Marks.{IsMark}
 use Rattle.tokens.specs.declared.Kind.the-variants as K
 use Rattle.tokens.specs.declared.Token.{Token}
 use Rattle.expressions.specs.Grammar.{one-product, sum, one-factor, product, literal as numeral, parentheses}
-use Rattle.expressions.specs.Operations.{IsMark}
 use Rattle.expressions.specs.Trees.{Tree, literal, node, enclosed, depth, Expression}
 use Rattle.expressions.specs.Reading.{kindSymbol}
 use Rattle.expressions.specs.Scanning.{passes}

@@ -13,5 +13,6 @@ pub mod Operands
 pub mod Verdicts
 pub mod Seen
 pub mod Exactly
+pub mod Numbers
 pub mod Kept
 pub mod Top

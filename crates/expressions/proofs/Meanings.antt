@@ -5,10 +5,11 @@ use mathlib.Core.Bool.{Bool, true, false, cond}
 use mathlib.Core.Path.{_≡_, refl, ap, _∙_}
 use lib.Dec.{eqb, eqb→eq, T}
 use Rattle.numerals.specs.declared.Radix.{Radix}
+use Rattle.tokens.specs.Marks.{IsMark}
 use Rattle.tokens.specs.declared.Kind.{Kind}
 use Rattle.tokens.specs.declared.Kind.the-variants as K
 use Rattle.tokens.specs.declared.Token.{Token}
-use Rattle.expressions.specs.Operations.{IsMark, SumMark, ProductMark, plus, minus, times, over, rest}
+use Rattle.expressions.specs.Operations.{SumMark, ProductMark, plus, minus, times, over, rest}
 use Rattle.expressions.specs.Reading.{markSymbol, kindSymbol}
 use Rattle.expressions.specs.declared.Operation.{Operation}
 use Rattle.expressions.specs.declared.Symbol.{Symbol}

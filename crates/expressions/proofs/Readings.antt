@@ -4,11 +4,12 @@ use Prim.Native.Char.{code}
 use mathlib.Core.List.{List, [], _∷_, _++_, append-assoc, append-nil}
 use mathlib.Core.Path.{_≡_, refl, ap, _∙_}
 use native.Mathlib.Omega.{arith}
+use Rattle.tokens.specs.Marks.{IsMark}
 use Rattle.tokens.specs.declared.Kind.the-variants as K
 use Rattle.tokens.specs.declared.Token.{Token}
 use Rattle.numerals.specs.declared.Radix.{Radix}
 use Rattle.expressions.specs.Grammar.{Sum, Product, Factor, one-product, sum, one-factor, product, literal, parentheses}
-use Rattle.expressions.specs.Operations.{IsMark, SumMark, ProductMark}
+use Rattle.expressions.specs.Operations.{SumMark, ProductMark}
 use Rattle.expressions.specs.Reading.{kindSymbol, Waiting, nothing, waits, Outcome, reads, wrong, joined, Frame, atOperand, atOperator, operand, operator}
 use Rattle.expressions.specs.declared.Operation.{Operation}
 use Rattle.expressions.specs.declared.Symbol.{Symbol}

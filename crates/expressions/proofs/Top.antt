@@ -9,7 +9,7 @@ use Rattle.tokens.specs.declared.Token.{Token}
 use Rattle.expressions.specs.Grammar.{Sum}
 use Rattle.expressions.specs.Trees.{Tree, node, depth, deepest, Expression}
 use Rattle.expressions.specs.Worths.{operation, operate, worthOf}
-use Rattle.expressions.specs.Reading.{nothing, reads, wrong, operand, treeRead, expressionRead}
+use Rattle.expressions.specs.Reading.{nothing, reads, wrong, operand, treeRead, expressionRead, refusalOf}
 use Rattle.expressions.specs.Scanning.{rightForm, passes}
 use Rattle.expressions.specs.declared.Operation.{Operation}
 use Rattle.expressions.specs.declared.Worth.{Worth}
@@ -19,6 +19,7 @@ use Rattle.expressions.proofs.Readings as Readings
 use Rattle.expressions.proofs.Folds as Folds
 use Rattle.expressions.proofs.Folds.{foldOutcome}
 use Rattle.expressions.proofs.Exactly as Exactly
+use Rattle.expressions.proofs.Numbers as Numbers
 use Rattle.expressions.proofs.Kept as Kept
 use Rattle.expressions.proofs.Kept.{Within}
 use Rattle.expressions.proofs.Examples as Examples
@@ -61,6 +62,25 @@ deep-exactly ts = (Exactly.tells ts, Exactly.deep-back ts)
 -- "form" (3): no tree at all, however deep.
 pub wrong-exactly : (ts : List Token) → (expressionRead ts ≡ WrongForm) ↔ ((tree : Tree) → Expression ts tree → ⊥)
 wrong-exactly ts = (Exactly.tells ts, Exactly.wrong-back ts)
+
+-- The same by the paper's numbers: 0, 3, 8, 6, 7, each answered exactly where its check is the first that fails.
+module _ (ts : List Token) where
+  pub read-0 : (refusalOf (expressionRead ts) ≡ 0)
+      ↔ ((z : ℤ) × (tree : Tree) × Expression ts tree × (depth tree ≤ deepest) × (worthOf tree ≡ Is z))
+  read-0 =
+      (λ e. let h = Numbers.number-0 (expressionRead ts) e in let t = read-exactly ts .0 (h .1) in (h .0, t .0, t .1, t .2, t .3), λ h. ap refusalOf (read-exactly ts .1 (h .1, h .2, h .3, h .4)))
+
+  pub form-3 : (refusalOf (expressionRead ts) ≡ 3) ↔ ((tree : Tree) → Expression ts tree → ⊥)
+  form-3 = (λ e. wrong-exactly ts .0 (Numbers.number-3 (expressionRead ts) e), λ n. ap refusalOf (wrong-exactly ts .1 n))
+
+  pub deep-8 : (refusalOf (expressionRead ts) ≡ 8) ↔ ((tree : Tree) × Expression ts tree × (deepest < depth tree))
+  deep-8 = (λ e. deep-exactly ts .0 (Numbers.number-8 (expressionRead ts) e), λ h. ap refusalOf (deep-exactly ts .1 h))
+
+  pub range-6 : (refusalOf (expressionRead ts) ≡ 6) ↔ ((tree : Tree) × Expression ts tree × (depth tree ≤ deepest) × (worthOf tree ≡ OutOfRange))
+  range-6 = (λ e. read-exactly ts .0 (Numbers.number-6 (expressionRead ts) e), λ h. ap refusalOf (read-exactly ts .1 h))
+
+  pub zero-7 : (refusalOf (expressionRead ts) ≡ 7) ↔ ((tree : Tree) × Expression ts tree × (depth tree ≤ deepest) × (worthOf tree ≡ ByZero))
+  zero-7 = (λ e. read-exactly ts .0 (Numbers.number-7 (expressionRead ts) e), λ h. ap refusalOf (read-exactly ts .1 h))
 
 -- ---- worths
 

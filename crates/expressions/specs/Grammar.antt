@@ -4,10 +4,11 @@ use Prim.Native.Char.{code}
 use mathlib.Core.List.{List, [], _∷_, _++_}
 use mathlib.Core.Path.{_≡_}
 use Rattle.numerals.specs.declared.Radix.{Radix}
+use Rattle.tokens.specs.Marks.{IsMark}
 use Rattle.tokens.specs.declared.Kind.the-variants as K
 use Rattle.tokens.specs.declared.Token.{Token}
 use Rattle.expressions.specs.declared.Operation.{Operation}
-use Rattle.expressions.specs.Operations.{IsMark, SumMark, ProductMark}
+use Rattle.expressions.specs.Operations.{SumMark, ProductMark}
 
 -- what a number, an operation and a pair of parentheses make
 module _ (W : Type 0) (number : ℕ → W) (operate : Operation → W → W → W) (enclose : W → W) where

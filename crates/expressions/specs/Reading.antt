@@ -8,7 +8,7 @@ use Rattle.tokens.specs.declared.Kind.{Kind}
 use Rattle.tokens.specs.declared.Kind.the-variants as K
 use Rattle.tokens.specs.declared.Token.{Token}
 use Rattle.expressions.specs.Trees.{Tree, depth, deepest, literal, node, enclosed}
-use Rattle.expressions.specs.Worths.{worthOf}
+use Rattle.expressions.specs.Worths.{worthOf, faultOf}
 use Rattle.expressions.specs.declared.Operation.{Operation}
 use Rattle.expressions.specs.declared.Operation.the-variants.{Plus, Minus, Times, Over, Rest}
 use Rattle.expressions.specs.declared.Symbol.{Symbol}
@@ -100,3 +100,9 @@ judged wrong = WrongForm
 
 unfoldable pub expressionRead : List Token → ExpressionRead
 expressionRead ts = judged (treeRead ts)
+
+-- the paper's number for each answer: 3 form, 8 too deep, 6 or 7 of the worth, 0 for a number
+abbrev pub refusalOf : ExpressionRead → ℕ
+refusalOf (Read w) = faultOf w
+refusalOf TooDeep = 8
+refusalOf WrongForm = 3

@@ -3,7 +3,7 @@
 use mathlib.Core.Path.{_≡_, refl, sym, _∙_}
 use mathlib.Core.Bool.{true, cond}
 use mathlib.Core.List.{List, [], _∷_, _++_}
-use Prim.Native.Nat.{ℕ, _+_, _-_, _<_, _≤_}
+use Prim.Native.Nat.{ℕ, suc, _+_, _-_, _<_, _≤_}
 use lib.ListN.{length, take, drop}
 use Rattle.isa.specs.declared.Opcode.{Opcode}
 use Rattle.isa.specs.declared.Opcode.the-variants.{INC, BZ, BR, MOVE}
@@ -11,7 +11,7 @@ use Rattle.isa.specs.declared.Operand.the-variants.{Absent, Register, In
 use Rattle.isa.specs.declared.Instruction.{Instruction}
 use Rattle.isa.specs.declared.Address.{Address}
 use Rattle.isa.specs.declared.Decoded.the-variants.{Read}
-use Rattle.isa.specs.Opcodes.{table, opcodes, opcodeOf}
+use Rattle.isa.specs.Opcodes.{table, opcodes, opcodeOf, countOf}
 use Rattle.isa.specs.Operands.{allows, operandOf}
 use Rattle.isa.specs.Encoding.{firstWordOf, wordsOf, allowed, encodeOf, refusalOf, wordsIn}
 use Rattle.isa.specs.Decoding.{modesAllowed, sizeIn, instructionIn, readUnless, decodeWord, decodeOf, stopOf}
@@ -38,6 +38,10 @@ encoder = words.refusal
 
 pub encoder-words : (i : Instruction) → allowed i ≡ true → wordsIn (encodeOf i) ≡ wordsOf i
 encoder-words = words.encode-words
+
+-- "First word .., then one word per operand": an allowed instruction has as many words as its opcode has operands, plus one
+pub words-count : (i : Instruction) → allowed i ≡ true → length (wordsOf i) ≡ suc (countOf (i .op))
+words-count = words.words-count
 
 -- What is encoded is decoded to itself, with the address after it, wherever its words stand
 pub decode-encode : (i : Instruction) (before after : List ℕ) → allowed i ≡ true

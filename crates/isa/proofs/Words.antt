@@ -2,7 +2,7 @@
 use mathlib.Core.Path.{_≡_, refl, sym, ap, _∙_}
 use mathlib.Core.Bool.{Bool, true, false, cond, _&&_}
 use mathlib.Core.List.{List, [], _∷_, _++_}
-use Prim.Native.Nat.{ℕ, _<_, _≤_}
+use Prim.Native.Nat.{ℕ, suc, _<_, _≤_}
 use native.Mathlib.Omega.{arith}
 use borrow.Author.Tests.{leb-true}
 use lib.Dec.{ltb, leb}
@@ -12,13 +12,14 @@ use Rattle.isa.specs.declared.Operand.{Operand}
 use Rattle.isa.specs.declared.Instruction.{Instruction}
 use Rattle.isa.specs.declared.Encoded.{Encoded}
 use Rattle.isa.specs.declared.Encoded.the-variants.{One, Two, Three, Refused}
-use Rattle.isa.specs.Opcodes.{table, opcodes, opcodeOf, presentIn}
+use Rattle.isa.specs.Opcodes.{table, opcodes, opcodeOf, presentIn, countOf}
 use Rattle.isa.specs.Operands.{modeOf, operandWords, wordOf, registerThere, modesOf, oneOf, seventhFits, allows}
 use Rattle.isa.specs.Encoding.{firstWordOf, wordsOf, allowed, handedBack, encodeOf, refusalOf, wordsIn}
 use Rattle.isa.specs.Decoding.{opcodeIn, mode1In, mode2In, modesAllowed, sizeIn, wordsOfMode}
 use Rattle.isa.proofs.Tests.{both-true}
 use Rattle.isa.proofs.Numbers.{number-below, opcode-of-number, each}
 use Rattle.isa.proofs.Modes.{mode-below, words-of}
+use Rattle.isa.proofs.FirstWords.{size-by-count}
 
 -- what it is to be allowed, part by part: a mode of the opcode's list, mode 7 as it is meant there, and registers that are there
 pub record Parts (i : Instruction) : Type 0 where
@@ -102,6 +103,11 @@ words-length i =
       words-length-of (i .first),
       words-length-of (i .second),
     ))
+
+-- "then one word per operand": an allowed instruction has its opcode's number of them
+pub words-count : (i : Instruction) → allowed i ≡ true → length (wordsOf i) ≡ suc (countOf (i .op))
+words-count i t =
+    omega (arith, words-length i, size-by-count (firstWordOf i) (first-word-allowed i t), ap countOf (opcode-in i))
 
 -- an allowed instruction is handed back as its words, whichever way its first word was found
 pub encoded : (i : Instruction) (w : ℕ) → allowed i ≡ true → w ≡ firstWordOf i

@@ -27,6 +27,10 @@ characters-fit closed = omega arith
 characters-fit (plain t r) = omega (arith, characters-fit r)
 characters-fit (newline r) = omega (arith, characters-fit r)
 
+-- a character takes a byte at least
+pub character-moves : (s : List ℕ) (i : ℕ) {b : ℕ} {c : Cursor} → characterAt s i ≡ Stands b c → (i < c .at) × (c .at ≤ length s)
+character-moves s i {b} {c} e = let t : Inside s i (Stands b c) = subst (Inside s i) e (character-means s i) in (t .0, t .1)
+
 -- ---- the loop that counts
 
 -- at `i`, after n characters, the rest of the string is left
@@ -38,9 +42,6 @@ pub count-start : (s : List ℕ) (from : ℕ) → Left s from from 0
 count-start s from cs rest r = (cs, r, omega arith)
 
 module _ (s : List ℕ) (from i n : ℕ) (left : Left s from i n) where
-  pub count-moves : {b : ℕ} {c : Cursor} → characterAt s i ≡ Stands b c → (i < c .at) × (c .at ≤ length s)
-  count-moves {b} {c} e = let t : Inside s i (Stands b c) = subst (Inside s i) e (character-means s i) in (t .0, t .1)
-
   pub count-on : {b : ℕ} {c : Cursor} → characterAt s i ≡ Stands b c → Left s from (c .at) (n + 1)
   count-on {b} {c} e cs rest r = let h = left cs rest r in go (h .0) (h .2) (characters-read s i (h .1) refl)
     where

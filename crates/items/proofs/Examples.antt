@@ -1,4 +1,5 @@
 -- Rows of DATA that are easily misread, settled one by one by computing them.
+use Prim.Native.Nat.{ℕ}
 use Prim.Native.String.{String}
 use mathlib.Core.Bool.{true, false}
 use mathlib.Core.List.{List, [], _∷_, _++_}
@@ -12,6 +13,7 @@ use Rattle.tokens.specs.Reading.{blanks, closing, tokenHere, tokenAt, tokensWit
 use Rattle.values.specs.Values.{numeral}
 use Rattle.items.specs.Items.{Item, number, string, Items, cellsOf, allInRange}
 use Rattle.items.specs.Reading.{characters, item, reads, walk, itemsRead}
+use Rattle.items.specs.Writing.{cellsFrom}
 use Rattle.items.specs.declared.ItemsRead.{ItemsRead}
 use Rattle.items.specs.declared.ItemsRead.the-variants.{Cells, WrongForm, OutOfRange}
 use Rattle.items.proofs.Readings.{in-line, sound}
@@ -22,6 +24,9 @@ ItemsIn line is = Items (bytes line) (tokensFrom (bytes line) 4) is
 
 abbrev pub dataIn : String → ItemsRead
 dataIn line = itemsRead (bytes line) (tokensFrom (bytes line) 4)
+
+abbrev pub written : String → List ℕ
+written line = cellsFrom (bytes line) (tokensFrom (bytes line) 4)
 
 read-in : (line : String) {is : List Item} → walk (bytes line) item (tokensFrom (bytes line) 4) ≡ reads is → ItemsIn line is
 read-in line e = sound (bytes line) (in-line (bytes line) 4) e
@@ -57,12 +62,18 @@ pub record Examples : Type 0 where
   pub lowest : dataIn "DATA -32768" ≡ Cells 1
   pub too-low : dataIn "DATA -32769" ≡ OutOfRange
   pub too-high-in-the-midst : dataIn "DATA 1,99999,\"a\"" ≡ OutOfRange
+  -- "kept modulo 65536"
+  pub numbers-written : written "DATA -2,-32768,65535,0x8000,-0" ≡ 65534 ∷ 32768 ∷ 65535 ∷ 32768 ∷ 0 ∷ []
+  -- "A string takes a cell a character and a 0 cell"
+  pub string-written : written "DATA \"a\\n\",0" ≡ 97 ∷ 10 ∷ 0 ∷ 0 ∷ []
+  pub empty-written : written "DATA \"\"" ≡ 0 ∷ []
+  pub refused-not-written : written "DATA 1,65536" ≡ []
   -- form 3 comes before range 6
   pub form-first : dataIn "DATA -32769," ≡ WrongForm
   pub form-first-of-the-rest : dataIn "DATA 99999,x" ≡ WrongForm
 
 pub examples : Examples
-unfolding itemsRead walk characters cellsOf allInRange tokensFrom tokensWithin tokenAt tokenHere blanks closing isBlank isMark unsignedAt digitsAt radixAt run rank worthAfter
+unfolding cellsFrom itemsRead walk characters cellsOf allInRange tokensFrom tokensWithin tokenAt tokenHere blanks closing isBlank isMark unsignedAt digitsAt radixAt run rank worthAfter
 examples =
     record {
       marked-items = read-in "DATA \"texto\\n\",33" refl;
@@ -87,6 +98,10 @@ examples =
       lowest = refl;
       too-low = refl;
       too-high-in-the-midst = refl;
+      numbers-written = refl;
+      string-written = refl;
+      empty-written = refl;
+      refused-not-written = refl;
       form-first = refl;
       form-first-of-the-rest = refl;
     }

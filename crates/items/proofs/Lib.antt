@@ -5,5 +5,8 @@ pub mod Walks
 pub mod Readings
 pub mod Bounds
 pub mod Verdicts
+pub mod Numbers
+pub mod Writes
+pub mod Small
 pub mod Examples
 pub mod Top

@@ -24,7 +24,7 @@ use Rattle.values.specs.declared.Value.the-variants.{Number, Label}
 use Rattle.values.specs.declared.ValueRead.{ValueRead}
 use Rattle.values.specs.declared.ValueRead.the-variants as R
 use Rattle.values.proofs.Finds.{value-stands}
-use Rattle.values.proofs.Rows.{ends-of}
+use Rattle.tokens.proofs.Heads.{ends-of}
 use Rattle.items.specs.Items.{Item, itemCells, itemInRange}
 use Rattle.items.specs.Reading.{characters}
 use Rattle.items.specs.Turns.{Standing, stands, none, stringBy, stringAt, itemBy, itemAt, measured}

@@ -1,24 +1,27 @@
 -- The walk reads what the rule gives and nothing else.
 use Prim.Native.Nat.{ℕ, zero, suc, _+_, _-_, _≤_, _<_}
 use Prim.Native.Char.{code}
-use mathlib.Core.Bool.{Bool, true, false, cond}
-use mathlib.Core.List.{List, [], _∷_, _++_, append-assoc, append-nil}
+use mathlib.Core.List.{List, [], _∷_, _++_, append-nil}
 use mathlib.Core.Path.{_≡_, refl, sym, ap, subst, _∙_}
 use native.Mathlib.Omega.{arith}
-use lib.Dec.{eqb}
 use lib.ListN.{length, drop}
-use borrow.Author.Tests.{eqb-true}
-use Rattle.numerals.specs.declared.Radix.the-variants.{Decimal, Hexadecimal}
+use Rattle.numerals.specs.declared.Numeral.{Numeral}
 use Rattle.tokens.specs.Strings.{Characters}
+use Rattle.tokens.specs.Marks.{IsMark}
 use Rattle.tokens.specs.Reading.{tokenAt, tokensFrom}
 use Rattle.tokens.specs.declared.Kind.{Kind}
 use Rattle.tokens.specs.declared.Kind.the-variants as K
 use Rattle.tokens.specs.declared.Token.{Token}
 use Rattle.tokens.proofs.Places.{token-placed}
-use Rattle.values.specs.Values.{IsMark, numeral, plain, minus}
-use Rattle.values.proofs.Rows.{row-of, ends-of}
+use Rattle.values.specs.Values.{BelowZero, plain, minus}
+use Rattle.values.specs.Values as Values
+use Rattle.values.specs.Reading.{valueBy}
+use Rattle.tokens.proofs.Heads.{row-of, ends-of}
+use Rattle.values.proofs.Walks as Walks
+use Rattle.values.proofs.Walks.{never, Each}
+use Rattle.values.proofs.Begins.{value-cases, digits-cases, digits-read}
 use Rattle.items.specs.Items.{Item, number, ItemText, is-number, is-string, Items, one, more}
-use Rattle.items.specs.Reading.{characters, State, item, digits, done, Step, to, emit, halt, Result, reads, wrong, only, digitsStep, doneStep, cons, stepped, itemStep, step, walk}
+use Rattle.items.specs.Reading.{characters, State, item, digits, done, Step, to, halt, reads, onText, cons, finish, stringOf, step, walk}
 use Rattle.items.proofs.Counts.{characters-of}
 use Rattle.items.proofs.Measures.{quote-at}
 
@@ -29,8 +32,7 @@ abbrev Spelt : List ℕ → Token → Type 0
 Spelt line t = t .kind ≡ K.Text → Characters (drop (t .start + 1) line) (characters (drop (t .start + 1) line)) (drop (t .next .at) line)
 
 abbrev pub InLine : List ℕ → List Token → Type 0
-InLine line [] = Unit
-InLine line (t ∷ ts) = Spelt line t × InLine line ts
+InLine line ts = Each (Spelt line) ts
 
 spelt : (line : List ℕ) (at : ℕ) → Spelt line (tokenAt line at)
 spelt line at e =
@@ -65,7 +67,7 @@ module _ (line : List ℕ) where
   item-complete : {ts : List Token} {i : Item} → ItemText line ts i → (rest : List Token) → walk line item (ts ++ rest) ≡ walk line (done i) rest
   unfolding walk
   item-complete (is-number (plain e)) rest = rw e
-  item-complete (is-number (minus m e d)) rest = rw (m, e, d)
+  item-complete (is-number (minus m (Values.digits e d))) rest = rw (m, e, d)
   item-complete (is-string {t} {cs} e r) rest = rw (e, characters-of r)
 
   comma : (i : Item) (c : Token) (us : List Token) → IsMark (code ",") c → walk line (done i) (c ∷ us) ≡ cons i (walk line item us)
@@ -85,75 +87,44 @@ module _ (line : List ℕ) where
   -- what has been read of an item, by the state: what may follow makes it one
   abbrev Read : State → List Token → Type 0
   Read item cur = cur ≡ []
-  Read digits cur = (t : Token) (v : ℕ) → t .kind ≡ K.Number v Decimal → t .directly ≡ true
-      → ItemText line (cur ++ t ∷ []) (number (numeral true Decimal v))
+  Read digits cur = (t : Token) (n : Numeral) → BelowZero t n → ItemText line (cur ++ t ∷ []) (number n)
   Read (done i) cur = ItemText line cur i
 
   abbrev Stepped : Token → List Token → Step → Type 0
-  Stepped t cur (to st) = Read st (cur ++ t ∷ [])
-  Stepped t cur (emit i) = ItemText line cur i × IsMark (code ",") t
-  Stepped t cur halt = Unit
-
-  only-case : (t : Token) (cur : List Token) (x b : ℕ) (f : Step) → IsMark b t → (IsMark x t → Stepped t cur f) → Stepped t cur (only x f b)
-  only-case t cur x b f e h = go (eqb b x) refl
-    where
-      go : (y : Bool) → eqb b x ≡ y → Stepped t cur (cond y f halt)
-      go true q = h (e ∙ ap K.Mark (eqb-true b x q))
-      go false q = tt
+  Stepped t cur x = Walks.Stepped (ItemText line) Read t cur x
 
   step-read : (st : State) (t : Token) (cur : List Token) → Spelt line t → Read st cur → Stepped t cur (step line st t)
-  step-read item t cur w h = rw h (go (t .kind) refl)
+  step-read item t cur w h =
+      rw h (value-cases t (λ q. by q tt) (λ v k q. by q (is-number (plain q))) (λ q. by q (λ u n b. is-number (minus q b)))
+      (λ z. subst (Stepped t []) (sym (z Step _ _ _ _)) (text (t .kind) refl)))
     where
-      go : (k : Kind) → t .kind ≡ k → Stepped t [] (itemStep line k t)
-      go K.End q = tt
-      go K.Stray q = tt
-      go K.Word q = tt
-      go (K.Number v k) q = is-number (plain q)
-      go K.Text q = is-string q (w q)
-      go (K.Mark b) q = only-case t [] (code "-") b (to digits) q (λ e u v x d. is-number (minus e x d))
-  step-read digits t cur w h = go (t .kind) (t .directly) refl refl
-    where
-      go : (k : Kind) (d : Bool) → t .kind ≡ k → t .directly ≡ d → Stepped t cur (digitsStep k d)
-      go K.End d q r = tt
-      go K.Stray d q r = tt
-      go K.Word d q r = tt
-      go (K.Number v Decimal) true q r = h t v q r
-      go (K.Number v Decimal) false q r = tt
-      go (K.Number v Hexadecimal) d q r = tt
-      go K.Text d q r = tt
-      go (K.Mark b) d q r = tt
-  step-read (done i) t cur w h = go (t .kind) refl
-    where
-      go : (k : Kind) → t .kind ≡ k → Stepped t cur (doneStep i k)
-      go K.End q = tt
-      go K.Stray q = tt
-      go K.Word q = tt
-      go (K.Number v k) q = tt
-      go K.Text q = tt
-      go (K.Mark b) q = only-case t cur (code ",") b (emit i) q (λ e. (h, e))
+      string : Kind → Step
+      string k = onText halt (to (done (stringOf line t))) k
 
-  pub never : {is : List Item} → _≡_ {A = Result} wrong (reads is) → ⊥
-  never e = let z : _≡_ {A = ℕ} 0 1 = cc in omega arith
+      by : {k : Kind} → t .kind ≡ k → Stepped t [] (valueBy halt (λ n. to (done (number n))) (to digits) (string k) k) → Stepped t [] (step line item t)
+      by q p = subst (λ (k : Kind). Stepped t [] (valueBy halt (λ n. to (done (number n))) (to digits) (string k) k)) (sym q) p
 
-  pub un-cons : (i : Item) (r : Result) (is : List Item) → cons i r ≡ reads is → (us : List Item) × (r ≡ reads us) × (is ≡ i ∷ us)
-  un-cons i (reads us) is e = (us, refl, cc)
-  un-cons i wrong is e = absurd (never e)
-
-  walk-sound : (ts : List Token) (st : State) (cur : List Token) (is : List Item) → InLine line ts → Read st cur → walk line st ts ≡ reads is
-      → Items line (cur ++ ts) is
-  unfolding walk
-  walk-sound [] item cur is w h e = absurd (never e)
-  walk-sound [] digits cur is w h e = absurd (never e)
-  walk-sound [] (done i) cur is w h e = let q : i ∷ [] ≡ is = cc in rw (append-nil cur, ← q) (one h)
-  walk-sound (t ∷ ts) st cur is w h e =
-      go (step line st t) (step-read st t cur (w .0) h) e (λ st′ cur′ is′ h′ e′. walk-sound ts st′ cur′ is′ (w .1) h′ e′)
+      text : (k : Kind) → t .kind ≡ k → Stepped t [] (string k)
+      text K.End q = tt
+      text K.Stray q = tt
+      text K.Word q = tt
+      text (K.Number v k) q = tt
+      text K.Text q = is-string q (w q)
+      text (K.Mark b) q = tt
+  step-read digits t cur w h =
+      digits-cases t (λ n b. subst (Stepped t cur) (sym (digits-read goes halt b)) (h t n b)) (λ z. subst (Stepped t cur) (sym (z Step goes halt)) tt)
     where
-      go : (x : Step) → Stepped t cur x → stepped x (λ next. walk line next ts) ≡ reads is
-          → ((st′ : State) (cur′ : List Token) (is′ : List Item) → Read st′ cur′ → walk line st′ ts ≡ reads is′ → Items line (cur′ ++ ts) is′)
-          → Items line (cur ++ t ∷ ts) is
-      go (to st′) c e f = rw append-assoc at (f st′ (cur ++ t ∷ []) is c e)
-      go (emit i) c e f = let u = un-cons i (walk line item ts) is e in rw (u .2) (more t (c .0) (c .1) (f item [] (u .0) refl (u .1)))
-      go halt c e f = absurd (never e)
+      goes : Numeral → Step
+      goes n = to (done (number n))
+  step-read (done i) t cur w h = Walks.comma-case (ItemText line) Read t cur i h
+
+  end-sound : (st : State) (cur : List Token) (is : List Item) → Read st cur → finish st ≡ reads is → Items line cur is
+  end-sound item cur is h e = absurd (never e)
+  end-sound digits cur is h e = absurd (never e)
+  end-sound (done i) cur is h e = let q : i ∷ [] ≡ is = cc in rw (← q) (one h)
 
   pub sound : {ts : List Token} {is : List Item} → InLine line ts → walk line item ts ≡ reads is → Items line ts is
-  sound {ts} {is} w e = walk-sound ts item [] is w refl e
+  unfolding walk
+  sound {ts} {is} w e =
+      Walks.sound item (step line) finish (ItemText line) (Items line) (λ ts us i is c u q r. more c u q r) Read refl (Spelt line)
+      step-read end-sound ts is w e

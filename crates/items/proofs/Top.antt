@@ -1,20 +1,28 @@
 -- What this crate promises, beyond the equations at its functions: what those equations' right sides mean.
-use Prim.Native.Nat.{ℕ, _+_, _≤_}
+use Prim.Native.Nat.{ℕ, _+_, _≤_, _<_}
 use mathlib.Core.Bool.{true, false}
-use mathlib.Core.List.{List}
-use mathlib.Core.Logic.{_↔_}
-use mathlib.Core.Path.{_≡_, sym, _∙_}
+use mathlib.Core.List.{List, [], _∷_, _++_}
+use mathlib.Core.Logic.{_↔_, _⊎_, ⊎-elim}
+use mathlib.Core.Path.{_≡_, refl, sym, ap, _∙_}
 use native.Mathlib.Omega.{arith}
-use lib.ListN.{length}
+use lib.ListN.{length, getD, take, drop}
+use lib.Seq.{sets, sets-eq}
+use Rattle.numerals.specs.Numbers.{keptOf}
+use Rattle.numerals.specs.declared.Kept.the-variants.{Cell}
+use Rattle.numerals.specs.declared.Numeral.{Numeral}
 use Rattle.tokens.specs.Reading.{tokensFrom}
 use Rattle.tokens.specs.declared.Token.{Token}
-use Rattle.items.specs.Items.{Item, Items, cellsOf, allInRange}
-use Rattle.items.specs.Reading.{item, reads, wrong, walk, itemsRead}
+use Rattle.items.specs.Items.{Item, number, Items, itemCells, cellsOf, allInRange}
+use Rattle.items.specs.Reading.{item, reads, wrong, walk, itemsRead, refusalOf}
+use Rattle.items.specs.Writing.{cellsFrom}
 use Rattle.items.specs.declared.ItemsRead.the-variants.{Cells, WrongForm, OutOfRange}
 use Rattle.items.proofs.Readings as Readings
 use Rattle.items.proofs.Readings.{in-line}
 use Rattle.items.proofs.Bounds as Bounds
 use Rattle.items.proofs.Verdicts as Verdicts
+use Rattle.items.proofs.Numbers as Numbers
+use Rattle.items.proofs.Writes as Writes
+use Rattle.items.proofs.Small as Small
 use Rattle.items.proofs.Examples as Examples
 use Rattle.items.proofs.Examples.{Examples}
 
@@ -64,6 +72,57 @@ pub form-exactly : (line : List ℕ) (at : ℕ)
 form-exactly line at =
     let ts = tokensFrom line at in
     (Verdicts.reply-says line ts (in-line line at), Verdicts.says-reply line ts (in-line line at) WrongForm)
+
+-- The same by the paper's numbers: 0, 3, 6, each answered exactly where its check is the first that fails.
+module _ (line : List ℕ) (at : ℕ) where
+  pub cells-0 : (refusalOf (itemsRead line (tokensFrom line at)) ≡ 0)
+      ↔ ((is : List Item) × Items line (tokensFrom line at) is × (allInRange is ≡ true))
+  cells-0 =
+      (λ e. let h = cells-exactly line at .0 (Numbers.number-0 (itemsRead line (tokensFrom line at)) e .1) in (h .0, h .1, h .2), λ h. ap refusalOf (cells-exactly line at .1 (h .0, h .1, h .2, refl)))
+
+  pub form-3 : (refusalOf (itemsRead line (tokensFrom line at)) ≡ 3) ↔ ((is : List Item) → Items line (tokensFrom line at) is → ⊥)
+  form-3 =
+      (λ e. form-exactly line at .0 (Numbers.number-3 (itemsRead line (tokensFrom line at)) e), λ n. ap refusalOf (form-exactly line at .1 n))
+
+  pub range-6 : (refusalOf (itemsRead line (tokensFrom line at)) ≡ 6)
+      ↔ ((is : List Item) × Items line (tokensFrom line at) is × (allInRange is ≡ false))
+  range-6 =
+      (λ e. range-exactly line at .0 (Numbers.number-6 (itemsRead line (tokensFrom line at)) e), λ h. ap refusalOf (range-exactly line at .1 h))
+
+-- ---- what `write_cells` writes
+
+-- The items' cells, where there are items and every number of them is in range.
+pub written-exactly : (line : List ℕ) (at : ℕ) {is : List Item} → Items line (tokensFrom line at) is → allInRange is ≡ true
+    → cellsFrom line (tokensFrom line at) ≡ cellsOf is
+unfolding cellsFrom
+written-exactly line at r q = rw (Readings.complete line r, q)
+
+-- Nothing, where the items are refused.
+pub refused-writes-none : (line : List ℕ) (at : ℕ)
+    → (itemsRead line (tokensFrom line at) ≡ WrongForm) ⊎ (itemsRead line (tokensFrom line at) ≡ OutOfRange)
+    → cellsFrom line (tokensFrom line at) ≡ []
+unfolding cellsFrom
+refused-writes-none line at = ⊎-elim (Writes.given line (tokensFrom line at)) (Writes.given line (tokensFrom line at))
+
+-- As many cells as `items` says.
+pub as-many : (line : List ℕ) (at : ℕ) {n : ℕ} → itemsRead line (tokensFrom line at) ≡ Cells n → length (cellsFrom line (tokensFrom line at)) ≡ n
+unfolding cellsFrom
+as-many line at e = Writes.given line (tokensFrom line at) e .1
+
+-- Where the row has room for them they stand at their place, and all else is as it was.
+pub in-place : (line : List ℕ) (at : ℕ) {n : ℕ} (row : List ℕ) (to : ℕ) → itemsRead line (tokensFrom line at) ≡ Cells n → to + n ≤ length row
+    → sets row to (cellsFrom line (tokensFrom line at)) ≡ take to row ++ cellsFrom line (tokensFrom line at) ++ drop (to + n) row
+in-place line at row to e h =
+    let l = as-many line at e in
+    sets-eq (cellsFrom line (tokensFrom line at)) row to (omega arith) ∙ rw l
+
+-- A number's cell is the one that keeps it.
+pub number-cell : (n : Numeral) {x : ℕ} → keptOf n ≡ Cell x → itemCells (number n) ≡ x ∷ []
+number-cell = Writes.number-cell
+
+-- Each is a cell.
+pub cells-small : (line : List ℕ) (at k : ℕ) → getD (cellsFrom line (tokensFrom line at)) k 0 < 65536
+cells-small = Small.cells-small
 
 -- ---- examples, and one reply
 

@@ -5,11 +5,12 @@ use mathlib.Core.List.{List}
 use mathlib.Core.Path.{_≡_, refl, sym, _∙_}
 use lib.ListN.{length}
 use Rattle.tokens.specs.declared.Token.{Token}
+use Rattle.values.proofs.Walks.{never}
 use Rattle.items.specs.Items.{Item, Items, cellsOf, allInRange}
 use Rattle.items.specs.Reading.{item, Result, reads, wrong, walk, judged, itemsRead}
 use Rattle.items.specs.declared.ItemsRead.{ItemsRead}
 use Rattle.items.specs.declared.ItemsRead.the-variants.{Cells, WrongForm, OutOfRange}
-use Rattle.items.proofs.Readings.{InLine, complete, sound, never}
+use Rattle.items.proofs.Readings.{InLine, complete, sound}
 
 module _ (line : List ℕ) (ts : List Token) where
   abbrev None : Type 0
@@ -18,7 +19,7 @@ module _ (line : List ℕ) (ts : List Token) where
   -- ---- no reading
 
   pub wrong-none : walk line item ts ≡ wrong → None
-  wrong-none e is r = never line (sym e ∙ complete line r)
+  wrong-none e is r = never (sym e ∙ complete line r)
 
   pub none-wrong : InLine line ts → None → walk line item ts ≡ wrong
   none-wrong w n = go (walk line item ts) refl

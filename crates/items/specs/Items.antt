@@ -11,9 +11,10 @@ use mir.Val.{ofZ}
 use Rattle.numerals.specs.Numbers.{valueOf, inRange}
 use Rattle.numerals.specs.declared.Numeral.{Numeral}
 use Rattle.tokens.specs.Strings.{Characters}
+use Rattle.tokens.specs.Marks.{IsMark}
 use Rattle.tokens.specs.declared.Kind.the-variants as K
 use Rattle.tokens.specs.declared.Token.{Token}
-use Rattle.values.specs.Values.{IsMark, NumberText}
+use Rattle.values.specs.Values.{NumberText}
 
 -- an item: a number, or a string by its characters
 pub data Item : Type 0 where

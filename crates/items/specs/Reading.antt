@@ -1,18 +1,18 @@
--- The reading of DATA's items as a walk over their tokens; `proofs/Top.antt` shows that it finds exactly the rule's items.
+-- The reading of DATA's items as a walk over their tokens (values' Walks.antt); `proofs/Top.antt` shows that it finds exactly the rule's items.
 use Prim.Native.Nat.{ℕ, _+_}
-use Prim.Native.Char.{code}
-use mathlib.Core.Bool.{Bool, true, false, cond}
+use mathlib.Core.Bool.{cond}
 use mathlib.Core.List.{List, [], _∷_}
 use lib.Dec.{eqb}
 use lib.ListN.{length, drop}
-use Rattle.numerals.specs.declared.Radix.{Radix}
-use Rattle.numerals.specs.declared.Radix.the-variants.{Decimal, Hexadecimal}
 use Rattle.tokens.specs.Bytes.{isQuote}
 use Rattle.tokens.specs.Strings.{backslash}
+use Rattle.tokens.specs.Commas.{onComma}
 use Rattle.tokens.specs.declared.Kind.{Kind}
 use Rattle.tokens.specs.declared.Kind.the-variants as K
 use Rattle.tokens.specs.declared.Token.{Token}
-use Rattle.values.specs.Values.{numeral}
+use Rattle.values.specs.Reading.{valueBy, digitsBy}
+use Rattle.values.specs.Walks as Walks
+pub use Rattle.values.specs.Walks.{to, emit, halt, reads, wrong, cons}
 use Rattle.items.specs.Items.{Item, number, string, cellsOf, allInRange}
 use Rattle.items.specs.declared.ItemsRead.{ItemsRead}
 use Rattle.items.specs.declared.ItemsRead.the-variants.{Cells, WrongForm, OutOfRange}
@@ -33,66 +33,39 @@ pub data State : Type 0 where
   digits : State  -- the digits after `-`
   done : Item → State  -- a comma or the end
 
-pub data Step : Type 0 where
-  to : State → Step
-  emit : Item → Step  -- a comma ends the item
-  halt : Step
+abbrev pub Step : Type 0
+Step = Walks.Step State Item
 
-pub data Result : Type 0 where
-  reads : List Item → Result
-  wrong : Result
+abbrev pub Result : Type 0
+Result = Walks.Result Item
 
-abbrev pub only : ℕ → Step → ℕ → Step
-only x f b = cond (eqb b x) f halt
-
-abbrev pub digitsStep : Kind → Bool → Step
-digitsStep K.End d = halt
-digitsStep K.Stray d = halt
-digitsStep K.Word d = halt
-digitsStep (K.Number v Decimal) d = cond d (to (done (number (numeral true Decimal v)))) halt
-digitsStep (K.Number v Hexadecimal) d = halt
-digitsStep K.Text d = halt
-digitsStep (K.Mark b) d = halt
-
-abbrev pub doneStep : Item → Kind → Step
-doneStep i K.End = halt
-doneStep i K.Stray = halt
-doneStep i K.Word = halt
-doneStep i (K.Number v k) = halt
-doneStep i K.Text = halt
-doneStep i (K.Mark b) = only (code ",") (emit i) b
-
-abbrev pub cons : Item → Result → Result
-cons i (reads is) = reads (i ∷ is)
-cons i wrong = wrong
+-- what a string leads to; any other token leads to `other`
+abbrev pub onText : {S : Type 0} → S → S → Kind → S
+onText other text K.End = other
+onText other text K.Stray = other
+onText other text K.Word = other
+onText other text (K.Number v k) = other
+onText other text K.Text = text
+onText other text (K.Mark b) = other
 
 abbrev pub finish : State → Result
 finish item = wrong
 finish digits = wrong
 finish (done i) = reads (i ∷ [])
 
-abbrev pub stepped : Step → (State → Result) → Result
-stepped (to st) r = r st
-stepped (emit i) r = cons i (r item)
-stepped halt r = wrong
-
 module _ (line : List ℕ) where
-  abbrev pub itemStep : Kind → Token → Step
-  itemStep K.End t = halt
-  itemStep K.Stray t = halt
-  itemStep K.Word t = halt
-  itemStep (K.Number v k) t = to (done (number (numeral false k v)))
-  itemStep K.Text t = to (done (string (characters (drop (t .start + 1) line))))
-  itemStep (K.Mark b) t = only (code "-") (to digits) b
+  -- a string's item
+  abbrev pub stringOf : Token → Item
+  stringOf t = string (characters (drop (t .start + 1) line))
 
+  -- a label is no item
   abbrev pub step : State → Token → Step
-  step item t = itemStep (t .kind) t
-  step digits t = digitsStep (t .kind) (t .directly)
-  step (done i) t = doneStep i (t .kind)
+  step item t = valueBy halt (λ n. to (done (number n))) (to digits) (onText halt (to (done (stringOf t))) (t .kind)) (t .kind)
+  step digits t = digitsBy (λ n. to (done (number n))) halt (t .kind) (t .directly)
+  step (done i) t = onComma halt (emit i) (t .kind)
 
   unfoldable pub walk : State → List Token → Result
-  walk st [] = finish st
-  walk st (t ∷ ts) = stepped (step st t) (λ next. walk next ts)
+  walk st ts = Walks.walk item step finish st ts
 
 -- form 3, then ranges 6
 abbrev pub judged : Result → ItemsRead
@@ -101,3 +74,9 @@ judged wrong = WrongForm
 
 unfoldable pub itemsRead : List ℕ → List Token → ItemsRead
 itemsRead line ts = judged (walk line item ts)
+
+-- the paper's number for each answer: 3 form, 6 a number out of range
+abbrev pub refusalOf : ItemsRead → ℕ
+refusalOf (Cells n) = 0
+refusalOf WrongForm = 3
+refusalOf OutOfRange = 6

@@ -1,23 +1,18 @@
--- One turn of the reader's loop: the item at a place, and what follows it.
+-- One turn of the reader's loop: the item at a place, and the verdict on what is left.
 use Prim.Native.Nat.{ℕ, _+_}
-use Prim.Native.Char.{code}
 use mathlib.Core.Bool.{Bool, cond, _&&_}
 use mathlib.Core.List.{List}
-use lib.Dec.{eqb}
-use lib.ListN.{length, drop}
+use lib.ListN.{length}
 use Rattle.numerals.specs.declared.Cursor.{Cursor}
 use Rattle.tokens.specs.Reading.{tokenAt}
 use Rattle.tokens.specs.declared.Kind.{Kind}
-use Rattle.tokens.specs.declared.Kind.the-variants as K
 use Rattle.tokens.specs.declared.Token.{Token}
 use Rattle.values.specs.Reading.{valueAt}
 use Rattle.values.specs.declared.Value.the-variants.{Number, Label}
 use Rattle.values.specs.declared.ValueRead.{ValueRead}
 use Rattle.values.specs.declared.ValueRead.the-variants as R
-use Rattle.items.specs.Items.{Item, number, string, itemCells, itemInRange, cellsOf, allInRange}
-use Rattle.items.specs.Reading.{characters, Result, reads, wrong}
-use Rattle.items.specs.declared.Follows.{Follows}
-use Rattle.items.specs.declared.Follows.the-variants.{Comma, Over, Neither}
+use Rattle.items.specs.Items.{Item, number, itemCells, itemInRange, cellsOf, allInRange}
+use Rattle.items.specs.Reading.{onText, stringOf, Result, reads, wrong}
 use Rattle.items.specs.declared.ItemRead.{ItemRead}
 use Rattle.items.specs.declared.ItemRead.the-variants.{Found, Absent}
 use Rattle.items.specs.declared.ItemsRead.{ItemsRead}
@@ -29,12 +24,7 @@ pub data Standing : Type 0 where
   none : Standing
 
 abbrev pub stringBy : List ℕ → Kind → Token → Standing
-stringBy s K.End t = none
-stringBy s K.Stray t = none
-stringBy s K.Word t = none
-stringBy s (K.Number v k) t = none
-stringBy s K.Text t = stands (string (characters (drop (t .start + 1) s))) (t .next)
-stringBy s (K.Mark b) t = none
+stringBy s k t = onText none (stands (stringOf s t) (t .next)) k
 
 abbrev pub stringAt : List ℕ → Token → Standing
 stringAt s t = stringBy s (t .kind) t
@@ -52,18 +42,6 @@ itemAt s at = itemBy s at (valueAt s at)
 abbrev pub measured : Standing → ItemRead
 measured (stands i c) = Found (length (itemCells i)) (itemInRange i) c
 measured none = Absent
-
--- "by commas"
-abbrev pub followsBy : Kind → Cursor → Follows
-followsBy K.End c = Over
-followsBy K.Stray c = Neither
-followsBy K.Word c = Neither
-followsBy (K.Number v k) c = Neither
-followsBy K.Text c = Neither
-followsBy (K.Mark b) c = cond (eqb b (code ",")) (Comma c) Neither
-
-abbrev pub followsOf : Token → Follows
-followsOf t = followsBy (t .kind) (t .next)
 
 -- the verdict on what is left, with the cells and the ranges of what is read
 abbrev pub verdict : ℕ → Bool → Result → ItemsRead

@@ -3,8 +3,9 @@
 use numerals::Cursor;
 
 pub mod reading; // the items that follow DATA
-mod single; // one item, and what follows it
+mod single; // one item
 mod strings; // how many characters a string has
+pub mod writing; // the cells of the items that follow DATA
 
 // What the tokens after DATA are: so many cells, or refusal 3 or 6.
 pub enum ItemsRead {
@@ -17,11 +18,4 @@ pub enum ItemsRead {
 enum ItemRead {
     Found(usize, bool, Cursor),
     Absent,
-}
-
-// What follows an item: a comma, with the cursor after it, the end, or neither.
-enum Follows {
-    Comma(Cursor),
-    Over,
-    Neither,
 }

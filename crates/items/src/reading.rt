@@ -4,12 +4,12 @@ ghost use mathlib.Core.Path.{_≡_};
 ghost use Rattle.tokens.specs.Reading.{tokensFrom};
 ghost use Rattle.items.specs.Reading.{itemsRead};
 ghost use Rattle.items.specs.declared.ItemsRead.the-variants.{Cells, OutOfRange};
-use super::Follows;
 use super::ItemRead;
 use super::ItemsRead;
-use super::single::follows;
 use super::single::item;
 use numerals::Cursor;
+use tokens::Follows;
+use tokens::commas::follows;
 
 fn both(a: bool, b: bool) -> bool
     ensures { λ r. ⌜ r ≡ (a && b) ⌝ }

@@ -1,9 +1,8 @@
-// One item, and what follows it (specs/Turns.antt).
+// One item (specs/Turns.antt).
 ghost use mathlib.Core.Path.{_≡_};
 ghost use Rattle.numerals.specs.Numbers.{valueOf, inRange};
 ghost use Rattle.tokens.specs.Reading.{tokenAt};
-ghost use Rattle.items.specs.Turns.{stringAt, itemAt, measured, followsOf};
-use super::Follows;
+ghost use Rattle.items.specs.Turns.{stringAt, itemAt, measured};
 use super::ItemRead;
 use super::strings::character_count;
 use numerals::Cursor;
@@ -55,26 +54,5 @@ pub(crate) fn item(s: &[u8], from: Cursor) -> ItemRead
             Value::Label(_) => ItemRead::Absent,
         },
         ValueRead::Absent => string_item(s, Cursor { at: at }),
-    }
-}
-
-pub(crate) fn follows(s: &[u8], from: Cursor) -> Follows
-    ensures { λ r. ⌜ r ≡ followsOf (tokenAt (now (s .entry)) (from .at)) ⌝ }
-{
-    let t = next_token(s, from);
-    let kind = t.kind;
-    let next = t.next;
-    match kind {
-        Kind::End => Follows::Over,
-        Kind::Stray => Follows::Neither,
-        Kind::Word => Follows::Neither,
-        Kind::Number(_, _) => Follows::Neither,
-        Kind::Text => Follows::Neither,
-        Kind::Mark(b) => {
-            if b == b',' {
-                return Follows::Comma(next);
-            }
-            Follows::Neither
-        }
     }
 }

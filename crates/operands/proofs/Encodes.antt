@@ -1,16 +1,16 @@
--- What is accepted can be encoded, whatever values its labels get.
-use Prim.Native.Nat.{ℕ}
+-- What is accepted can be encoded, whatever values its labels get, in a word for each operand after the first word.
+use Prim.Native.Nat.{ℕ, suc}
 use mathlib.Core.Bool.{Bool, true, cond}
 use mathlib.Core.List.{List}
 use mathlib.Core.Path.{_≡_, refl, sym, ap, _∙_}
 use lib.Dec.{T, ltb→lt}
+use lib.ListN.{length}
 use borrow.Author.Tests.{lt-ltb}
 use Rattle.numerals.specs.declared.Kept.the-variants as N
-use Rattle.isa.specs.Opcodes.{table}
+use Rattle.isa.specs.Opcodes.{table, countOf}
 use Rattle.isa.specs.Operands.{allows, registerThere}
-use Rattle.isa.specs.Encoding.{allowed, encodeOf, refusalOf}
+use Rattle.isa.specs.Encoding.{wordsOf, allowed, encodeOf, refusalOf}
 use Rattle.isa.specs.Registers.{isRegister}
-use Rattle.isa.specs.declared.Instruction.{Instruction}
 use Rattle.isa.specs.declared.Kinds.{Kinds}
 use Rattle.isa.specs.declared.Opcode.{Opcode}
 use Rattle.isa.specs.declared.Operand.{Operand}
@@ -22,52 +22,18 @@ use Rattle.values.specs.declared.Value.the-variants.{Number, Label}
 use Rattle.operands.specs.Operands as G
 use Rattle.operands.specs.Operands.{Index, by-IX, by-IY, by-SP, OperandText, Operands, one, more, OperandField, none, some}
 use Rattle.operands.specs.Checks.{operandWith, operandAt, wordOf, labelOf, labelIn, given}
+use Rattle.operands.specs.Settling.{reworded, settledBy, settledOperand, settledInstruction}
 use Rattle.operands.specs.declared.Given.{Given}
-use Rattle.operands.specs.declared.LabelIn.{LabelIn}
-use Rattle.operands.specs.declared.LabelIn.the-variants as L
 use Rattle.operands.specs.declared.Written.{Written}
 use Rattle.operands.specs.declared.Written.the-variants.{Absent, Immediate, Register, Memory, Indirect, IndexedX, IndexedY, IndexedSp, Relative}
 use Rattle.operands.proofs.Exactly.{Accepted, fits-exactly}
-
--- an operand with another word
-abbrev pub reworded : Operand → ℕ → Operand
-reworded O.Absent w = O.Absent
-reworded (O.Immediate v) w = O.Immediate w
-reworded (O.Register r) w = O.Register w
-reworded (O.Memory a) w = O.Memory w
-reworded (O.Indirect r) w = O.Indirect w
-reworded (O.IndexedX d) w = O.IndexedX w
-reworded (O.IndexedY d) w = O.IndexedY w
-reworded (O.IndexedSp d) w = O.IndexedSp w
-reworded (O.Relative d) w = O.Relative w
-
--- "A label's value takes the place of a word 0 when labels are settled"
-abbrev pub settledBy : LabelIn → Operand → ℕ → Operand
-settledBy L.Absent o w = o
-settledBy (L.Named name) o w = reworded o w
-
-abbrev pub settled : Given → ℕ → Operand
-settled g w = settledBy (g .label) (g .operand) w
+use Rattle.operands.proofs.Settled.{same-kind, reworded-as, kind-stays}
 
 -- ---- kinds do not depend on words
 
-value-kept : (v : Value) (f : ℕ → Operand) (k : Kinds) (x w : ℕ) → ((y : ℕ) → allows k (f y) ≡ allows k (f 0))
-    → ((y z : ℕ) → reworded (f y) z ≡ f z)
-    → allows k (settledBy (labelOf v) (f x) w) ≡ allows k (f 0)
-value-kept (Number n) f k x w same re = same x
-value-kept (Label name) f k x w same re = ap (allows k) (re x w) ∙ same w
-
-kind-kept : (k : Kinds) (o : Written) (x w : ℕ) → allows k (settled (given o x) w) ≡ allows k (operandWith o 0)
-unfolding allows labelIn
-kind-kept k Absent x w = refl
-kind-kept k (Immediate v) x w = value-kept v O.Immediate k x w (λ y. refl) (λ y z. refl)
-kind-kept k (Register r) x w = refl
-kind-kept k (Memory v) x w = value-kept v O.Memory k x w (λ y. refl) (λ y z. refl)
-kind-kept k (Indirect r) x w = refl
-kind-kept k (IndexedX v) x w = value-kept v O.IndexedX k x w (λ y. refl) (λ y z. refl)
-kind-kept k (IndexedY v) x w = value-kept v O.IndexedY k x w (λ y. refl) (λ y z. refl)
-kind-kept k (IndexedSp v) x w = value-kept v O.IndexedSp k x w (λ y. refl) (λ y z. refl)
-kind-kept k (Relative v) x w = value-kept v O.Relative k x w (λ y. refl) (λ y z. refl)
+kind-kept : (k : Kinds) (o : Written) (x w : ℕ) → allows k (settledOperand (given o x) w) ≡ allows k (operandWith o 0)
+kind-kept k o x w =
+    kind-stays k (given o x) w ∙ sym (same-kind k (operandWith o x) 0) ∙ ap (allows k) (reworded-as o x 0)
 
 -- ---- registers that are named are there
 
@@ -117,7 +83,7 @@ there-value (Label name) f x w there re = ap registerThere (re x w) ∙ there w
 named-there : {r x : ℕ} → T (isRegister r) → _≡_ (N.Cell r) (N.Cell x) → isRegister x ≡ true
 named-there {r} {x} k e = let q : r ≡ x = cc in ap isRegister (sym q) ∙ lt-ltb r 16 (ltb→lt r 16 k)
 
-there-settled : (o : Written) (x w : ℕ) → Known o → wordOf o ≡ N.Cell x → registerThere (settled (given o x) w) ≡ true
+there-settled : (o : Written) (x w : ℕ) → Known o → wordOf o ≡ N.Cell x → registerThere (settledOperand (given o x) w) ≡ true
 unfolding wordOf labelIn
 there-settled Absent x w k e = refl
 there-settled (Immediate v) x w k e = there-value v O.Immediate x w (λ y. refl) (λ y z. refl)
@@ -131,9 +97,6 @@ there-settled (Relative v) x w k e = there-value v O.Relative x w (λ y. refl) (
 
 -- ---- an accepted instruction, with any values for its labels
 
-abbrev pub settledInstruction : Opcode → Given → Given → ℕ → ℕ → Instruction
-settledInstruction op a b v w = record { op = op; first = settled a v; second = settled b w }
-
 module _ (line : List ℕ) (ts : List Token) (op : Opcode) where
   allowed-then : {a b : Given} → Accepted line ts op a b → (v w : ℕ) → allowed (settledInstruction op a b v w) ≡ true
   unfolding allowed
@@ -141,18 +104,21 @@ module _ (line : List ℕ) (ts : List Token) (op : Opcode) where
       let o = operandAt (h .operands) 0 in
       let p = operandAt (h .operands) 1 in
       let f = fits-exactly op (h .operands) .0 (h .fitting) in
-      let k₁ : allows (table op .first) (settled a v) ≡ true =
-      ap (λ (g : Given). allows (table op .first) (settled g v)) (h .first-given) ∙ kind-kept (table op .first) o (h .first-word) v ∙ f .first-kind in
-      let k₂ : allows (table op .second) (settled b w) ≡ true =
-      ap (λ (g : Given). allows (table op .second) (settled g w)) (h .second-given) ∙ kind-kept (table op .second) p (h .second-word) w ∙ f .second-kind in
-      let r₁ : registerThere (settled a v) ≡ true =
-      ap (λ (g : Given). registerThere (settled g v)) (h .first-given)
+      let k₁ : allows (table op .first) (settledOperand a v) ≡ true =
+      ap (λ (g : Given). allows (table op .first) (settledOperand g v)) (h .first-given) ∙ kind-kept (table op .first) o (h .first-word) v ∙ f .first-kind in
+      let k₂ : allows (table op .second) (settledOperand b w) ≡ true =
+      ap (λ (g : Given). allows (table op .second) (settledOperand g w)) (h .second-given) ∙ kind-kept (table op .second) p (h .second-word) w ∙ f .second-kind in
+      let r₁ : registerThere (settledOperand a v) ≡ true =
+      ap (λ (g : Given). registerThere (settledOperand g v)) (h .first-given)
       ∙ there-settled o (h .first-word) v (first-known line (h .reading)) (h .first-in-range) in
-      let r₂ : registerThere (settled b w) ≡ true =
-      ap (λ (g : Given). registerThere (settled g w)) (h .second-given)
+      let r₂ : registerThere (settledOperand b w) ≡ true =
+      ap (λ (g : Given). registerThere (settledOperand g w)) (h .second-given)
       ∙ there-settled p (h .second-word) w (second-known line (h .reading)) (h .second-in-range) in
       rw (k₁, k₂, r₁, r₂)
 
   pub encodes : {a b : Given} → Accepted line ts op a b → (v w : ℕ) → refusalOf (encodeOf (settledInstruction op a b v w)) ≡ 0
   encodes {a} {b} h v w =
       isa.encoder (settledInstruction op a b v w) ∙ ap (λ (t : Bool). cond t 0 5) (allowed-then h v w)
+
+  pub words-count : {a b : Given} → Accepted line ts op a b → (v w : ℕ) → length (wordsOf (settledInstruction op a b v w)) ≡ suc (countOf op)
+  words-count {a} {b} h v w = isa.words-count (settledInstruction op a b v w) (allowed-then h v w)

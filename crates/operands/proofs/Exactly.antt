@@ -14,14 +14,15 @@ use Rattle.isa.specs.Opcodes.{table, countOf}
 use Rattle.isa.specs.Operands.{allows}
 use Rattle.isa.specs.declared.Opcode.{Opcode}
 use Rattle.tokens.specs.declared.Token.{Token}
+use Rattle.values.proofs.Walks.{never}
 use Rattle.operands.specs.Operands.{OperandField}
 use Rattle.operands.specs.Walk.{Result, reads, wrong, operandsOf}
-use Rattle.operands.specs.Checks.{operandWith, operandAt, fits, wordOf, given, ranged, judged, judgedForm, instructionRead}
+use Rattle.operands.specs.Checks.{operandWith, operandAt, fits, wordOf, given, ranged, judged, judgedForm, instructionRead, refusalOf}
 use Rattle.operands.specs.declared.Given.{Given}
 use Rattle.operands.specs.declared.InstructionRead.{InstructionRead}
 use Rattle.operands.specs.declared.InstructionRead.the-variants.{Read, WrongForm, WrongOperands, OutOfRange}
 use Rattle.operands.specs.declared.Written.{Written}
-use Rattle.operands.proofs.Readings.{never, field-sound, field-complete}
+use Rattle.operands.proofs.Readings.{field-sound, field-complete}
 
 -- ---- number and kinds
 
@@ -154,6 +155,22 @@ module _ (line : List ℕ) (ts : List Token) where
         go : Found → Tells (instructionRead line op ts)
         go (some-are os f r) = rw (with-reading f) (judged-tells os r)
         go (none-are f n) = rw (with-none f) n
+
+    -- the same by the paper's number for it
+    abbrev TellsBy : ℕ → Type 0
+    TellsBy n =
+        cond (eqb n 3) ((os : List Written) → OperandField line ts os → ⊥)
+        (cond (eqb n 5) Unfit
+        (cond (eqb n 6) Unranged ((a : Given) × (b : Given) × Accepted a b)))
+
+    pub number-tells : {n : ℕ} → refusalOf (instructionRead line op ts) ≡ n → TellsBy n
+    number-tells e = subst TellsBy e (go (instructionRead line op ts) (tells refl))
+      where
+        go : (r : InstructionRead) → Tells r → TellsBy (refusalOf r)
+        go (Read a b) h = (a, b, h)
+        go WrongForm h = h
+        go WrongOperands h = h
+        go OutOfRange h = h
 
     -- ---- and back
 

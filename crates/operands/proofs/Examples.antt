@@ -12,17 +12,18 @@ use Rattle.isa.specs.Operands.{allows}
 use Rattle.isa.specs.declared.Opcode.{Opcode}
 use Rattle.isa.specs.declared.Opcode.the-variants.{NOP, MOVE, PUSH, INC, BR, BZ, INSTR}
 use Rattle.isa.specs.declared.Operand.{Operand}
-use Rattle.isa.specs.declared.Operand.the-variants.{Absent, Immediate, Memory, Indirect, IndexedX, IndexedSp, Relative}
+use Rattle.isa.specs.declared.Operand.the-variants.{Absent, Immediate, Register, Memory, Indirect, IndexedX, IndexedSp, Relative}
 use Rattle.names.specs.Names.{capital, isNamed, registers, placeIn, registerCode}
 use Rattle.tokens.specs.Bytes.{isBlank, isMark}
 use Rattle.tokens.specs.Reading.{blanks, closing, tokenHere, tokenAt, tokensWithin, tokensFrom}
 use Rattle.values.specs.Ranges.{displacementOf}
+use Rattle.values.specs.declared.LabelIn.the-variants as L
 use Rattle.operands.specs.Walk.{starts, indexStep, walk, operandsOf}
 use Rattle.operands.specs.Checks.{fits, wordOf, labelIn, judged, instructionRead}
+use Rattle.operands.specs.Settling.{settledInstruction}
 use Rattle.operands.specs.declared.Given.{Given}
 use Rattle.operands.specs.declared.InstructionRead.{InstructionRead}
 use Rattle.operands.specs.declared.InstructionRead.the-variants.{Read, WrongForm, WrongOperands, OutOfRange}
-use Rattle.operands.specs.declared.LabelIn.the-variants as L
 
 -- what a line of operands alone is, after an opcode
 abbrev pub Says : Opcode → String → InstructionRead → Type 0
@@ -34,6 +35,16 @@ plain o = record { operand = o; label = L.Absent }
 -- an operand with the label from a place to another
 abbrev pub labelled : Operand → ℕ → ℕ → Given
 labelled o start end = record { operand = o; label = L.Named (record { start = start; end = end }) }
+
+-- an instruction that is read from a line of operands alone, with two words for its labels
+abbrev pub settledIn : Opcode → InstructionRead → ℕ → ℕ → List Operand
+settledIn op (Read a b) v w = settledInstruction op a b v w .first ∷ settledInstruction op a b v w .second ∷ []
+settledIn op WrongForm v w = []
+settledIn op WrongOperands v w = []
+settledIn op OutOfRange v w = []
+
+abbrev pub Settles : Opcode → String → ℕ → ℕ → Operand → Operand → Type 0
+Settles op text v w o p = settledIn op (instructionRead (bytes text) op (tokensFrom (bytes text) 0)) v w ≡ o ∷ p ∷ []
 
 -- each of these lines is of wrong form
 abbrev pub WrongForms : List String → Type 0
@@ -69,6 +80,12 @@ pub record Examples : Type 0 where
   pub indexed-displacement : Says PUSH "#40000[.IX]" OutOfRange
   pub second-out-of-range : Says MOVE "#1,/65536" OutOfRange
   pub immediate : Says PUSH "#40000" (Read (plain (Immediate 40000)) (plain Absent))
+  -- a label's value takes its place, in order; no other word changes
+  pub label-settled : Settles BR "/x" 7 8 (Memory 7) Absent
+  pub target-settled : Settles BR "$x" 65531 8 (Relative 65531) Absent
+  pub second-settled : Settles MOVE ".R1,#x[.IX]" 7 8 (Register 1) (IndexedX 8)
+  pub both-settled : Settles MOVE "#x,/x" 7 8 (Immediate 7) (Memory 8)
+  pub number-stays : Settles MOVE "#5,.A" 7 8 (Immediate 5) (Register 10)
 
 pub examples : Examples
 unfolding rank worthAfter keptOf run digitsAt radixAt unsignedAt table countOf allows capital isNamed registers placeIn registerCode isBlank isMark blanks closing tokenHere tokenAt tokensWithin tokensFrom displacementOf starts indexStep walk operandsOf fits wordOf labelIn judged instructionRead
@@ -95,4 +112,9 @@ examples =
       indexed-displacement = refl;
       second-out-of-range = refl;
       immediate = refl;
+      label-settled = refl;
+      target-settled = refl;
+      second-settled = refl;
+      both-settled = refl;
+      number-stays = refl;
     }

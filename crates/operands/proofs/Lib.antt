@@ -5,6 +5,8 @@ pub mod Outcomes
 pub mod Lists
 pub mod Judged
 pub mod Exactly
+pub mod Settled
 pub mod Encodes
+pub mod Within
 pub mod Examples
 pub mod Top

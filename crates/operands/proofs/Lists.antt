@@ -2,69 +2,57 @@
 use Prim.Native.Nat.{ℕ, _≤_, _<_}
 use Prim.Native.Char.{code}
 use mathlib.Core.Bool.{Bool, true, false, cond}
-use mathlib.Core.List.{List, [], _∷_}
+use mathlib.Core.List.{List, []}
 use mathlib.Core.Path.{_≡_, refl, sym, ap, subst, _∙_}
 use native.Mathlib.Omega.{arith}
 use lib.Dec.{eqb}
 use lib.ListN.{length}
-use borrow.Author.Tests.{eqb-true}
 use Rattle.numerals.specs.declared.Cursor.{Cursor}
 use Rattle.tokens.specs.Reading.{tokenAt, tokensFrom}
+use Rattle.tokens.specs.Commas.{followsBy, followsOf}
+use Rattle.tokens.specs.declared.Follows.{Follows}
+use Rattle.tokens.specs.declared.Follows.the-variants.{Comma, Over, Neither}
 use Rattle.tokens.specs.declared.Kind.{Kind}
 use Rattle.tokens.specs.declared.Kind.the-variants as K
 use Rattle.tokens.specs.declared.Token.{Token}
-use Rattle.values.proofs.Rows.{row-of}
-use Rattle.operands.specs.Walk.{operand, done, emit, Result, reads, wrong, only, cons, walk, operandsOf}
-use Rattle.operands.specs.Peeks.{markBy, markOf, betweenBy, betweenOf, Goes, keep, keepAll, noneListed, listed}
-use Rattle.operands.specs.declared.Between.{Between}
-use Rattle.operands.specs.declared.Between.the-variants as B
+use Rattle.tokens.proofs.Parted.{comma-moves}
+use Rattle.tokens.proofs.Heads.{row-of}
+use Rattle.values.proofs.Walks as Walks
+use Rattle.values.proofs.Walks.{finished}
+use Rattle.operands.specs.Walk.{operand, done, Result, reads, wrong, cons, finish, step, walk, operandsOf}
+use Rattle.operands.specs.Peeks.{Goes, keep, keepAll, noneListed, listed}
 use Rattle.operands.specs.declared.ListRead.the-variants as L
 use Rattle.operands.specs.declared.FirstTwo.{FirstTwo}
-use Rattle.operands.specs.declared.MarkRead.the-variants as M
 use Rattle.operands.specs.declared.OperandRead.the-variants as O
 use Rattle.operands.specs.declared.Written.{Written}
-use Rattle.operands.proofs.Turns.{mark-row, on-mark}
 
 listed-cons : (all : FirstTwo) (o : Written) (r : Result) → listed all (cons o r) ≡ listed (keep all o) r
 unfolding keepAll
 listed-cons all o (reads os) = refl
 listed-cons all o wrong = refl
 
+-- an operand and what follows it
+abbrev followsOn : List ℕ → Written → Follows → Result
+followsOn s o x = Walks.followsOn operand (step s) finish s o x
+
 module _ (s : List ℕ) (at : ℕ) where
-  -- ---- what stands between operands
+  -- ---- what follows an operand
 
-  abbrev After : Written → Between → Type 0
-  After o B.Over = walk s (done o) (tokensFrom s at) ≡ reads (o ∷ [])
-  After o B.Neither = walk s (done o) (tokensFrom s at) ≡ wrong
-  After o (B.Comma c) = markOf (tokenAt s at) ≡ M.Is (code ",") c
-
-  pub after : (o : Written) → After o (betweenOf (tokenAt s at))
+  pub done-turn : (o : Written) → walk s (done o) (tokensFrom s at) ≡ followsOn s o (followsOf (tokenAt s at))
   unfolding walk
-  after o = go (tokenAt s at .kind) refl
-    where
-      go : (k : Kind) → tokenAt s at .kind ≡ k → After o (betweenBy k (tokenAt s at .next))
-      go K.End q = rw (row-of s at q)
-      go K.Stray q = rw (row-of s at q, q)
-      go K.Word q = rw (row-of s at q, q)
-      go (K.Number v k) q = rw (row-of s at q, q)
-      go K.Text q = rw (row-of s at q, q)
-      go (K.Mark b) q = mark (eqb b (code ",")) refl
-        where
-          mark : (y : Bool) → eqb b (code ",") ≡ y → After o (cond y (B.Comma (tokenAt s at .next)) B.Neither)
-          mark true x = ap (λ (k : Kind). markBy k (tokenAt s at .next)) q ∙ ap (λ (i : ℕ). M.Is i (tokenAt s at .next)) (eqb-true b (code ",") x)
-          mark false x = rw (row-of s at q, q, x)
+  done-turn o = finished operand (step s) finish s at (done o) o refl refl
 
   -- no operands, or some
-  abbrev Row : Between → Type 0
-  Row B.Over = tokensFrom s at ≡ []
-  Row B.Neither = operandsOf s (tokensFrom s at) ≡ walk s operand (tokensFrom s at)
-  Row (B.Comma c) = operandsOf s (tokensFrom s at) ≡ walk s operand (tokensFrom s at)
+  abbrev Row : Follows → Type 0
+  Row Over = tokensFrom s at ≡ []
+  Row Neither = operandsOf s (tokensFrom s at) ≡ walk s operand (tokensFrom s at)
+  Row (Comma c) = operandsOf s (tokensFrom s at) ≡ walk s operand (tokensFrom s at)
 
-  row : Row (betweenOf (tokenAt s at))
+  row : Row (followsOf (tokenAt s at))
   unfolding operandsOf
   row = go (tokenAt s at .kind) refl
     where
-      go : (k : Kind) → tokenAt s at .kind ≡ k → Row (betweenBy k (tokenAt s at .next))
+      go : (k : Kind) → tokenAt s at .kind ≡ k → Row (followsBy k (tokenAt s at .next))
       go K.End q = row-of s at q
       go K.Stray q = rw (row-of s at q)
       go K.Word q = rw (row-of s at q)
@@ -72,18 +60,18 @@ module _ (s : List ℕ) (at : ℕ) where
       go K.Text q = rw (row-of s at q)
       go (K.Mark b) q = mark (eqb b (code ","))
         where
-          mark : (y : Bool) → Row (cond y (B.Comma (tokenAt s at .next)) B.Neither)
+          mark : (y : Bool) → Row (cond y (Comma (tokenAt s at .next)) Neither)
           mark true = rw (row-of s at q)
           mark false = rw (row-of s at q)
 
-  pub none-at : betweenOf (tokenAt s at) ≡ B.Over → listed noneListed (operandsOf s (tokensFrom s at)) ≡ L.Read noneListed
+  pub none-at : followsOf (tokenAt s at) ≡ Over → listed noneListed (operandsOf s (tokensFrom s at)) ≡ L.Read noneListed
   unfolding operandsOf keepAll
   none-at e = let h : tokensFrom s at ≡ [] = subst Row e row in ap (λ (l : List Token). listed noneListed (operandsOf s l)) h
 
-  pub neither-at : betweenOf (tokenAt s at) ≡ B.Neither → operandsOf s (tokensFrom s at) ≡ walk s operand (tokensFrom s at)
+  pub neither-at : followsOf (tokenAt s at) ≡ Neither → operandsOf s (tokensFrom s at) ≡ walk s operand (tokensFrom s at)
   neither-at e = subst Row e row
 
-  pub comma-at : {c : Cursor} → betweenOf (tokenAt s at) ≡ B.Comma c → operandsOf s (tokensFrom s at) ≡ walk s operand (tokensFrom s at)
+  pub comma-at : {c : Cursor} → followsOf (tokenAt s at) ≡ Comma c → operandsOf s (tokensFrom s at) ≡ walk s operand (tokensFrom s at)
   comma-at e = subst Row e row
 
 -- ---- one turn
@@ -93,22 +81,21 @@ module _ (s : List ℕ) (all : FirstTwo) (at : ℕ) where
   some-wrong g = ap (λ (r : Result). listed all r) (g .same)
 
   module _ {o : Written} {c : Cursor} (g : Goes s operand at (O.Read o c)) where
-    pub some-over : betweenOf (tokenAt s (c .at)) ≡ B.Over → listed all (walk s operand (tokensFrom s at)) ≡ L.Read (keep all o)
+    turned : {x : Follows} → followsOf (tokenAt s (c .at)) ≡ x → listed all (walk s operand (tokensFrom s at)) ≡ listed all (followsOn s o x)
+    turned e = ap (λ (r : Result). listed all r) (g .same ∙ done-turn s (c .at) o ∙ ap (followsOn s o) e)
+
+    pub some-over : followsOf (tokenAt s (c .at)) ≡ Over → listed all (walk s operand (tokensFrom s at)) ≡ L.Read (keep all o)
     unfolding keepAll
-    some-over e = ap (λ (r : Result). listed all r) (g .same ∙ subst (After s (c .at) o) e (after s (c .at) o))
+    some-over e = turned e
 
-    pub some-neither : betweenOf (tokenAt s (c .at)) ≡ B.Neither → listed all (walk s operand (tokensFrom s at)) ≡ L.Wrong
-    some-neither e = ap (λ (r : Result). listed all r) (g .same ∙ subst (After s (c .at) o) e (after s (c .at) o))
+    pub some-neither : followsOf (tokenAt s (c .at)) ≡ Neither → listed all (walk s operand (tokensFrom s at)) ≡ L.Wrong
+    some-neither e = turned e
 
-    pub some-comma : {m : Cursor} {more : FirstTwo} → more ≡ keep all o → betweenOf (tokenAt s (c .at)) ≡ B.Comma m
+    pub some-comma : {m : Cursor} {more : FirstTwo} → more ≡ keep all o → followsOf (tokenAt s (c .at)) ≡ Comma m
         → (listed all (walk s operand (tokensFrom s at)) ≡ listed more (walk s operand (tokensFrom s (m .at)))) × (at < m .at) × (m .at ≤ length s)
+    unfolding walk
     some-comma {m} {more} q e =
-        let x : markOf (tokenAt s (c .at)) ≡ M.Is (code ",") m = subst (After s (c .at) o) e (after s (c .at) o) in
-        let h = mark-row s (c .at) (code ",") m x in
-        let l : at ≤ c .at = g .on in (
-          ap (λ (r : Result). listed all r) (g .same ∙ on-mark s (c .at) (done o) (only (code ",") (emit o)) (λ u. refl) (code ",") m x)
-              ∙ listed-cons all o (walk s operand (tokensFrom s (m .at)))
-              ∙ ap (λ (y : FirstTwo). listed y (walk s operand (tokensFrom s (m .at)))) (sym q),
-          omega (arith, h .2),
-          h .3,
-        )
+        let h = comma-moves s (c .at) e in
+        let r = walk s operand (tokensFrom s (m .at)) in
+        let l : at ≤ c .at = g .on in
+        (turned e ∙ listed-cons all o r ∙ ap (λ (y : FirstTwo). listed y r) (sym q), omega (arith, h .0), h .1)

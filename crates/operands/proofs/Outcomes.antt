@@ -9,7 +9,9 @@ use lib.Dec.{eqb}
 use borrow.Author.Tests.{eq-eqb, ne-eqb, ltb-false}
 use Rattle.numerals.specs.declared.Cursor.{Cursor}
 use Rattle.isa.specs.Registers.{IX, IY, SP, isRegister}
+use Rattle.tokens.specs.Marks.{onMark, only}
 use Rattle.tokens.specs.Reading.{tokenAt, tokensFrom}
+use Rattle.tokens.specs.Commas.{atComma}
 use Rattle.tokens.specs.declared.Kind.{Kind}
 use Rattle.tokens.specs.declared.Kind.the-variants as K
 use Rattle.tokens.specs.declared.Token.{Token}
@@ -17,9 +19,9 @@ use Rattle.values.specs.Reading.{valueAt}
 use Rattle.values.specs.declared.Value.{Value}
 use Rattle.values.specs.declared.ValueRead.{ValueRead}
 use Rattle.values.specs.declared.ValueRead.the-variants as V′
-use Rattle.values.proofs.Rows.{row-of}
+use Rattle.tokens.proofs.Heads.{row-of}
 use Rattle.operands.specs.Operands.{Index}
-use Rattle.operands.specs.Walk.{Shape, hash, slash, dollar, State, operand, value, afterHash, indexDot, indexName, registerName, indirectName, closing, done, Step, to, emit, halt, wrong, onMark, onWord, only, starts, indexStep, finish, stepped, codeAt, step, walk}
+use Rattle.operands.specs.Walk.{Shape, hash, slash, dollar, State, operand, value, afterHash, indexDot, indexName, registerName, indirectName, closing, done, Step, to, emit, halt, wrong, onWord, starts, indexStep, finish, stepped, codeAt, step, walk}
 use Rattle.operands.specs.Peeks.{markBy, markOf, registerOf, Onward, Goes}
 use Rattle.operands.specs.declared.MarkRead.the-variants as M
 use Rattle.operands.specs.declared.OperandRead.{OperandRead}
@@ -61,7 +63,7 @@ module _ (s : List ℕ) (at : ℕ) where
 
   -- ---- a state that a mark leads on from
 
-  module _ (st : State) (f : ℕ → Step) (p : (u : Token) → step s st u ≡ onMark f (u .kind)) where
+  module _ (st : State) (f : ℕ → Step) (p : (u : Token) → step s st u ≡ onMark halt f (u .kind)) where
     pub mark-is : {b : ℕ} {c : Cursor} {r : OperandRead} (y : State) → markOf (tokenAt s at) ≡ M.Is b c → f b ≡ to y → Goes s y (c .at) r → Goes s st at r
     mark-is {b} {c} {r} y e w g =
         record {
@@ -77,15 +79,15 @@ module _ (s : List ℕ) (at : ℕ) where
     mark-not z e = record { same = off-mark s at st f p z e; on = tt }
 
   -- a state that one mark alone leads on from
-  module _ (st : State) (x : ℕ) (y : State) (p : (u : Token) → step s st u ≡ onMark (only x (to y)) (u .kind)) where
+  module _ (st : State) (x : ℕ) (y : State) (p : (u : Token) → step s st u ≡ onMark halt (only halt x (to y)) (u .kind)) where
     pub expect-is : {b : ℕ} {c : Cursor} {r : OperandRead} → markOf (tokenAt s at) ≡ M.Is b c → b ≡ x → Goes s y (c .at) r → Goes s st at r
-    expect-is {b} e q g = mark-is st (only x (to y)) p y e (rw (eq-eqb b x q)) g
+    expect-is {b} e q g = mark-is st (only halt x (to y)) p y e (rw (eq-eqb b x q)) g
 
     pub expect-no : {b : ℕ} {c : Cursor} → markOf (tokenAt s at) ≡ M.Is b c → (b ≡ x → ⊥) → Goes s st at O.Wrong
-    expect-no {b} e q = mark-no st (only x (to y)) p e (rw (ne-eqb b x q))
+    expect-no {b} e q = mark-no st (only halt x (to y)) p e (rw (ne-eqb b x q))
 
     pub expect-not : finish st ≡ wrong → markOf (tokenAt s at) ≡ M.Absent → Goes s st at O.Wrong
-    expect-not z e = mark-not st (only x (to y)) p z e
+    expect-not z e = mark-not st (only halt x (to y)) p z e
 
   -- ---- a state that a register's name leads on from
 
@@ -155,7 +157,7 @@ module _ (s : List ℕ) (at : ℕ) where
     -- ---- after `#v`
 
     hashRest : ℕ → Step
-    hashRest b = cond (eqb b (code "[")) (to (indexDot v)) (only (code ",") (emit (Immediate v)) b)
+    hashRest b = cond (eqb b (code "[")) (to (indexDot v)) (atComma halt (emit (Immediate v)) b)
 
     pub rest-index : {b : ℕ} {c : Cursor} {r : OperandRead} → markOf (tokenAt s at) ≡ M.Is b c → b ≡ code "[" → Goes s (indexDot v) (c .at) r
         → Goes s (afterHash v) at r
@@ -166,11 +168,11 @@ module _ (s : List ℕ) (at : ℕ) where
         → Goes s (afterHash v) at (O.Read (Immediate v) (record { at = at }))
     unfolding hashRest
     rest-no {b} {c} e q =
-        let w : hashRest b ≡ only (code ",") (emit (Immediate v)) b = rw (ne-eqb b (code "[") q) in
+        let w : hashRest b ≡ atComma halt (emit (Immediate v)) b = rw (ne-eqb b (code "[") q) in
         record {
           same =
               on-mark s at (afterHash v) hashRest (λ u. refl) b c e ∙ ap (λ (z : Step). stepped z (λ y. walk s y (tokensFrom s (c .at)))) w
-              ∙ sym (on-mark s at (done (Immediate v)) (only (code ",") (emit (Immediate v))) (λ u. refl) b c e);
+              ∙ sym (on-mark s at (done (Immediate v)) (atComma halt (emit (Immediate v))) (λ u. refl) b c e);
           on = omega arith;
         }
 

@@ -8,17 +8,23 @@ use native.Mathlib.Omega.{arith}
 use lib.Dec.{eqb, T, ltb→lt}
 use borrow.Author.Tests.{eqb-true, ne-eqb, lt-ltb}
 use Rattle.numerals.specs.declared.Numeral.{Numeral}
-use Rattle.numerals.specs.declared.Radix.the-variants.{Decimal, Hexadecimal}
 use Rattle.isa.specs.Registers.{IX, IY, SP, isRegister}
+use Rattle.tokens.specs.Marks.{IsMark, onMark, only}
+use Rattle.tokens.specs.Commas.{atComma}
 use Rattle.tokens.specs.declared.Kind.{Kind}
 use Rattle.tokens.specs.declared.Kind.the-variants as K
 use Rattle.tokens.specs.declared.Token.{Token}
-use Rattle.values.specs.Values.{IsMark, numeral, nameAt, NumberText, plain, minus, ValueText, number, label}
+use Rattle.values.specs.Values.{numeral, BelowZero, nameAt, NumberText, plain, minus, ValueText, number, label}
+use Rattle.values.specs.Values as Values
+use Rattle.values.specs.Reading.{valueBy}
 use Rattle.values.specs.declared.Value.{Value}
 use Rattle.values.specs.declared.Value.the-variants.{Number, Label}
+use Rattle.values.proofs.Walks as Walks
+use Rattle.values.proofs.Walks.{never, Each}
+use Rattle.values.proofs.Begins.{value-cases, digits-cases, digits-read}
 use Rattle.operands.specs.Operands as G
 use Rattle.operands.specs.Operands.{Index, by-IX, by-IY, by-SP, RegisterName, OperandText, Operands, one, more, OperandField, none, some}
-use Rattle.operands.specs.Walk.{Shape, hash, slash, dollar, State, operand, value, digits, afterHash, indexDot, indexName, registerName, indirectDot, indirectName, closing, done, put, Step, to, emit, halt, Result, reads, wrong, onMark, onWord, only, starts, valueStep, digitsStep, indexStep, cons, finish, stepped, codeAt, step, walk, operandsOf}
+use Rattle.operands.specs.Walk.{Shape, hash, slash, dollar, State, operand, value, digits, afterHash, indexDot, indexName, registerName, indirectDot, indirectName, closing, done, put, Step, to, emit, halt, Result, reads, onWord, starts, indexStep, cons, finish, stepped, codeAt, step, walk, operandsOf}
 use Rattle.operands.specs.declared.Written.{Written}
 use Rattle.operands.specs.declared.Written.the-variants.{Immediate, Register, Memory, Indirect, IndexedX, IndexedY, IndexedSp, Relative}
 
@@ -33,9 +39,6 @@ index-steps by-IX = refl
 index-steps by-IY = refl
 index-steps by-SP = refl
 
-pub never : {os : List Written} → _≡_ {A = Result} wrong (reads os) → ⊥
-never e = let z : _≡_ {A = ℕ} 0 1 = cc in omega arith
-
 module _ (line : List ℕ) where
   -- ---- what the rule gives is read
 
@@ -43,7 +46,7 @@ module _ (line : List ℕ) where
       → walk line (value k) (us ++ rest) ≡ walk line (put k (Number n)) rest
   unfolding walk
   number-complete (plain e) k rest = rw e
-  number-complete (minus m e d) k rest = rw (m, e, d)
+  number-complete (minus m (Values.digits e d)) k rest = rw (m, e, d)
 
   value-complete : {us : List Token} {v : Value} → ValueText us v → (k : Shape) (rest : List Token)
       → walk line (value k) (us ++ rest) ≡ walk line (put k v) rest
@@ -91,11 +94,11 @@ module _ (line : List ℕ) where
   unfolding walk starts
   operand-complete (G.immediate {m} {v = v} e u) rest h = hash-complete m e u rest ∙ after-hash v rest h
   operand-complete (G.register {t = t} {r = r} e n) rest h =
-      let w : cond (isRegister r) (to (done (Register r))) halt ≡ to (done (Register r)) = rw (known-register n) in
+      let w : cond {A = Step} (isRegister r) (to (done (Register r))) halt ≡ to (done (Register r)) = rw (known-register n) in
       rw e (take registerName (done (Register r)) t rest (step-word t (λ x. cond (isRegister x) (to (done (Register x))) halt) r n ∙ w))
   operand-complete (G.memory e u) rest h = rw e (value-complete u slash rest)
   operand-complete (G.indirect {t = t} {z = z} {r = r} ea ed n ez) rest h =
-      let w : cond (isRegister r) (to (closing (Indirect r))) halt ≡ to (closing (Indirect r)) = rw (known-register n) in
+      let w : cond {A = Step} (isRegister r) (to (closing (Indirect r))) halt ≡ to (closing (Indirect r)) = rw (known-register n) in
       rw (ea, ed) (take indirectName (closing (Indirect r)) t (z ∷ rest) (step-word t (λ x. cond (isRegister x) (to (closing (Indirect x))) halt) r n ∙ w) ∙ rw ez)
   operand-complete (G.indexed {us} {v} m a d t z e u ea ed n i ez) rest h =
       ap (λ (l : List Token). walk line operand (m ∷ l)) (append-assoc us (a ∷ d ∷ t ∷ z ∷ []) rest)
@@ -126,8 +129,7 @@ module _ (line : List ℕ) where
   abbrev Passed : State → List Token → Type 0
   Passed operand cur = cur ≡ []
   Passed (value k) cur = (us : List Token) (v : Value) → ValueText us v → Put k v (cur ++ us)
-  Passed (digits k) cur =
-      (t : Token) (v : ℕ) → t .kind ≡ K.Number v Decimal → t .directly ≡ true → Put k (Number (numeral true Decimal v)) (cur ++ t ∷ [])
+  Passed (digits k) cur = (t : Token) (n : Numeral) → BelowZero t n → Put k (Number n) (cur ++ t ∷ [])
   Passed (afterHash v) cur = Put hash v cur
   Passed (indexDot v) cur =
       (d t z : Token) (r : ℕ) (o : Written) → IsMark (code ".") d → RegisterName line t r → Index r v o → IsMark (code "]") z
@@ -142,30 +144,16 @@ module _ (line : List ℕ) where
   Passed (done o) cur = OperandText line cur o
 
   abbrev Stepped : Token → List Token → Step → Type 0
-  Stepped t cur (to st) = Passed st (cur ++ t ∷ [])
-  Stepped t cur (emit o) = OperandText line cur o × IsMark (code ",") t
-  Stepped t cur halt = Unit
+  Stepped t cur x = Walks.Stepped (OperandText line) Passed t cur x
 
-  mark-case : (t : Token) (cur : List Token) (f : ℕ → Step) → ((b : ℕ) → IsMark b t → Stepped t cur (f b)) → Stepped t cur (onMark f (t .kind))
-  mark-case t cur f h = go (t .kind) refl
-    where
-      go : (k : Kind) → t .kind ≡ k → Stepped t cur (onMark f k)
-      go K.End q = tt
-      go K.Stray q = tt
-      go K.Word q = tt
-      go (K.Number n x) q = tt
-      go K.Text q = tt
-      go (K.Mark b) q = h b q
+  mark-case : (t : Token) (cur : List Token) (f : ℕ → Step) → ((b : ℕ) → IsMark b t → Stepped t cur (f b)) → Stepped t cur (onMark halt f (t .kind))
+  mark-case t cur f h = Walks.mark-case (OperandText line) Passed t cur f h
 
   is-mark : (t : Token) (b x : ℕ) → IsMark b t → eqb b x ≡ true → IsMark x t
   is-mark t b x e q = e ∙ ap K.Mark (eqb-true b x q)
 
-  only-case : (t : Token) (cur : List Token) (x b : ℕ) (f : Step) → IsMark b t → (IsMark x t → Stepped t cur f) → Stepped t cur (only x f b)
-  only-case t cur x b f e h = go (eqb b x) refl
-    where
-      go : (y : Bool) → eqb b x ≡ y → Stepped t cur (cond y f halt)
-      go true q = h (is-mark t b x e q)
-      go false q = tt
+  only-case : (t : Token) (cur : List Token) (x b : ℕ) (f : Step) → IsMark b t → (IsMark x t → Stepped t cur f) → Stepped t cur (only halt x f b)
+  only-case t cur x b f e h = Walks.only-case (OperandText line) Passed t cur x b f e h
 
   word-case : (t : Token) (cur : List Token) (f : Step) → (t .kind ≡ K.Word → Stepped t cur f) → Stepped t cur (onWord f (t .kind))
   word-case t cur f h = go (t .kind) refl
@@ -226,57 +214,56 @@ module _ (line : List ℕ) where
       go false false false false true q₁ q₂ q₃ q₄ q₅ = λ us v u. G.relative (is-mark t b (code "$") e q₅) u
       go false false false false false q₁ q₂ q₃ q₄ q₅ = tt
 
-  value-case : (k : Shape) (t : Token) (cur : List Token) → Passed (value k) cur → Stepped t cur (valueStep k (t .kind) t)
-  value-case k t cur h = go (t .kind) refl
+  value-case : (k : Shape) (t : Token) (cur : List Token) → Passed (value k) cur → Stepped t cur (step line (value k) t)
+  value-case k t cur h =
+      value-cases t (λ q. by q (one (Label (nameAt t)) (label q))) (λ v x q. by q (one (Number (numeral false x v)) (number (plain q))))
+      (λ q. by q (minus-case q)) (λ z. subst (Stepped t cur) (sym (z Step _ _ _ halt)) tt)
     where
-      go : (j : Kind) → t .kind ≡ j → Stepped t cur (valueStep k j t)
-      go K.End q = tt
-      go K.Stray q = tt
-      go K.Word q = put-passed k (Label (nameAt t)) (cur ++ t ∷ []) (h (t ∷ []) (Label (nameAt t)) (label q))
-      go (K.Number n x) q =
-          put-passed k (Number (numeral false x n)) (cur ++ t ∷ []) (h (t ∷ []) (Number (numeral false x n)) (number (plain q)))
-      go K.Text q = tt
-      go (K.Mark b) q =
-          only-case t cur (code "-") b (to (digits k)) q
-          (λ e u v x g. subst (λ (l : List Token). Put k (Number (numeral true Decimal v)) l) (sym (append-assoc cur (t ∷ []) (u ∷ [])))
-          (h (t ∷ u ∷ []) (Number (numeral true Decimal v)) (number (minus e x g))))
+      goes : Kind → Step
+      goes x = valueBy (to (put k (Label (nameAt t)))) (λ n. to (put k (Number n))) (to (digits k)) halt x
 
-  digits-case : (k : Shape) (t : Token) (cur : List Token) → Passed (digits k) cur → Stepped t cur (digitsStep k (t .kind) (t .directly))
-  digits-case k t cur h = go (t .kind) (t .directly) refl refl
+      by : {x : Kind} → t .kind ≡ x → Stepped t cur (goes x) → Stepped t cur (step line (value k) t)
+      by q p = subst (λ (x : Kind). Stepped t cur (goes x)) (sym q) p
+
+      one : (v : Value) → ValueText (t ∷ []) v → Passed (put k v) (cur ++ t ∷ [])
+      one v u = put-passed k v (cur ++ t ∷ []) (h (t ∷ []) v u)
+
+      minus-case : IsMark (code "-") t → Passed (digits k) (cur ++ t ∷ [])
+      minus-case e u n b =
+          subst (λ (l : List Token). Put k (Number n) l) (sym (append-assoc cur (t ∷ []) (u ∷ []))) (h (t ∷ u ∷ []) (Number n) (number (minus e b)))
+
+  digits-case : (k : Shape) (t : Token) (cur : List Token) → Passed (digits k) cur → Stepped t cur (step line (digits k) t)
+  digits-case k t cur h = digits-cases t below (λ z. subst (Stepped t cur) (sym (z Step goes halt)) tt)
     where
-      go : (j : Kind) (d : Bool) → t .kind ≡ j → t .directly ≡ d → Stepped t cur (digitsStep k j d)
-      go K.End d q r = tt
-      go K.Stray d q r = tt
-      go K.Word d q r = tt
-      go (K.Number v Decimal) true q r = put-passed k (Number (numeral true Decimal v)) (cur ++ t ∷ []) (h t v q r)
-      go (K.Number v Decimal) false q r = tt
-      go (K.Number v Hexadecimal) d q r = tt
-      go K.Text d q r = tt
-      go (K.Mark b) d q r = tt
+      goes : Numeral → Step
+      goes n = to (put k (Number n))
+
+      below : (n : Numeral) → BelowZero t n → Stepped t cur (step line (digits k) t)
+      below n b = subst (Stepped t cur) (sym (digits-read goes halt b)) (put-passed k (Number n) (cur ++ t ∷ []) (h t n b))
 
   step-passed : (st : State) (t : Token) (cur : List Token) → Passed st cur → Stepped t cur (step line st t)
   step-passed operand t cur h = rw h (mark-case t [] starts (λ b e. start-case t b e))
   step-passed (value k) t cur h = value-case k t cur h
   step-passed (digits k) t cur h = digits-case k t cur h
   step-passed (afterHash v) t cur h =
-      mark-case t cur (λ b. cond (eqb b (code "[")) (to (indexDot v)) (only (code ",") (emit (Immediate v)) b)) (λ b e. go b e (eqb b (code "[")) refl)
+      mark-case t cur (λ b. cond (eqb b (code "[")) (to (indexDot v)) (atComma halt (emit (Immediate v)) b)) (λ b e. go b e (eqb b (code "[")) refl)
     where
-      go : (b : ℕ) → IsMark b t → (y : Bool) → eqb b (code "[") ≡ y → Stepped t cur (cond y (to (indexDot v)) (only (code ",") (emit (Immediate v)) b))
+      go : (b : ℕ) → IsMark b t → (y : Bool) → eqb b (code "[") ≡ y → Stepped t cur (cond y (to (indexDot v)) (atComma halt (emit (Immediate v)) b))
       go b e true q = λ d u z r o ed n i ez. rw append-assoc (h .1 t d u z r o (is-mark t b (code "[") e q) ed n i ez)
       go b e false q = only-case t cur (code ",") b (emit (Immediate v)) e (λ x. (h .0, x))
   step-passed (indexDot v) t cur h =
-      mark-case t cur (only (code ".") (to (indexName v)))
+      mark-case t cur (only halt (code ".") (to (indexName v)))
       (λ b e. only-case t cur (code ".") b (to (indexName v)) e (λ x u z r o n i ez. rw append-assoc (h t u z r o x n i ez)))
   step-passed (indexName v) t cur h = word-case t cur (indexStep v (codeAt line t)) (λ e. index-case v t cur h e)
   step-passed registerName t cur h = name-case t cur (to (done (Register (codeAt line t)))) (λ n. h t (codeAt line t) n)
   step-passed indirectDot t cur h =
-      mark-case t cur (only (code ".") (to indirectName))
+      mark-case t cur (only halt (code ".") (to indirectName))
       (λ b e. only-case t cur (code ".") b (to indirectName) e (λ x u z r n ez. rw append-assoc (h t u z r x n ez)))
   step-passed indirectName t cur h =
       name-case t cur (to (closing (Indirect (codeAt line t)))) (λ n z ez. rw append-assoc (h t z (codeAt line t) n ez))
   step-passed (closing o) t cur h =
-      mark-case t cur (only (code "]") (to (done o))) (λ b e. only-case t cur (code "]") b (to (done o)) e (λ x. h t x))
-  step-passed (done o) t cur h = mark-case t cur (only (code ",") (emit o)) (λ b e. only-case t cur (code ",") b (emit o) e (λ x. (h, x)))
+      mark-case t cur (only halt (code "]") (to (done o))) (λ b e. only-case t cur (code "]") b (to (done o)) e (λ x. h t x))
+  step-passed (done o) t cur h = Walks.comma-case (OperandText line) Passed t cur o h
 
   end-sound : (st : State) (cur : List Token) (os : List Written) → Passed st cur → finish st ≡ reads os → Operands line cur os
   end-sound operand cur os h e = absurd (never e)
@@ -291,25 +278,15 @@ module _ (line : List ℕ) where
   end-sound (closing o) cur os h e = absurd (never e)
   end-sound (done o) cur os h e = let q : o ∷ [] ≡ os = cc in rw (← q) (one h)
 
-  un-cons : (o : Written) (r : Result) (os : List Written) → cons o r ≡ reads os → (us : List Written) × (r ≡ reads us) × (os ≡ o ∷ us)
-  un-cons o (reads us) os e = (us, refl, cc)
-  un-cons o wrong os e = absurd (never e)
-
-  walk-sound : (ts : List Token) (st : State) (cur : List Token) (os : List Written) → Passed st cur → walk line st ts ≡ reads os
-      → Operands line (cur ++ ts) os
-  unfolding walk
-  walk-sound [] st cur os h e = rw (append-nil cur) (end-sound st cur os h e)
-  walk-sound (t ∷ ts) st cur os h e = go (step line st t) (step-passed st t cur h) e (λ st′ cur′ os′ h′ e′. walk-sound ts st′ cur′ os′ h′ e′)
-    where
-      go : (x : Step) → Stepped t cur x → stepped x (λ y. walk line y ts) ≡ reads os
-          → ((st′ : State) (cur′ : List Token) (os′ : List Written) → Passed st′ cur′ → walk line st′ ts ≡ reads os′ → Operands line (cur′ ++ ts) os′)
-          → Operands line (cur ++ t ∷ ts) os
-      go (to st′) c e f = rw append-assoc at (f st′ (cur ++ t ∷ []) os c e)
-      go (emit o) c e f = let u = un-cons o (walk line operand ts) os e in rw (u .2) (more t (c .0) (c .1) (f operand [] (u .0) refl (u .1)))
-      go halt c e f = absurd (never e)
-
   pub sound : (ts : List Token) (os : List Written) → walk line operand ts ≡ reads os → Operands line ts os
-  sound ts os e = walk-sound ts operand [] os refl e
+  unfolding walk
+  sound ts os e =
+      Walks.sound operand (step line) finish (OperandText line) (Operands line) (λ ts us o os c u q r. more c u q r) Passed refl (λ t. Unit)
+      (λ st t cur w h. step-passed st t cur h) end-sound ts os (each ts) e
+    where
+      each : (ts : List Token) → Each (λ t. Unit) ts
+      each [] = tt
+      each (t ∷ ts) = (tt, each ts)
 
   -- ---- the whole field
 

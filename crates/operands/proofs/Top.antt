@@ -1,23 +1,35 @@
--- What this crate promises, beyond the equation at `instruction`: what that equation's right side means.
-use Prim.Native.Nat.{ℕ}
+-- What this crate promises, beyond the equations at its functions: what those equations' right sides mean.
+use Prim.Native.Nat.{ℕ, suc}
 use mathlib.Core.Bool.{true}
 use mathlib.Core.List.{List}
 use mathlib.Core.Logic.{_↔_}
-use mathlib.Core.Path.{_≡_, sym, _∙_}
-use Rattle.isa.specs.Encoding.{encodeOf, refusalOf}
+use mathlib.Core.Path.{_≡_, sym, ap, _∙_}
+use lib.ListN.{length}
+use Rattle.isa.specs.Opcodes.{countOf}
+use Rattle.isa.specs.Encoding as Encoding
+use Rattle.isa.specs.Encoding.{wordsOf, encodeOf}
+use Rattle.isa.specs.Operands.{allows}
+use Rattle.isa.specs.declared.Kinds.{Kinds}
 use Rattle.isa.specs.declared.Opcode.{Opcode}
+use Rattle.tokens.specs.Reading.{tokensFrom}
 use Rattle.tokens.specs.declared.Token.{Token}
+use Rattle.tokens.proofs.Places.{Within}
+use Rattle.values.specs.declared.LabelIn.the-variants as L
+use Rattle.values.specs.declared.Name.{Name}
+use Rattle.values.proofs.Within.{LabelWithin}
 use Rattle.operands.specs.Operands.{OperandField}
 use Rattle.operands.specs.Walk.{reads, wrong, operandsOf}
-use Rattle.operands.specs.Checks.{fits, instructionRead}
+use Rattle.operands.specs.Checks.{operandWith, operandAt, labelIn, given, fits, instructionRead, refusalOf}
+use Rattle.operands.specs.Settling.{settledOperand, settledInstruction}
 use Rattle.operands.specs.declared.Given.{Given}
-use Rattle.operands.specs.declared.InstructionRead.the-variants.{Read, WrongForm, WrongOperands, OutOfRange}
+use Rattle.operands.specs.declared.InstructionRead.the-variants.{Read}
 use Rattle.operands.specs.declared.Written.{Written}
 use Rattle.operands.proofs.Readings as Readings
 use Rattle.operands.proofs.Exactly as Exactly
 use Rattle.operands.proofs.Exactly.{Fits, Accepted, Unfit, Unranged}
+use Rattle.operands.proofs.Settled as Settled
 use Rattle.operands.proofs.Encodes as Encodes
-use Rattle.operands.proofs.Encodes.{settledInstruction}
+use Rattle.operands.proofs.Within as Bounds
 use Rattle.operands.proofs.Examples as Examples
 use Rattle.operands.proofs.Examples.{Examples}
 
@@ -47,21 +59,54 @@ module _ (line : List ℕ) (ts : List Token) (op : Opcode) where
   pub read-exactly : {a b : Given} → (instructionRead line op ts ≡ Read a b) ↔ Accepted line ts op a b
   read-exactly = (Exactly.tells line ts op, Exactly.accepted-back line ts op)
 
+  -- 0: a reading that fits, each number in its range.
+  pub accepted-exactly : (refusalOf (instructionRead line op ts) ≡ 0) ↔ ((a : Given) × (b : Given) × Accepted line ts op a b)
+  accepted-exactly = (Exactly.number-tells line ts op, λ h. ap refusalOf (Exactly.accepted-back line ts op (h .2)))
+
   -- 3: no reading at all, whatever the opcode.
-  pub form-exactly : (instructionRead line op ts ≡ WrongForm) ↔ ((os : List Written) → OperandField line ts os → ⊥)
-  form-exactly = (Exactly.tells line ts op, Exactly.form-back line ts op)
+  pub form-exactly : (refusalOf (instructionRead line op ts) ≡ 3) ↔ ((os : List Written) → OperandField line ts os → ⊥)
+  form-exactly = (Exactly.number-tells line ts op, λ h. ap refusalOf (Exactly.form-back line ts op h))
 
   -- 5: a reading that does not fit, whatever its numbers.
-  pub operands-exactly : (instructionRead line op ts ≡ WrongOperands) ↔ Unfit line ts op
-  operands-exactly = (Exactly.tells line ts op, Exactly.unfit-back line ts op)
+  pub operands-exactly : (refusalOf (instructionRead line op ts) ≡ 5) ↔ Unfit line ts op
+  operands-exactly = (Exactly.number-tells line ts op, λ h. ap refusalOf (Exactly.unfit-back line ts op h))
 
   -- 6: a reading that fits, and a number out of its range.
-  pub range-exactly : (instructionRead line op ts ≡ OutOfRange) ↔ Unranged line ts op
-  range-exactly = (Exactly.tells line ts op, Exactly.unranged-back line ts op)
+  pub range-exactly : (refusalOf (instructionRead line op ts) ≡ 6) ↔ Unranged line ts op
+  range-exactly = (Exactly.number-tells line ts op, λ h. ap refusalOf (Exactly.unranged-back line ts op h))
 
   -- What is read is encoded: with any words in its labels' places, the encoder does not refuse it.
-  pub encodes : {a b : Given} → instructionRead line op ts ≡ Read a b → (v w : ℕ) → refusalOf (encodeOf (settledInstruction op a b v w)) ≡ 0
+  pub encodes : {a b : Given} → instructionRead line op ts ≡ Read a b → (v w : ℕ) → Encoding.refusalOf (encodeOf (settledInstruction op a b v w)) ≡ 0
   encodes e = Encodes.encodes line ts op (Exactly.tells line ts op e)
+
+  -- "First word .., then one word per operand": it takes as many words as its opcode has operands, plus one.
+  pub words-count : {a b : Given} → instructionRead line op ts ≡ Read a b → (v w : ℕ) → length (wordsOf (settledInstruction op a b v w)) ≡ suc (countOf op)
+  words-count e = Encodes.words-count line ts op (Exactly.tells line ts op e)
+
+-- ---- labels
+
+-- A label that an operand names is a word of the line: it has a byte at least, and lies within the line that its tokens stand in.
+pub field-within : (n : ℕ) (line : List ℕ) {us : List Token} {os : List Written} → OperandField line us os → Within n us → (i : ℕ)
+    → LabelWithin n (labelIn (operandAt os i))
+field-within = Bounds.of-field
+
+pub label-within : (line : List ℕ) (at : ℕ) (op : Opcode) {a b : Given} → instructionRead line op (tokensFrom line at) ≡ Read a b
+    → LabelWithin (length line) (a .label) × LabelWithin (length line) (b .label)
+label-within = Bounds.of-read
+
+-- ---- labels replaced by their values
+
+-- "one word per operand in order: value, displacement or register code": an operand that names no label keeps its own word.
+pub unlabelled-stays : (g : Given) (w : ℕ) → g .label ≡ L.Absent → settledOperand g w ≡ g .operand
+unlabelled-stays = Settled.unlabelled-stays
+
+-- One that names a label gets that word, whatever stood there, and is as it was written otherwise.
+pub label-replaced : (o : Written) (x w : ℕ) {n : Name} → labelIn o ≡ L.Named n → settledOperand (given o x) w ≡ operandWith o w
+label-replaced = Settled.label-replaced
+
+-- No kind changes: an opcode allows the operand where it allowed it before, and nowhere else.
+pub kind-stays : (k : Kinds) (g : Given) (w : ℕ) → allows k (settledOperand g w) ≡ allows k (g .operand)
+kind-stays = Settled.kind-stays
 
 -- ---- examples, and one reply
 
@@ -69,6 +114,6 @@ module _ (line : List ℕ) (ts : List Token) (op : Opcode) where
 pub examples : Examples
 examples = Examples.examples
 
--- The promise of `instruction` is an equation with its meaning: two replies that meet it coincide.
+-- The promises of `instruction`, `settled` and `settled_instruction` are equations with their meanings: two replies that meet one coincide.
 pub coincide : {A : Type 0} {meaning r r′ : A} → r ≡ meaning → r′ ≡ meaning → r ≡ r′
 coincide p q = p ∙ sym q

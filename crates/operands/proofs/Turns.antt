@@ -2,26 +2,30 @@
 use Prim.Native.Nat.{ℕ, _≤_, _<_}
 use Prim.Native.Char.{code}
 use mathlib.Core.Bool.{Bool, true, false, cond}
-use mathlib.Core.List.{List, [], _∷_}
-use mathlib.Core.Path.{_≡_, refl, sym, ap, _∙_}
+use mathlib.Core.List.{List, _∷_}
+use mathlib.Core.Path.{_≡_, refl, sym, ap, subst, _∙_}
 use native.Mathlib.Omega.{arith}
-use lib.Dec.{eqb}
 use lib.ListN.{length}
 use Rattle.numerals.specs.declared.Cursor.{Cursor}
-use Rattle.numerals.specs.declared.Radix.the-variants.{Decimal, Hexadecimal}
+use Rattle.numerals.specs.declared.Numeral.{Numeral}
 use Rattle.isa.specs.Registers.{isRegister}
+use Rattle.tokens.specs.Marks.{IsMark, onMark}
 use Rattle.tokens.specs.Reading.{tokenAt, tokensFrom}
 use Rattle.tokens.specs.declared.Kind.{Kind}
 use Rattle.tokens.specs.declared.Kind.the-variants as K
 use Rattle.tokens.specs.declared.Token.{Token}
 use Rattle.tokens.proofs.Places.{token-placed}
-use Rattle.values.specs.Values.{numeral, nameAt}
-use Rattle.values.specs.Reading.{minusBy, minusAt, valueBy, valueAt}
+use Rattle.values.specs.Values.{numeral, BelowZero, nameAt}
+use Rattle.values.specs.Reading.{digitsBy, minusAt, valueAt}
+use Rattle.values.specs.declared.Value.{Value}
 use Rattle.values.specs.declared.Value.the-variants.{Number, Label}
 use Rattle.values.specs.declared.ValueRead.{ValueRead}
 use Rattle.values.specs.declared.ValueRead.the-variants as V′
-use Rattle.values.proofs.Rows.{row-of, ends-of}
-use Rattle.operands.specs.Walk.{Shape, State, value, digits, put, Step, to, halt, Result, wrong, onMark, onWord, valueStep, digitsStep, finish, stepped, codeAt, step, walk}
+use Rattle.tokens.proofs.Heads.{row-of, ends-of}
+use Rattle.values.proofs.Walks as Walks
+use Rattle.values.proofs.Walks.{turned}
+use Rattle.values.proofs.Begins.{value-cases, digits-cases, digits-read, digits-row}
+use Rattle.operands.specs.Walk.{Shape, State, operand, value, digits, put, Step, to, halt, Result, wrong, onWord, finish, stepped, codeAt, step, walk}
 use Rattle.operands.specs.Peeks.{markBy, markOf, registerBy, registerOf}
 use Rattle.operands.specs.declared.MarkRead.the-variants as M
 use Rattle.operands.specs.declared.RegisterRead.the-variants as R
@@ -41,22 +45,11 @@ module _ (s : List ℕ) (at : ℕ) where
   pub taken : (st x : State) (ts : List Token) → tokensFrom s at ≡ tokenAt s at ∷ ts → step s st (tokenAt s at) ≡ to x
       → walk s st (tokensFrom s at) ≡ walk s x ts
   unfolding walk
-  taken st x ts e h = rw e (ap (λ (y : Step). stepped y (λ z. walk s z ts)) h)
+  taken st x ts e h = turned operand (step s) finish s at st e h
 
   pub halted : (st : State) → finish st ≡ wrong → step s st (tokenAt s at) ≡ halt → walk s st (tokensFrom s at) ≡ wrong
   unfolding walk
-  halted st z h = go (tokenAt s at .kind) refl
-    where
-      one : (ts : List Token) → tokensFrom s at ≡ tokenAt s at ∷ ts → walk s st (tokensFrom s at) ≡ wrong
-      one ts e = rw e (ap (λ (x : Step). stepped x (λ y. walk s y ts)) h)
-
-      go : (k : Kind) → tokenAt s at .kind ≡ k → walk s st (tokensFrom s at) ≡ wrong
-      go K.End q = rw (row-of s at q) z
-      go K.Stray q = one [] (row-of s at q)
-      go K.Word q = one (tokensFrom s (tokenAt s at .next .at)) (row-of s at q)
-      go (K.Number v x) q = one (tokensFrom s (tokenAt s at .next .at)) (row-of s at q)
-      go K.Text q = one (tokensFrom s (tokenAt s at .next .at)) (row-of s at q)
-      go (K.Mark b) q = one (tokensFrom s (tokenAt s at .next .at)) (row-of s at q)
+  halted st z h = Walks.halted operand (step s) finish s at st z h
 
   -- ---- marks
 
@@ -78,20 +71,20 @@ module _ (s : List ℕ) (at : ℕ) where
       let p = token-placed s at .starts in
       (row-of s at (m .0) ∙ ap (λ (n : ℕ). tokenAt s at ∷ tokensFrom s n) q, m .0, omega arith, omega arith)
 
-  module _ (st : State) (f : ℕ → Step) (p : (u : Token) → step s st u ≡ onMark f (u .kind)) where
+  module _ (st : State) (f : ℕ → Step) (p : (u : Token) → step s st u ≡ onMark halt f (u .kind)) where
     pub on-mark : (b : ℕ) (c : Cursor) → markOf (tokenAt s at) ≡ M.Is b c
         → walk s st (tokensFrom s at) ≡ stepped (f b) (λ x. walk s x (tokensFrom s (c .at)))
     unfolding walk
     on-mark b c e =
         let h = mark-row b c e in
-        let q : step s st (tokenAt s at) ≡ f b = p (tokenAt s at) ∙ ap (λ (k : Kind). onMark f k) (h .1) in
+        let q : step s st (tokenAt s at) ≡ f b = p (tokenAt s at) ∙ ap (λ (k : Kind). onMark halt f k) (h .1) in
         rw (h .0) (ap (λ (x : Step). stepped x (λ y. walk s y (tokensFrom s (c .at)))) q)
 
     -- no mark, where only a mark may be
     pub off-mark : finish st ≡ wrong → markOf (tokenAt s at) ≡ M.Absent → walk s st (tokensFrom s at) ≡ wrong
     off-mark z e = halted st z (p (tokenAt s at) ∙ go (tokenAt s at .kind) e)
       where
-        go : (k : Kind) → markBy k (tokenAt s at .next) ≡ M.Absent → onMark f k ≡ halt
+        go : (k : Kind) → markBy k (tokenAt s at .next) ≡ M.Absent → onMark halt f k ≡ halt
         go K.End e = refl
         go K.Stray e = refl
         go K.Word e = refl
@@ -150,59 +143,53 @@ module _ (s : List ℕ) (at : ℕ) where
 -- ---- values
 
 -- a token that moves the walk on lies no further back
-onward : (s : List ℕ) (at : ℕ) {k : Kind} → tokenAt s at .kind ≡ k → at ≤ tokenAt s at .next .at
-onward s at e = omega (arith, token-placed s at .starts, token-placed s at .moves)
+onward : (s : List ℕ) (at : ℕ) → at ≤ tokenAt s at .next .at
+onward s at = omega (arith, token-placed s at .starts, token-placed s at .moves)
 
--- the digits after a `-`
-digits-turn : (s : List ℕ) (at : ℕ) (k : Shape)
-    → (walk s (digits k) (tokensFrom s at) ≡ valueOn s k (minusAt s at)) × ValueOnward at (minusAt s at)
-unfolding minusAt
-digits-turn s at k = go (tokenAt s at .kind) (tokenAt s at .directly) refl refl
-  where
-    no : (j : Kind) → tokenAt s at .kind ≡ j → digitsStep k j (tokenAt s at .directly) ≡ halt → walk s (digits k) (tokensFrom s at) ≡ wrong
-    no j q h = halted s at (digits k) refl (ap (λ (x : Kind). digitsStep k x (tokenAt s at .directly)) q ∙ h)
+module _ (s : List ℕ) (at : ℕ) (k : Shape) where
+  -- the answer for a value that the walk from a state finds at the place, or from there on
+  abbrev Turned : State → ValueRead → Type 0
+  Turned st r = (walk s st (tokensFrom s at) ≡ valueOn s k r) × ValueOnward at r
 
-    go : (j : Kind) (d : Bool) → tokenAt s at .kind ≡ j → tokenAt s at .directly ≡ d
-        → (walk s (digits k) (tokensFrom s at) ≡ valueOn s k (minusBy j d (tokenAt s at .next))) × ValueOnward at (minusBy j d (tokenAt s at .next))
-    go K.End d q r = (no K.End q refl, tt)
-    go K.Stray d q r = (no K.Stray q refl, tt)
-    go K.Word d q r = (no K.Word q refl, tt)
-    go (K.Number v Decimal) true q r =
-        (taken s at (digits k) (put k (Number (numeral true Decimal v))) (tokensFrom s (tokenAt s at .next .at)) (row-of s at q) (rw (q, r)), onward s at q)
-    go (K.Number v Decimal) false q r = (no (K.Number v Decimal) q (rw r), tt)
-    go (K.Number v Hexadecimal) d q r = (no (K.Number v Hexadecimal) q refl, tt)
-    go K.Text d q r = (no K.Text q refl, tt)
-    go (K.Mark b) d q r = (no (K.Mark b) q refl, tt)
+  -- one token that is a value, and one that is none
+  one-turn : (st : State) (v : Value) → tokensFrom s at ≡ tokenAt s at ∷ tokensFrom s (tokenAt s at .next .at) → step s st (tokenAt s at) ≡ to (put k v)
+      → Turned st (V′.Found v (tokenAt s at .next))
+  one-turn st v e h = (taken s at st (put k v) (tokensFrom s (tokenAt s at .next .at)) e h, onward s at)
 
-pub value-turn : (s : List ℕ) (at : ℕ) (k : Shape)
-    → (walk s (value k) (tokensFrom s at) ≡ valueOn s k (valueAt s at)) × ValueOnward at (valueAt s at)
+  no-turn : (st : State) → finish st ≡ wrong → step s st (tokenAt s at) ≡ halt → Turned st V′.Absent
+  no-turn st z h = (halted s at st z h, tt)
+
+  -- the digits after a `-`
+  digits-turn : Turned (digits k) (minusAt s at)
+  unfolding minusAt
+  digits-turn =
+      digits-cases (tokenAt s at) below (λ h. subst (Turned (digits k)) (sym (h ValueRead found V′.Absent)) (no-turn (digits k) refl (h Step goes halt)))
+    where
+      found : Numeral → ValueRead
+      found n = V′.Found (Number n) (tokenAt s at .next)
+
+      goes : Numeral → Step
+      goes n = to (put k (Number n))
+
+      below : (n : Numeral) → BelowZero (tokenAt s at) n → Turned (digits k) (digitsBy found V′.Absent (tokenAt s at .kind) (tokenAt s at .directly))
+      below n b =
+          subst (Turned (digits k)) (sym (digits-read found V′.Absent b)) (one-turn (digits k) (Number n) (digits-row s at b) (digits-read goes halt b))
+
+later : (at n : ℕ) (r : ValueRead) → at ≤ n → ValueOnward n r → ValueOnward at r
+later at n (V′.Found v c) h o = omega arith
+later at n V′.Absent h o = tt
+
+pub value-turn : (s : List ℕ) (at : ℕ) (k : Shape) → Turned s at k (value k) (valueAt s at)
 unfolding valueAt
-value-turn s at k = go (tokenAt s at .kind) refl
+value-turn s at k =
+    value-cases (tokenAt s at)
+    (λ q. rw q (one-turn s at k (value k) (Label (nameAt (tokenAt s at))) (row-of s at q) (rw q)))
+    (λ v x q. rw q (one-turn s at k (value k) (Number (numeral false x v)) (row-of s at q) (rw q)))
+    (λ q. rw q (minus q))
+    (λ h. subst (Turned s at k (value k)) (sym (h ValueRead _ _ _ V′.Absent)) (no-turn s at k (value k) refl (h Step _ _ _ halt)))
   where
-    no : (j : Kind) → tokenAt s at .kind ≡ j → valueStep k j (tokenAt s at) ≡ halt → walk s (value k) (tokensFrom s at) ≡ wrong
-    no j q h = halted s at (value k) refl (ap (λ (x : Kind). valueStep k x (tokenAt s at)) q ∙ h)
-
-    later : (n : ℕ) (r : ValueRead) → at ≤ n → ValueOnward n r → ValueOnward at r
-    later n (V′.Found v c) h o = omega arith
-    later n V′.Absent h o = tt
-
-    go : (j : Kind) → tokenAt s at .kind ≡ j
-        → (walk s (value k) (tokensFrom s at) ≡ valueOn s k (valueBy s j (tokenAt s at))) × ValueOnward at (valueBy s j (tokenAt s at))
-    go K.End q = (no K.End q refl, tt)
-    go K.Stray q = (no K.Stray q refl, tt)
-    go K.Word q =
-        (taken s at (value k) (put k (Label (nameAt (tokenAt s at)))) (tokensFrom s (tokenAt s at .next .at)) (row-of s at q) (rw q), onward s at q)
-    go (K.Number v x) q =
-        (taken s at (value k) (put k (Number (numeral false x v))) (tokensFrom s (tokenAt s at .next .at)) (row-of s at q) (rw q), onward s at q)
-    go K.Text q = (no K.Text q refl, tt)
-    go (K.Mark b) q = mark (eqb b (code "-")) refl
-      where
-        next : ℕ
-        next = tokenAt s at .next .at
-
-        mark : (y : Bool) → eqb b (code "-") ≡ y
-            → (walk s (value k) (tokensFrom s at) ≡ valueOn s k (cond y (minusAt s next) V′.Absent)) × ValueOnward at (cond y (minusAt s next) V′.Absent)
-        mark true e =
-            let r = digits-turn s next k in
-            (taken s at (value k) (digits k) (tokensFrom s next) (row-of s at q) (rw (q, e)) ∙ r .0, later next (minusAt s next) (onward s at q) (r .1))
-        mark false e = (no (K.Mark b) q (rw e), tt)
+    minus : IsMark (code "-") (tokenAt s at) → Turned s at k (value k) (minusAt s (tokenAt s at .next .at))
+    minus q =
+        let next = tokenAt s at .next .at in
+        let r = digits-turn s next k in
+        (taken s at (value k) (digits k) (tokensFrom s next) (row-of s at q) (rw q) ∙ r .0, later at next (minusAt s next) (onward s at) (r .1))

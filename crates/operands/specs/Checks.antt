@@ -16,12 +16,12 @@ use Rattle.isa.specs.declared.Operand.{Operand}
 use Rattle.isa.specs.declared.Operand.the-variants as O
 use Rattle.tokens.specs.declared.Token.{Token}
 use Rattle.values.specs.Ranges.{displacementOf}
+use Rattle.values.specs.declared.LabelIn.{LabelIn}
+use Rattle.values.specs.declared.LabelIn.the-variants as L
 use Rattle.values.specs.declared.Value.{Value}
 use Rattle.values.specs.declared.Value.the-variants.{Number, Label}
 use Rattle.operands.specs.Walk.{Result, reads, wrong, operandsOf}
 use Rattle.operands.specs.declared.Given.{Given}
-use Rattle.operands.specs.declared.LabelIn.{LabelIn}
-use Rattle.operands.specs.declared.LabelIn.the-variants as L
 use Rattle.operands.specs.declared.InstructionRead.{InstructionRead}
 use Rattle.operands.specs.declared.InstructionRead.the-variants.{Read, WrongForm, WrongOperands, OutOfRange}
 use Rattle.operands.specs.declared.Written.{Written}
@@ -108,3 +108,11 @@ judgedForm op wrong = WrongForm
 
 unfoldable pub instructionRead : List ℕ → Opcode → List Token → InstructionRead
 instructionRead line op ts = judgedForm op (operandsOf line ts)
+
+-- the paper's number for each answer: 0 where the operands pass, "3 form, unknown registers included", "5 opcode's operand count, or
+-- kind not allowed", "6 number .. out of range"
+abbrev pub refusalOf : InstructionRead → ℕ
+refusalOf (Read a b) = 0
+refusalOf WrongForm = 3
+refusalOf WrongOperands = 5
+refusalOf OutOfRange = 6

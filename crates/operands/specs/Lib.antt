@@ -1,6 +1,8 @@
 -- An opcode's operands (01, "Rules of writing" and "Refusing a source"). Operands.antt is the rule, Walk.antt the reader as a
--- function, Checks.antt what is judged once the form is right; Peeks.antt is what the code's inner functions promise.
+-- function, Checks.antt what is judged once the form is right, Settling.antt labels replaced by their values; Peeks.antt is what the
+-- code's inner functions promise.
 pub mod Operands
 pub mod Walk
 pub mod Checks
+pub mod Settling
 pub mod Peeks

@@ -8,9 +8,10 @@ use lib.Dec.{T}
 use lib.Seq.{slice}
 use Rattle.isa.specs.Registers.{IX, IY, SP, isRegister}
 use Rattle.names.specs.Names.{registerCode}
+use Rattle.tokens.specs.Marks.{IsMark}
 use Rattle.tokens.specs.declared.Kind.the-variants as K
 use Rattle.tokens.specs.declared.Token.{Token}
-use Rattle.values.specs.Values.{IsMark, ValueText}
+use Rattle.values.specs.Values.{ValueText}
 use Rattle.values.specs.declared.Value.{Value}
 use Rattle.operands.specs.declared.Written.{Written}
 use Rattle.operands.specs.declared.Written.the-variants.{Immediate, Register, Memory, Indirect, IndexedX, IndexedY, IndexedSp, Relative}

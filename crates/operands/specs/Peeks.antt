@@ -1,7 +1,6 @@
--- What the code looks at on its way: a mark, a register's name, what stands between operands; what an answer for one operand says of
--- the walk; and what is kept of a list.
+-- What the code looks at on its way: a mark, a register's name; what an answer for one operand says of the walk; and what is
+-- kept of a list.
 use Prim.Native.Nat.{ℕ, _≤_}
-use Prim.Native.Char.{code}
 use mathlib.Core.Bool.{Bool, cond, _&&_}
 use mathlib.Core.List.{List, [], _∷_}
 use mathlib.Core.Path.{_≡_}
@@ -11,14 +10,13 @@ use Rattle.isa.specs.Opcodes.{table, countOf}
 use Rattle.isa.specs.Operands.{allows}
 use Rattle.isa.specs.Registers.{isRegister}
 use Rattle.isa.specs.declared.Opcode.{Opcode}
+use Rattle.tokens.specs.Marks.{onMark}
 use Rattle.tokens.specs.Reading.{tokensFrom}
 use Rattle.tokens.specs.declared.Kind.{Kind}
 use Rattle.tokens.specs.declared.Kind.the-variants as K
 use Rattle.tokens.specs.declared.Token.{Token}
 use Rattle.operands.specs.Walk.{State, done, Result, reads, wrong, codeAt, walk}
 use Rattle.operands.specs.Checks.{operandWith, wordOf, ranged}
-use Rattle.operands.specs.declared.Between.{Between}
-use Rattle.operands.specs.declared.Between.the-variants as B
 use Rattle.operands.specs.declared.InstructionRead.{InstructionRead}
 use Rattle.operands.specs.declared.InstructionRead.the-variants.{WrongOperands}
 use Rattle.operands.specs.declared.ListRead.{ListRead}
@@ -36,12 +34,7 @@ use Rattle.operands.specs.declared.Written.the-variants.{Absent}
 -- ---- one token
 
 abbrev pub markBy : Kind → Cursor → MarkRead
-markBy K.End next = M.Absent
-markBy K.Stray next = M.Absent
-markBy K.Word next = M.Absent
-markBy (K.Number v k) next = M.Absent
-markBy K.Text next = M.Absent
-markBy (K.Mark b) next = M.Is b next
+markBy k next = onMark M.Absent (λ b. M.Is b next) k
 
 abbrev pub markOf : Token → MarkRead
 markOf t = markBy (t .kind) (t .next)
@@ -60,17 +53,6 @@ registerBy r (K.Mark b) next = R.Absent
 
 abbrev pub registerOf : List ℕ → Token → RegisterRead
 registerOf line t = registerBy (codeAt line t) (t .kind) (t .next)
-
-abbrev pub betweenBy : Kind → Cursor → Between
-betweenBy K.End next = B.Over
-betweenBy K.Stray next = B.Neither
-betweenBy K.Word next = B.Neither
-betweenBy (K.Number v k) next = B.Neither
-betweenBy K.Text next = B.Neither
-betweenBy (K.Mark b) next = cond (eqb b (code ",")) (B.Comma next) B.Neither
-
-abbrev pub betweenOf : Token → Between
-betweenOf t = betweenBy (t .kind) (t .next)
 
 -- ---- one operand
 

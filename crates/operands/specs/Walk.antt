@@ -1,17 +1,21 @@
--- The reading of an operand field as a walk over its tokens: one state for each thing that may be next, one step a token.
--- `proofs/Top.antt` shows that it finds exactly the rule's operands.
+-- The reading of an operand field as a walk over its tokens (values' Walks.antt); `proofs/Top.antt` shows that it finds exactly the rule's
+-- operands.
 use Prim.Native.Nat.{ℕ}
 use Prim.Native.Char.{code}
-use mathlib.Core.Bool.{Bool, true, false, cond}
+use mathlib.Core.Bool.{cond}
 use mathlib.Core.List.{List, [], _∷_}
 use lib.Dec.{eqb}
-use Rattle.numerals.specs.declared.Radix.the-variants.{Decimal, Hexadecimal}
 use Rattle.isa.specs.Registers.{IX, IY, SP, isRegister}
 use Rattle.names.specs.Names.{registerCode}
+use Rattle.tokens.specs.Marks.{onMark, only}
+use Rattle.tokens.specs.Commas.{atComma, onComma}
 use Rattle.tokens.specs.declared.Kind.{Kind}
 use Rattle.tokens.specs.declared.Kind.the-variants as K
 use Rattle.tokens.specs.declared.Token.{Token}
-use Rattle.values.specs.Values.{numeral, nameAt}
+use Rattle.values.specs.Values.{nameAt}
+use Rattle.values.specs.Reading.{valueBy, digitsBy}
+use Rattle.values.specs.Walks as Walks
+pub use Rattle.values.specs.Walks.{to, emit, halt, reads, wrong, cons}
 use Rattle.values.specs.declared.Value.{Value}
 use Rattle.values.specs.declared.Value.the-variants.{Number, Label}
 use Rattle.operands.specs.Operands.{wordAt}
@@ -36,27 +40,16 @@ pub data State : Type 0 where
   closing : Written → State  -- `]`
   done : Written → State  -- a comma or the end
 
-pub data Step : Type 0 where
-  to : State → Step
-  emit : Written → Step  -- a comma ends the operand
-  halt : Step
+abbrev pub Step : Type 0
+Step = Walks.Step State Written
 
-pub data Result : Type 0 where
-  reads : List Written → Result
-  wrong : Result
+abbrev pub Result : Type 0
+Result = Walks.Result Written
 
 abbrev pub put : Shape → Value → State
 put hash v = afterHash v
 put slash v = done (Memory v)
 put dollar v = done (Relative v)
-
-abbrev pub onMark : (ℕ → Step) → Kind → Step
-onMark f K.End = halt
-onMark f K.Stray = halt
-onMark f K.Word = halt
-onMark f (K.Number v k) = halt
-onMark f K.Text = halt
-onMark f (K.Mark b) = f b
 
 abbrev pub onWord : Step → Kind → Step
 onWord f K.End = halt
@@ -66,9 +59,6 @@ onWord f (K.Number v k) = halt
 onWord f K.Text = halt
 onWord f (K.Mark b) = halt
 
-abbrev pub only : ℕ → Step → ℕ → Step
-only x f b = cond (eqb b x) f halt
-
 unfoldable pub starts : ℕ → Step
 starts b =
     cond (eqb b (code "#")) (to (value hash))
@@ -77,33 +67,12 @@ starts b =
     (cond (eqb b (code "[")) (to indirectDot)
     (cond (eqb b (code "$")) (to (value dollar)) halt))))
 
-abbrev pub valueStep : Shape → Kind → Token → Step
-valueStep k K.End t = halt
-valueStep k K.Stray t = halt
-valueStep k K.Word t = to (put k (Label (nameAt t)))
-valueStep k (K.Number v r) t = to (put k (Number (numeral false r v)))
-valueStep k K.Text t = halt
-valueStep k (K.Mark b) t = only (code "-") (to (digits k)) b
-
-abbrev pub digitsStep : Shape → Kind → Bool → Step
-digitsStep k K.End d = halt
-digitsStep k K.Stray d = halt
-digitsStep k K.Word d = halt
-digitsStep k (K.Number v Decimal) d = cond d (to (put k (Number (numeral true Decimal v)))) halt
-digitsStep k (K.Number v Hexadecimal) d = halt
-digitsStep k K.Text d = halt
-digitsStep k (K.Mark b) d = halt
-
 -- an index by a register's code
 unfoldable pub indexStep : Value → ℕ → Step
 indexStep v r =
     cond (eqb r IX) (to (closing (IndexedX v)))
     (cond (eqb r IY) (to (closing (IndexedY v)))
     (cond (eqb r SP) (to (closing (IndexedSp v))) halt))
-
-abbrev pub cons : Written → Result → Result
-cons o (reads os) = reads (o ∷ os)
-cons o wrong = wrong
 
 abbrev pub finish : State → Result
 finish operand = wrong
@@ -118,10 +87,9 @@ finish indirectName = wrong
 finish (closing o) = wrong
 finish (done o) = reads (o ∷ [])
 
+-- where a step leads: after a comma, an operand begins
 abbrev pub stepped : Step → (State → Result) → Result
-stepped (to st) r = r st
-stepped (emit o) r = cons o (r operand)
-stepped halt r = wrong
+stepped = Walks.stepped operand
 
 module _ (line : List ℕ) where
   -- the code of the register that a word of the line names, or 16
@@ -129,21 +97,20 @@ module _ (line : List ℕ) where
   codeAt t = registerCode (wordAt line t)
 
   abbrev pub step : State → Token → Step
-  step operand t = onMark starts (t .kind)
-  step (value k) t = valueStep k (t .kind) t
-  step (digits k) t = digitsStep k (t .kind) (t .directly)
-  step (afterHash v) t = onMark (λ b. cond (eqb b (code "[")) (to (indexDot v)) (only (code ",") (emit (Immediate v)) b)) (t .kind)
-  step (indexDot v) t = onMark (only (code ".") (to (indexName v))) (t .kind)
+  step operand t = onMark halt starts (t .kind)
+  step (value k) t = valueBy (to (put k (Label (nameAt t)))) (λ n. to (put k (Number n))) (to (digits k)) halt (t .kind)
+  step (digits k) t = digitsBy (λ n. to (put k (Number n))) halt (t .kind) (t .directly)
+  step (afterHash v) t = onMark halt (λ b. cond (eqb b (code "[")) (to (indexDot v)) (atComma halt (emit (Immediate v)) b)) (t .kind)
+  step (indexDot v) t = onMark halt (only halt (code ".") (to (indexName v))) (t .kind)
   step (indexName v) t = onWord (indexStep v (codeAt t)) (t .kind)
   step registerName t = onWord (cond (isRegister (codeAt t)) (to (done (Register (codeAt t)))) halt) (t .kind)
-  step indirectDot t = onMark (only (code ".") (to indirectName)) (t .kind)
+  step indirectDot t = onMark halt (only halt (code ".") (to indirectName)) (t .kind)
   step indirectName t = onWord (cond (isRegister (codeAt t)) (to (closing (Indirect (codeAt t)))) halt) (t .kind)
-  step (closing o) t = onMark (only (code "]") (to (done o))) (t .kind)
-  step (done o) t = onMark (only (code ",") (emit o)) (t .kind)
+  step (closing o) t = onMark halt (only halt (code "]") (to (done o))) (t .kind)
+  step (done o) t = onComma halt (emit o) (t .kind)
 
   unfoldable pub walk : State → List Token → Result
-  walk st [] = finish st
-  walk st (t ∷ ts) = stepped (step st t) (λ next. walk next ts)
+  walk st ts = Walks.walk operand step finish st ts
 
   -- what follows an opcode: no operands, or some
   unfoldable pub operandsOf : List Token → Result

@@ -1,12 +1,13 @@
 // An opcode's operands (document 01, "Rules of writing"): their form, their number and kinds, and the ranges of their numbers. The
-// meaning is in specs/: Operands.antt and Checks.antt.
+// meaning is in specs/: Operands.antt, Checks.antt and Settling.antt.
 use isa::Operand;
 use numerals::Cursor;
-use values::Name;
+use values::LabelIn;
 use values::Value;
 
 pub mod instruction; // the operands that follow an opcode
 mod listed; // what is kept of a list of operands
+pub mod settling; // labels replaced by their values
 mod shapes; // one operand
 mod words; // what an operand's word is
 
@@ -21,12 +22,6 @@ pub enum Written {
     IndexedY(Value),
     IndexedSp(Value),
     Relative(Value),
-}
-
-// The label that an operand names, if it does.
-pub enum LabelIn {
-    Absent,
-    Named(Name),
 }
 
 // An operand with its word. A label's value takes the place of a word 0 when labels are settled.
@@ -59,13 +54,6 @@ enum RegisterRead {
 enum OperandRead {
     Read(Written, Cursor),
     Wrong,
-}
-
-// What stands between operands, or after the last.
-enum Between {
-    Comma(Cursor),
-    Over,
-    Neither,
 }
 
 // The first two of a list of operands, and how many they are, up to 3: no opcode has three.

@@ -1,40 +1,17 @@
 // The list of operands that follows an opcode (specs/Operands.antt): the first two of them, and how many they are.
 ghost use mathlib.Core.Path.{_≡_};
-ghost use Rattle.tokens.specs.Reading.{tokenAt, tokensFrom};
+ghost use Rattle.tokens.specs.Reading.{tokensFrom};
 ghost use Rattle.operands.specs.Walk.{walk, operandsOf};
 ghost use Rattle.operands.specs.Walk as W;
-ghost use Rattle.operands.specs.Peeks.{betweenOf, keep, listed, noneListed};
-use super::Between;
+ghost use Rattle.operands.specs.Peeks.{keep, listed, noneListed};
 use super::FirstTwo;
 use super::ListRead;
 use super::OperandRead;
 use super::Written;
 use super::shapes::operand;
 use numerals::Cursor;
-use tokens::Kind;
-use tokens::tokens::next_token;
-
-// What follows an operand.
-fn between(s: &[u8], from: Cursor) -> Between
-    ensures { λ r. ⌜ r ≡ betweenOf (tokenAt (now (s .entry)) (from .at)) ⌝ }
-{
-    let t = next_token(s, from);
-    let kind = t.kind;
-    let next = t.next;
-    match kind {
-        Kind::End => Between::Over,
-        Kind::Stray => Between::Neither,
-        Kind::Word => Between::Neither,
-        Kind::Number(_, _) => Between::Neither,
-        Kind::Text => Between::Neither,
-        Kind::Mark(b) => {
-            if b == b',' {
-                return Between::Comma(next);
-            }
-            Between::Neither
-        }
-    }
-}
+use tokens::Follows;
+use tokens::commas::follows;
 
 fn with_operand(all: FirstTwo, o: Written) -> FirstTwo
     ensures { λ r. ⌜ r ≡ keep all o ⌝ }
@@ -77,15 +54,14 @@ fn some_operands(s: &[u8], from: Cursor, none: FirstTwo) -> ListRead
             OperandRead::Read(o, next) => {
                 let end = next.at;
                 all = with_operand(all, o);
-                let follows = between(s, Cursor { at: end });
-                match follows {
-                    Between::Over => {
+                match follows(s, Cursor { at: end }) {
+                    Follows::Over => {
                         return ListRead::Read(all);
                     }
-                    Between::Neither => {
+                    Follows::Neither => {
                         return ListRead::Wrong;
                     }
-                    Between::Comma(after) => {
+                    Follows::Comma(after) => {
                         at = after.at;
                     }
                 }
@@ -104,10 +80,9 @@ pub(crate) fn operands(s: &[u8], from: Cursor) -> ListRead
         first: Written::Absent,
         second: Written::Absent,
     };
-    let follows = between(s, Cursor { at: at });
-    match follows {
-        Between::Over => ListRead::Read(none),
-        Between::Neither => some_operands(s, Cursor { at: at }, none),
-        Between::Comma(_) => some_operands(s, Cursor { at: at }, none),
+    match follows(s, Cursor { at: at }) {
+        Follows::Over => ListRead::Read(none),
+        Follows::Neither => some_operands(s, Cursor { at: at }, none),
+        Follows::Comma(_) => some_operands(s, Cursor { at: at }, none),
     }
 }

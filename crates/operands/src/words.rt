@@ -3,11 +3,11 @@ ghost use mathlib.Core.Path.{_≡_};
 ghost use Rattle.numerals.specs.Numbers.{keptOf};
 ghost use Rattle.values.specs.Ranges.{displacementOf};
 ghost use Rattle.operands.specs.Checks.{operandWith, cellOf, wordOf, labelOf, labelIn};
-use super::LabelIn;
 use super::Written;
 use isa::Operand;
 use numerals::Kept;
 use numerals::reading::kept;
+use values::LabelIn;
 use values::Value;
 use values::ranges::displacement;
 

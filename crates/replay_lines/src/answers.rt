@@ -1,4 +1,5 @@
 // A line's reply: the first of its own checks that fails, or 0; its label's place; and what it says.
+ghost use Prim.Native.Nat.{_≤_};
 use super::texts::field;
 use super::texts::letter;
 use super::texts::number;
@@ -8,10 +9,12 @@ use isa::Opcode;
 use isa::Operand;
 use isa::opcodes::row;
 use operands::Given;
-use operands::LabelIn;
-use statements::LineLabel;
 use statements::Statement;
+use statements::StatementRead;
+use statements::cells::write_cells;
 use statements::line::read_line;
+use statements::refusals::number_of;
+use values::LabelIn;
 
 // An operand's kind and word, by the format's numbers.
 fn operand(out: &mut [u8], at: usize, o: Operand) -> usize {
@@ -62,56 +65,72 @@ fn valued(out: &mut [u8], at: usize, b: u8, n: usize) -> usize {
     field(out, next, n)
 }
 
-fn label(out: &mut [u8], at: usize, l: LineLabel) -> usize {
+fn label(out: &mut [u8], at: usize, l: LabelIn) -> usize {
     match l {
-        LineLabel::Absent => place(out, at, 0, 0),
-        LineLabel::Named(n) => place(out, at, n.start, n.end),
+        LabelIn::Absent => place(out, at, 0, 0),
+        LabelIn::Named(n) => place(out, at, n.start, n.end),
     }
 }
 
 // A refusal, or 0, and the label.
-fn head(out: &mut [u8], refusal: usize, l: LineLabel) -> usize {
+fn head(out: &mut [u8], refusal: usize, l: LabelIn) -> usize {
     let next = number(out, 0, refusal);
     label(out, next, l)
 }
 
-// The whole reply but its line end.
-fn reply(out: &mut [u8], l: LineLabel, s: Statement) -> usize {
+fn wide(x: u16) -> usize {
+    x as usize
+}
+
+fn least(a: usize, b: usize) -> usize
+    ensures { λ r. ⌜ r ≤ b ⌝ }
+{
+    if a < b { a } else { b }
+}
+
+// The first n cells of a row, or all.
+fn cells(out: &mut [u8], at: usize, row: &[u16], n: usize) -> usize {
+    let end = least(n, row.len());
+    let mut next = at;
+    let mut i = 0;
+    while i < end {
+        next = field(out, next, wide(row[i]));
+        i += 1;
+    }
+    next
+}
+
+// DATA: the number of its cells, and those that a row has room for.
+fn data(out: &mut [u8], at: usize, line: &[u8], n: usize, row: &mut [u16]) -> usize {
+    write_cells(line, row, 0);
+    let next = valued(out, at, b'D', n);
+    cells(out, next, row, n)
+}
+
+fn data_shown(out: &mut [u8], at: usize, line: &[u8], n: usize) -> usize {
+    let mut row = [0u16; 64];
+    data(out, at, line, n, &mut row)
+}
+
+// What a line says, behind 0 and its label.
+fn saying(out: &mut [u8], line: &[u8], l: LabelIn, s: Statement) -> usize {
+    let at = head(out, 0, l);
     match s {
-        Statement::UnknownWord => head(out, 4, l),
-        Statement::WrongForm => head(out, 3, l),
-        Statement::WrongOperands => head(out, 5, l),
-        Statement::TooDeep => head(out, 8, l),
-        Statement::OutOfRange => head(out, 6, l),
-        Statement::ByZero => head(out, 7, l),
-        Statement::Nothing => {
-            let at = head(out, 0, l);
-            letter(out, at, b'N')
-        }
-        Statement::Instruction(op, first, second) => {
-            let at = head(out, 0, l);
-            instruction(out, at, op, first, second)
-        }
-        Statement::Org(v) => {
-            let at = head(out, 0, l);
-            valued(out, at, b'O', v as usize)
-        }
-        Statement::Equ(v) => {
-            let at = head(out, 0, l);
-            valued(out, at, b'Q', v as usize)
-        }
-        Statement::Res(v) => {
-            let at = head(out, 0, l);
-            valued(out, at, b'R', v as usize)
-        }
-        Statement::Data(n, _) => {
-            let at = head(out, 0, l);
-            valued(out, at, b'D', n)
-        }
-        Statement::End => {
-            let at = head(out, 0, l);
-            letter(out, at, b'E')
-        }
+        Statement::Nothing => letter(out, at, b'N'),
+        Statement::Instruction(op, first, second) => instruction(out, at, op, first, second),
+        Statement::Org(v) => valued(out, at, b'O', v as usize),
+        Statement::Equ(v) => valued(out, at, b'Q', v as usize),
+        Statement::Res(v) => valued(out, at, b'R', v as usize),
+        Statement::Data(n) => data_shown(out, at, line, n),
+        Statement::End => letter(out, at, b'E'),
+    }
+}
+
+// The whole reply but its line end.
+fn reply(out: &mut [u8], line: &[u8], l: LabelIn, s: StatementRead) -> usize {
+    match s {
+        StatementRead::Passes(said) => saying(out, line, l, said),
+        StatementRead::Fails(f) => head(out, number_of(f) as usize, l),
     }
 }
 
@@ -120,6 +139,6 @@ pub(crate) fn answer(line: &[u8]) {
     let read = read_line(line);
     let l = read.label;
     let s = read.statement;
-    let at = reply(&mut out, l, s);
+    let at = reply(&mut out, line, l, s);
     write(&mut out, at);
 }

@@ -2,7 +2,7 @@
 ghost use mathlib.Core.Path.{_≡_};
 ghost use lib.ListN.{length};
 
-// Room for a reply, sixteen numbers of 20 digits with blanks; as much is read at once.
+// Room for a reply: 64 cells behind a number and three places are 407 bytes at most. As much is read at once.
 pub(crate) fn room() -> [u8; 512]
     ensures { λ r. ⌜ 512 ≡ length r ⌝ }
 {

@@ -9,41 +9,43 @@ use Rattle.tokens.specs.declared.Kind.the-variants as K
 use Rattle.tokens.specs.declared.Token.{Token}
 use Rattle.names.specs.Names.{wordOf}
 use Rattle.names.specs.declared.Word.{Word}
-use Rattle.values.proofs.Rows.{row-of}
+use Rattle.tokens.proofs.Heads.{row-of}
+use Rattle.values.specs.declared.LabelIn.the-variants.{Named}
 use Rattle.operands.specs.Operands.{wordAt}
 use Rattle.statements.specs.Reading.{isWord, isColon, labelled, labelRead, afterLabel, byWord, statementRead}
 use Rattle.statements.specs.Parts.{nowhere, LabelDone}
 use Rattle.statements.specs.declared.Labelled.{Labelled}
-use Rattle.statements.specs.declared.LineLabel.the-variants.{Named}
-use Rattle.statements.specs.declared.Statement.{Statement}
-use Rattle.statements.specs.declared.Statement.the-variants.{Nothing, WrongForm}
+use Rattle.statements.specs.declared.Failure.the-variants.{WrongForm}
+use Rattle.statements.specs.declared.Statement.the-variants.{Nothing}
+use Rattle.statements.specs.declared.StatementRead.{StatementRead}
+use Rattle.statements.specs.declared.StatementRead.the-variants.{Passes, Fails}
 use Rattle.statements.proofs.Labelling.{never, word-kind, colon-kind}
 
 -- ---- the statement's word
 
 -- what the code says by the word that it found
-pub said-by : (line : List ℕ) (w : Token) {x y : Word} {st : Statement} → st ≡ byWord line y w (tokensFrom line (w .next .at)) → x ≡ y
-    → st ≡ byWord line x w (tokensFrom line (w .next .at))
-said-by line w e f = e ∙ sym (ap (λ (z : Word). byWord line z w (tokensFrom line (w .next .at))) f)
+pub said-by : (line : List ℕ) (at : ℕ) {x y : Word} {st : StatementRead} → st ≡ byWord line y (tokensFrom line at) → x ≡ y
+    → st ≡ byWord line x (tokensFrom line at)
+said-by line at e f = e ∙ sym (ap (λ (z : Word). byWord line z (tokensFrom line at)) f)
 
 module _ (line : List ℕ) (at : ℕ) {w : Token} (t : w ≡ tokenAt line at) where
   kind-at : {k : Kind} → w .kind ≡ k → tokenAt line at .kind ≡ k
   kind-at e = ap (λ (v : Token). v .kind) (sym t) ∙ e
 
-  pub ended : w .kind ≡ K.End → Nothing ≡ statementRead line (tokensFrom line at)
+  pub ended : w .kind ≡ K.End → Passes Nothing ≡ statementRead line (tokensFrom line at)
   unfolding statementRead
   ended e = sym (ap (statementRead line) (row-of line at (kind-at e)))
 
   -- a row of no word first
-  no-word-read : (ts : List Token) → isWord (tokenAt line at .kind) ≡ false → statementRead line (tokenAt line at ∷ ts) ≡ WrongForm
+  no-word-read : (ts : List Token) → isWord (tokenAt line at .kind) ≡ false → statementRead line (tokenAt line at ∷ ts) ≡ Fails WrongForm
   unfolding statementRead
   no-word-read ts f = rw f
 
-  pub no-word : (k : Kind) → w .kind ≡ k → isWord k ≡ false → (k ≡ K.End → ⊥) → WrongForm ≡ statementRead line (tokensFrom line at)
+  pub no-word : (k : Kind) → w .kind ≡ k → isWord k ≡ false → (k ≡ K.End → ⊥) → Fails WrongForm ≡ statementRead line (tokensFrom line at)
   no-word k e f n = sym (ap (statementRead line) (row-of line at (kind-at e)) ∙ go k (kind-at e) f n)
     where
       go : (j : Kind) → tokenAt line at .kind ≡ j → isWord j ≡ false → (j ≡ K.End → ⊥)
-          → statementRead line (afterKind j (tokenAt line at) (tokensFrom line)) ≡ WrongForm
+          → statementRead line (afterKind j (tokenAt line at) (tokensFrom line)) ≡ Fails WrongForm
       go K.End e f n = absurd (n refl)
       go K.Stray e f n = no-word-read [] (ap isWord e ∙ f)
       go K.Word e f n = never (cc)
@@ -51,7 +53,7 @@ module _ (line : List ℕ) (at : ℕ) {w : Token} (t : w ≡ tokenAt line at) wh
       go K.Text e f n = no-word-read (tokensFrom line (tokenAt line at .next .at)) (ap isWord e ∙ f)
       go (K.Mark b) e f n = no-word-read (tokensFrom line (tokenAt line at .next .at)) (ap isWord e ∙ f)
 
-  pub by-its-word : {x : Word} {st : Statement} → w .kind ≡ K.Word → x ≡ wordOf (wordAt line w) → st ≡ byWord line x w (tokensFrom line (w .next .at))
+  pub by-its-word : {x : Word} {st : StatementRead} → w .kind ≡ K.Word → x ≡ wordOf (wordAt line w) → st ≡ byWord line x (tokensFrom line (w .next .at))
       → st ≡ statementRead line (tokensFrom line at)
   unfolding statementRead
   by-its-word {x} e f g = g ∙ sym (ap (statementRead line) row ∙ rw (e, f))

@@ -7,7 +7,6 @@ use native.Mathlib.Omega.{arith}
 use lib.Dec.{leb}
 use lib.IntN.{ℤ}
 use lib.ListN.{length}
-use Rattle.numerals.specs.declared.Cursor.{Cursor}
 use Rattle.tokens.specs.Reading.{tokenAt, afterKind, tokensFrom}
 use Rattle.tokens.specs.declared.Kind.{Kind}
 use Rattle.tokens.specs.declared.Kind.the-variants as K
@@ -35,10 +34,13 @@ use Rattle.items.specs.Reading as Listed
 use Rattle.items.specs.declared.ItemsRead.the-variants as I
 use Rattle.items.proofs.Top.{items-exactly}
 use Rattle.statements.specs.Statements.{Reading, nothing, instruction, org, equ, res, cells, end, StatementWord, Body, empty, opcode, origin, equals, reserve, items, ends}
-use Rattle.statements.specs.Checks.{leastUnsigned, leastSigned, worthResult, treeResult, instructionResult, judged}
+use Rattle.statements.specs.Checks.{leastUnsigned, leastSigned}
+use Rattle.statements.specs.Judging.{worthResult, treeResult, instructionResult, judged}
 use Rattle.statements.specs.Reading.{isWord, expressionResult, itemsResult, byWord, statementRead}
+use Rattle.statements.specs.declared.Failure.the-variants.{UnknownWord, WrongForm, TooDeep, OutOfRange}
 use Rattle.statements.specs.declared.Statement.{Statement}
-use Rattle.statements.specs.declared.Statement.the-variants.{Org, Equ, Res, Data, End, UnknownWord, WrongForm, TooDeep, OutOfRange}
+use Rattle.statements.specs.declared.Statement.the-variants.{Org, Equ, Res, Data}
+use Rattle.statements.specs.declared.StatementRead.the-variants.{Passes, Fails}
 use Rattle.statements.proofs.Labelling.{never}
 
 module _ (line : List ℕ) where
@@ -49,29 +51,29 @@ module _ (line : List ℕ) where
   -- what the tokens say, and what the reader answers
   pub data Found (ts : List Token) : Type 0 where
     says : (r : Reading) → Body line ts r → ((r′ : Reading) → Body line ts r′ → r ≡ r′) → (UnknownHere ts → ⊥) → statementRead line ts ≡ judged r → Found ts
-    unknown : UnknownHere ts → ((r : Reading) → Body line ts r → ⊥) → statementRead line ts ≡ UnknownWord → Found ts
-    wrong : (UnknownHere ts → ⊥) → ((r : Reading) → Body line ts r → ⊥) → statementRead line ts ≡ WrongForm → Found ts
+    unknown : UnknownHere ts → ((r : Reading) → Body line ts r → ⊥) → statementRead line ts ≡ Fails UnknownWord → Found ts
+    wrong : (UnknownHere ts → ⊥) → ((r : Reading) → Body line ts r → ⊥) → statementRead line ts ≡ Fails WrongForm → Found ts
 
   -- what a reading is by the statement's word
-  abbrev ReadBy : Word → Token → List Token → Reading → Type 0
-  ReadBy (W.Instructs op) w ts r = (os : List Written) × OperandField line ts os × (r ≡ instruction op os)
-  ReadBy W.Org w ts r = (e : Tree) × Expression ts e × (r ≡ org e)
-  ReadBy W.Equ w ts r = (e : Tree) × Expression ts e × (r ≡ equ e)
-  ReadBy W.Res w ts r = (e : Tree) × Expression ts e × (r ≡ res e)
-  ReadBy W.Data w ts r = (is : List Item) × Items line ts is × (r ≡ cells w is)
-  ReadBy W.End w ts r = r ≡ end
-  ReadBy W.Unknown w ts r = ⊥
+  abbrev ReadBy : Word → List Token → Reading → Type 0
+  ReadBy (W.Instructs op) ts r = (os : List Written) × OperandField line ts os × (r ≡ instruction op os)
+  ReadBy W.Org ts r = (e : Tree) × Expression ts e × (r ≡ org e)
+  ReadBy W.Equ ts r = (e : Tree) × Expression ts e × (r ≡ equ e)
+  ReadBy W.Res ts r = (e : Tree) × Expression ts e × (r ≡ res e)
+  ReadBy W.Data ts r = (is : List Item) × Items line ts is × (r ≡ cells is)
+  ReadBy W.End ts r = r ≡ end
+  ReadBy W.Unknown ts r = ⊥
 
   abbrev wordAs : Token → Word
   wordAs w = wordOf (wordAt line w)
 
-  read-by : {w : Token} {ts : List Token} {r : Reading} → Body line (w ∷ ts) r → ReadBy (wordAs w) w ts r
-  read-by (opcode {w} {ts} {op} {os} s f) = subst (λ (x : Word). ReadBy x w ts (instruction op os)) (sym (s .means)) (os, f, refl)
-  read-by (origin {w} {ts} {e} s f) = subst (λ (x : Word). ReadBy x w ts (org e)) (sym (s .means)) (e, f, refl)
-  read-by (equals {w} {ts} {e} s f) = subst (λ (x : Word). ReadBy x w ts (equ e)) (sym (s .means)) (e, f, refl)
-  read-by (reserve {w} {ts} {e} s f) = subst (λ (x : Word). ReadBy x w ts (res e)) (sym (s .means)) (e, f, refl)
-  read-by (items {w} {ts} {is} s f) = subst (λ (x : Word). ReadBy x w ts (cells w is)) (sym (s .means)) (is, f, refl)
-  read-by (ends {w} {ts} s) = subst (λ (x : Word). ReadBy x w ts end) (sym (s .means)) refl
+  read-by : {w : Token} {ts : List Token} {r : Reading} → Body line (w ∷ ts) r → ReadBy (wordAs w) ts r
+  read-by (opcode {w} {ts} {op} {os} s f) = subst (λ (x : Word). ReadBy x ts (instruction op os)) (sym (s .means)) (os, f, refl)
+  read-by (origin {w} {ts} {e} s f) = subst (λ (x : Word). ReadBy x ts (org e)) (sym (s .means)) (e, f, refl)
+  read-by (equals {w} {ts} {e} s f) = subst (λ (x : Word). ReadBy x ts (equ e)) (sym (s .means)) (e, f, refl)
+  read-by (reserve {w} {ts} {e} s f) = subst (λ (x : Word). ReadBy x ts (res e)) (sym (s .means)) (e, f, refl)
+  read-by (items {w} {ts} {is} s f) = subst (λ (x : Word). ReadBy x ts (cells is)) (sym (s .means)) (is, f, refl)
+  read-by (ends {w} {ts} s) = subst (λ (x : Word). ReadBy x ts end) (sym (s .means)) refl
 
   body-word : {w : Token} {ts : List Token} {r : Reading} → Body line (w ∷ ts) r → w .kind ≡ K.Word
   body-word (opcode s f) = s .word
@@ -91,11 +93,11 @@ module _ (least : ℤ) (makes : ℕ → Statement) where
   unfolding expressionRead treeResult
   tree-result {ts} {e} s = ap (λ r. expressionResult least makes (Expressions.judged r)) (Trees.tree-exactly ts .1 s) ∙ go (leb (depth e) deepest)
     where
-      go : (b : Bool) → expressionResult least makes (cond b (E.Read (worthOf e)) E.TooDeep) ≡ cond b (worthResult least makes (worthOf e)) TooDeep
+      go : (b : Bool) → expressionResult least makes (cond b (E.Read (worthOf e)) E.TooDeep) ≡ cond b (worthResult least makes (worthOf e)) (Fails TooDeep)
       go true = refl
       go false = refl
 
-  no-tree-result : {ts : List Token} → ((e : Tree) → Expression ts e → ⊥) → expressionResult least makes (expressionRead ts) ≡ WrongForm
+  no-tree-result : {ts : List Token} → ((e : Tree) → Expression ts e → ⊥) → expressionResult least makes (expressionRead ts) ≡ Fails WrongForm
   no-tree-result {ts} n = ap (expressionResult least makes) (Trees.wrong-exactly ts .1 n)
 
 operands-result : (line : List ℕ) (op : Opcode) (ts : List Token) {o : Walk.Result} → operandsOf line ts ≡ o
@@ -103,16 +105,16 @@ operands-result : (line : List ℕ) (op : Opcode) (ts : List Token) {o : Walk.Re
 unfolding Operands.instructionRead
 operands-result line op ts f = ap (λ o. instructionResult op (Operands.judgedForm op o)) f
 
-items-result : (line : List ℕ) (c : Cursor) (ts : List Token) {o : Listed.Result} → Listed.walk line Listed.item ts ≡ o
-    → itemsResult c (Listed.itemsRead line ts) ≡ itemsResult c (Listed.judged o)
+items-result : (line : List ℕ) (ts : List Token) {o : Listed.Result} → Listed.walk line Listed.item ts ≡ o
+    → itemsResult (Listed.itemsRead line ts) ≡ itemsResult (Listed.judged o)
 unfolding Listed.itemsRead
-items-result line c ts f = ap (λ o. itemsResult c (Listed.judged o)) f
+items-result line ts f = ap (λ o. itemsResult (Listed.judged o)) f
 
-cells-result : (w : Token) (is : List Item) → itemsResult (w .next) (Listed.judged (Listed.reads is)) ≡ judged (cells w is)
+cells-result : (is : List Item) → itemsResult (Listed.judged (Listed.reads is)) ≡ judged (cells is)
 unfolding judged
-cells-result w is = go (allInRange is)
+cells-result is = go (allInRange is)
   where
-    go : (b : Bool) → itemsResult (w .next) (cond b (I.Cells (length (cellsOf is))) I.OutOfRange) ≡ cond b (Data (length (cellsOf is)) (w .next)) OutOfRange
+    go : (b : Bool) → itemsResult (cond b (I.Cells (length (cellsOf is))) I.OutOfRange) ≡ cond b (Passes (Data (length (cellsOf is)))) (Fails OutOfRange)
     go true = refl
     go false = refl
 
@@ -125,25 +127,25 @@ module _ (line : List ℕ) where
 
     module _ (x : Word) (e : wordOf (wordAt line w) ≡ x) where
       -- the reader goes by the word
-      goes-by : statementRead line (w ∷ ts) ≡ byWord line x w ts
+      goes-by : statementRead line (w ∷ ts) ≡ byWord line x ts
       unfolding statementRead
       goes-by = rw (k, e)
 
       abbrev word-is : StatementWord line w x
       word-is = record { word = k; means = e }
 
-      by-is : (r : Reading) → Body line (w ∷ ts) r → ReadBy line x w ts r
-      by-is r b = subst (λ (y : Word). ReadBy line y w ts r) e (read-by line b)
+      by-is : (r : Reading) → Body line (w ∷ ts) r → ReadBy line x ts r
+      by-is r b = subst (λ (y : Word). ReadBy line y ts r) e (read-by line b)
 
       known : (x ≡ W.Unknown → ⊥) → UnknownHere line (w ∷ ts) → ⊥
       known n u = n (sym e ∙ unknown-word line u .means)
 
       by-tree : (least : ℤ) (makes : ℕ → Statement) (mk : Tree → Reading)
           → (x ≡ W.Unknown → ⊥)
-          → byWord line x w ts ≡ expressionResult least makes (expressionRead ts)
+          → byWord line x ts ≡ expressionResult least makes (expressionRead ts)
           → ((t : Tree) → treeResult least makes t ≡ judged (mk t))
           → ((t : Tree) → Expression ts t → Body line (w ∷ ts) (mk t))
-          → ((r : Reading) → ReadBy line x w ts r → (t : Tree) × Expression ts t × (r ≡ mk t))
+          → ((r : Reading) → ReadBy line x ts r → (t : Tree) × Expression ts t × (r ≡ mk t))
           → Found line (w ∷ ts)
       by-tree least makes mk n goes comes body back = go (tree-found ts)
         where
@@ -178,14 +180,14 @@ module _ (line : List ℕ) where
       where
         go : (o : Listed.Result) → Listed.walk line Listed.item ts ≡ o → Found line (w ∷ ts)
         go (Listed.reads is) f =
-            says (cells w is) (items (word-is W.Data e) (items-exactly line (w .next .at) .0 f))
+            says (cells is) (items (word-is W.Data e) (items-exactly line (w .next .at) .0 f))
             (λ r b. let h = by-is W.Data e r b in let g = items-exactly line (w .next .at) .1 (h .1) in cc (h .2, g, f))
             (known W.Data e (λ z. never (cc)))
-            (goes-by W.Data e ∙ items-result line (w .next) ts f ∙ cells-result w is)
+            (goes-by W.Data e ∙ items-result line ts f ∙ cells-result is)
         go Listed.wrong f =
             wrong (known W.Data e (λ z. never (cc)))
             (λ r b. let h = by-is W.Data e r b in let g = items-exactly line (w .next .at) .1 (h .1) in never (cc))
-            (goes-by W.Data e ∙ items-result line (w .next) ts f)
+            (goes-by W.Data e ∙ items-result line ts f)
 
     by-word : (x : Word) → wordOf (wordAt line w) ≡ x → Found line (w ∷ ts)
     unfolding judged

@@ -1,10 +1,15 @@
 -- Laws of the definitions, by topic; Top.antt restates what the crate promises.
 pub mod Labelling
-pub mod Later
-pub mod Bodies
-pub mod Lines
-pub mod Order
-pub mod Ranges
 pub mod Beginning
+pub mod Ranges
+pub mod Bodies
+pub mod FirstFails
+pub mod Judgements
+pub mod Texts
+pub mod Lines
+pub mod Places
+pub mod CellsGiven
+pub mod Passing
+pub mod Claims
 pub mod Examples
 pub mod Top

@@ -1,199 +1,229 @@
--- A whole line: it has one reading, or an unknown word, or wrong form, and the reader answers accordingly. Top.antt restates these.
+-- A whole line: it has one reading, or an unknown word, or wrong form, and the reader answers with the first check that fails.
 use Prim.Native.Nat.{ℕ}
-use mathlib.Core.Bool.{true, false}
-use mathlib.Core.List.{List, _∷_}
+use mathlib.Core.List.{List, [], _∷_}
 use mathlib.Core.Logic.{_↔_, _⊎_, inl, inr}
 use mathlib.Core.Path.{_≡_, refl, sym, ap, subst, _∙_}
+use native.Mathlib.Omega.{arith}
+use Rattle.tokens.specs.Rows.{RowOf}
 use Rattle.tokens.specs.Reading.{tokensFrom}
 use Rattle.tokens.specs.declared.Token.{Token}
+use Rattle.tokens.proofs.Top.{line-row, one-row}
+use Rattle.names.specs.declared.Word.the-variants as W
+use Rattle.values.specs.declared.LabelIn.{LabelIn}
+use Rattle.values.specs.declared.LabelIn.the-variants.{Absent, Named}
 use Rattle.values.specs.declared.Name.{Name}
-use Rattle.statements.specs.Statements.{Reading, Label, Body, LineText, labelled, unlabelled, behind, first}
-use Rattle.statements.specs.Statements as Rule
-use Rattle.statements.specs.Checks.{judged, refusalOf}
-use Rattle.statements.specs.Reading.{labelRead, afterLabel, statementRead, lineRead}
-use Rattle.statements.specs.declared.LineLabel.{LineLabel}
-use Rattle.statements.specs.declared.LineLabel.the-variants.{Absent, Named}
+use Rattle.statements.specs.Statements.{Reading, end, Label, ends, LineText, labelled, unlabelled, WordIn, behind, first, Says, Labelled, HasWord, UnknownWord, NoReading}
+use Rattle.statements.specs.FirstFailing.{Check, check, Pass, First}
+use Rattle.statements.specs.Checks.{Unfit, TooDeep, NumberOut, ZeroDivisor, ResultOut, OfReading, checks}
+use Rattle.statements.specs.Judging.{numberOf, judged}
+use Rattle.statements.specs.Reading.{lineRead}
+use Rattle.statements.specs.declared.Failure.{Failure}
+use Rattle.statements.specs.declared.Failure.the-variants as F
 use Rattle.statements.specs.declared.LineRead.{LineRead}
 use Rattle.statements.specs.declared.Statement.{Statement}
-use Rattle.statements.specs.declared.Statement.the-variants.{UnknownWord, WrongForm}
-use Rattle.statements.proofs.Labelling.{never, Labels, label-is, none-is, labels, label-read, label-after, label-once, behind-label}
-use Rattle.statements.proofs.Later.{later, judged-later}
-use Rattle.statements.proofs.Bodies.{UnknownHere, here, Found, says, unknown, wrong, found}
-
-abbrev pub NoLabel : List Token → Type 0
-NoLabel ts = (n : Name) (us : List Token) → Label ts n us → ⊥
-
-module _ (line : List ℕ) where
-  abbrev pub NoReading : List Token → Type 0
-  NoReading ts = (l : LineLabel) (r : Reading) → LineText line ts l r → ⊥
-
-  -- ---- a line with a label, and one without
-
-  text-behind : {ts us : List Token} {n : Name} {l : LineLabel} {r : Reading} → Label ts n us → LineText line ts l r
-      → (Named n ≡ l) × Body line us r
-  text-behind {r = r} a (labelled b body) =
-      let h = label-once a b in
-      (ap Named (h .0), subst (λ (vs : List Token). Body line vs r) (sym (h .1)) body)
-  text-behind {us = us} {n = n} a (unlabelled bare body) = absurd (bare n us a)
-
-  text-first : {ts : List Token} {l : LineLabel} {r : Reading} → NoLabel ts → LineText line ts l r → (Absent ≡ l) × Body line ts r
-  text-first none (labelled {us = us} {n = n} b body) = absurd (none n us b)
-  text-first none (unlabelled bare body) = (refl, body)
-
-  unknown-behind : {ts us : List Token} {n : Name} → Label ts n us → Rule.UnknownWord line ts → UnknownHere line us
-  unknown-behind a (behind b s) = subst (UnknownHere line) (sym (label-once a b .1)) (here s)
-  unknown-behind {us = us} {n = n} a (first bare s) = absurd (bare n us a)
-
-  unknown-first : {ts : List Token} → NoLabel ts → Rule.UnknownWord line ts → UnknownHere line ts
-  unknown-first none (behind {us = us} {n = n} {w = w} b s) = absurd (none n (w ∷ us) b)
-  unknown-first none (first bare s) = here s
-
-  is-behind : {ts us : List Token} {n : Name} → Label ts n us → UnknownHere line us → Rule.UnknownWord line ts
-  is-behind a (here s) = behind a s
-
-  is-first : {ts : List Token} → NoLabel ts → UnknownHere line ts → Rule.UnknownWord line ts
-  is-first none (here s) = first none s
-
-  -- ---- the three cases, with the reader's answer
-
-  abbrev answer : List Token → LineRead
-  answer ts = record { label = labelRead ts; statement = statementRead line (afterLabel ts) }
-
-  pub data Verdict (ts : List Token) : Type 0 where
-    reads : (l : LineLabel) (r : Reading) → LineText line ts l r → ((l′ : LineLabel) (r′ : Reading) → LineText line ts l′ r′ → (l ≡ l′) × (r ≡ r′))
-        → (Rule.UnknownWord line ts → ⊥) → answer ts ≡ record { label = l; statement = judged r } → Verdict ts
-    no-such-word : Rule.UnknownWord line ts → NoReading ts → answer ts .statement ≡ UnknownWord → Verdict ts
-    no-form : (Rule.UnknownWord line ts → ⊥) → NoReading ts → answer ts .statement ≡ WrongForm → Verdict ts
-
-  answered : (ts us : List Token) {l : LineLabel} {st : Statement} → labelRead ts ≡ l → afterLabel ts ≡ us → statementRead line us ≡ st
-      → answer ts ≡ record { label = l; statement = st }
-  answered ts us e f g = rw (e, f, g)
-
-  verdict-behind : {ts us : List Token} {n : Name} → Label ts n us → Found line us → Verdict ts
-  verdict-behind {ts} {us} {n} a (says r body once known e) =
-      reads (Named n) r (labelled a body) (λ l′ r′ x. let h = text-behind a x in (h .0, once r′ (h .1))) (λ u. known (unknown-behind a u))
-      (answered ts us (label-read a) (label-after a) e)
-  verdict-behind a (unknown u unread e) =
-      no-such-word (is-behind a u) (λ l r x. unread r (text-behind a x .1)) (ap (statementRead line) (label-after a) ∙ e)
-  verdict-behind a (wrong known unread e) =
-      no-form (λ u. known (unknown-behind a u)) (λ l r x. unread r (text-behind a x .1)) (ap (statementRead line) (label-after a) ∙ e)
-
-  verdict-first : {ts : List Token} → NoLabel ts → labelRead ts ≡ Absent → afterLabel ts ≡ ts → Found line ts → Verdict ts
-  verdict-first {ts} none f g (says r body once known e) =
-      reads Absent r (unlabelled none body) (λ l′ r′ x. let h = text-first none x in (h .0, once r′ (h .1))) (λ u. known (unknown-first none u))
-      (answered ts ts f g e)
-  verdict-first none f g (unknown u unread e) =
-      no-such-word (is-first none u) (λ l r x. unread r (text-first none x .1)) (ap (statementRead line) g ∙ e)
-  verdict-first none f g (wrong known unread e) =
-      no-form (λ u. known (unknown-first none u)) (λ l r x. unread r (text-first none x .1)) (ap (statementRead line) g ∙ e)
-
--- a line's tokens
-abbrev pub row : List ℕ → List Token
-row line = tokensFrom line 0
+use Rattle.statements.specs.declared.StatementRead.{StatementRead}
+use Rattle.statements.specs.declared.StatementRead.the-variants.{Passes, Fails}
+use Rattle.statements.proofs.FirstFails.{first-once, pass-none, first-head, Alike, first-alike, pass-alike}
+use Rattle.statements.proofs.Judgements.{Outcome, passes, refused, readingChecks, judgement}
+use Rattle.statements.proofs.Labelling.{never, Labels, label-is, none-is, labels, label-read}
+use Rattle.statements.proofs.Texts.{TextVerdict, text-verdict}
+use Rattle.statements.proofs.Texts as T
 
 module _ (line : List ℕ) where
-  pub verdict : Verdict line (row line)
-  verdict = go (labels (row line))
+  -- the line's one row
+  abbrev row : List Token
+  row = tokensFrom line 0
+
+  its-row : {ts : List Token} → RowOf line ts → ts ≡ row
+  its-row r = one-row r (line-row line)
+
+  text-here : {l : LabelIn} {r : Reading} → Says line l r → LineText line row l r
+  text-here {l} {r} x = subst (λ (ts : List Token). LineText line ts l r) (its-row (x .row)) (x .text)
+
+  word-here : UnknownWord line → WordIn line W.Unknown row
+  word-here u = subst (WordIn line W.Unknown) (its-row (u .row)) (u .word)
+
+  pub data Verdict : Type 0 where
+    reads : (l : LabelIn) (r : Reading) → Says line l r → ((l′ : LabelIn) (r′ : Reading) → Says line l′ r′ → (l ≡ l′) × (r ≡ r′))
+        → (UnknownWord line → ⊥) → lineRead line ≡ record { label = l; statement = judged r } → Verdict
+    no-such-word : UnknownWord line → NoReading line → lineRead line .statement ≡ Fails F.UnknownWord → Verdict
+    no-form : (UnknownWord line → ⊥) → NoReading line → lineRead line .statement ≡ Fails F.WrongForm → Verdict
+
+  pub verdict : Verdict
+  unfolding lineRead
+  verdict = go (text-verdict line)
     where
-      go : Labels (row line) → Verdict line (row line)
-      go (label-is n us a) =
-          let h = behind-label line 0 a in
-          verdict-behind line a (subst (Found line) (sym (h .1)) (found line (h .0)))
-      go (none-is none f g) = verdict-first line none f g (found line 0)
+      go : TextVerdict line row → Verdict
+      go (T.reads l r t once known e) =
+          reads l r (record { tokens = row; row = line-row line; text = t }) (λ l′ r′ x. once l′ r′ (text-here x)) (λ u. known (word-here u)) e
+      go (T.no-such-word u unread e) =
+          no-such-word (record { tokens = row; row = line-row line; word = u }) (λ l r x. unread l r (text-here x)) e
+      go (T.no-form known unread e) = no-form (λ u. known (word-here u)) (λ l r x. unread l r (text-here x)) e
 
-  -- ---- what Top.antt restates
+  -- ---- one reading
 
-  pub one-reading : {l l′ : LineLabel} {r r′ : Reading} → LineText line (row line) l r → LineText line (row line) l′ r′ → (l ≡ l′) × (r ≡ r′)
+  pub one-reading : {l l′ : LabelIn} {r r′ : Reading} → Says line l r → Says line l′ r′ → (l ≡ l′) × (r ≡ r′)
   one-reading {l} {l′} {r} {r′} x y = go verdict
     where
-      go : Verdict line (row line) → (l ≡ l′) × (r ≡ r′)
+      go : Verdict → (l ≡ l′) × (r ≡ r′)
       go (reads m q t once known e) = (sym (once l r x .0) ∙ once l′ r′ y .0, sym (once l r x .1) ∙ once l′ r′ y .1)
       go (no-such-word u unread e) = absurd (unread l r x)
       go (no-form known unread e) = absurd (unread l r x)
 
-  pub read-judged : {l : LineLabel} {r : Reading} → LineText line (row line) l r → lineRead line ≡ record { label = l; statement = judged r }
-  unfolding lineRead
+  pub read-judged : {l : LabelIn} {r : Reading} → Says line l r → lineRead line ≡ record { label = l; statement = judged r }
   read-judged {l} {r} x = go verdict
     where
-      go : Verdict line (row line) → answer line (row line) ≡ record { label = l; statement = judged r }
+      go : Verdict → lineRead line ≡ record { label = l; statement = judged r }
       go (reads m q t once known e) = let h = once l r x in rw (← h .0, ← h .1) e
       go (no-such-word u unread e) = absurd (unread l r x)
       go (no-form known unread e) = absurd (unread l r x)
 
-  pub text-known : {l : LineLabel} {r : Reading} → LineText line (row line) l r → Rule.UnknownWord line (row line) → ⊥
-  text-known {l} {r} x u = go verdict
+  pub says-known : {l : LabelIn} {r : Reading} → Says line l r → UnknownWord line → ⊥
+  says-known {l} {r} x u = go verdict
     where
-      go : Verdict line (row line) → ⊥
+      go : Verdict → ⊥
       go (reads m q t once known e) = known u
       go (no-such-word u unread e) = unread l r x
       go (no-form known unread e) = known u
 
-  -- the answer to a reading is neither 4 nor 3
-  not-later : {st : Statement} {l : LineLabel} (r : Reading) {X : Type 0} → later st ≡ false → lineRead line .statement ≡ st
-      → lineRead line ≡ record { label = l; statement = judged r } → X
-  not-later r n f e =
-      let g : lineRead line .statement ≡ judged r = ap (λ (a : LineRead). a .statement) e in
-      let z : true ≡ false = sym (judged-later r) ∙ ap later (sym g ∙ f) ∙ n in
-      never (cc)
+  -- ---- the first check that fails
 
-  pub unknown-exactly : (lineRead line .statement ≡ UnknownWord) ↔ Rule.UnknownWord line (row line)
-  unfolding lineRead
-  unknown-exactly = go verdict
+  -- the checks of the line's reading
+  abbrev readings : List (Check ℕ)
+  readings =
+      check 5 (OfReading line Unfit)
+      ∷ check 8 (OfReading line TooDeep)
+      ∷ check 6 (OfReading line NumberOut)
+      ∷ check 7 (OfReading line ZeroDivisor)
+      ∷ check 6 (OfReading line ResultOut)
+      ∷ []
+
+  module _ {l : LabelIn} {r : Reading} (x : Says line l r) where
+    -- what holds of the reading holds of the line's reading, as there is no other
+    of-reading : (P : Reading → Type 0) → P r ↔ OfReading line P
+    of-reading P = (λ p. (l, r, x, p), λ h. subst P (sym (one-reading x (h .2) .1)) (h .3))
+
+    alike : Alike (readingChecks r) readings
+    unfolding Alike
+    alike =
+        (refl, of-reading Unfit, (refl, of-reading TooDeep, (refl, of-reading NumberOut, (refl, of-reading ZeroDivisor, (refl, of-reading ResultOut, tt)))))
+
+    read-outcome : Outcome (readingChecks r) (judged r) → lineRead line .statement ≡ judged r → Outcome (checks line) (lineRead line .statement)
+    unfolding checks First Pass
+    read-outcome (passes s e p) f =
+        passes s (f ∙ e) (says-known x, (λ n. n l r x, pass-alike (readingChecks r) readings alike p))
+    read-outcome (refused g e h) f =
+        refused g (f ∙ e) (inr (says-known x, inr (λ n. n l r x, first-alike (readingChecks r) readings (numberOf g) alike h)))
+
+  pub outcome : Outcome (checks line) (lineRead line .statement)
+  unfolding checks First
+  outcome = go verdict
     where
-      go : Verdict line (row line) → (lineRead line .statement ≡ UnknownWord) ↔ Rule.UnknownWord line (row line)
-      go (reads l r t once known e) = (λ f. not-later r refl f e, λ u. absurd (known u))
-      go (no-such-word u unread e) = (λ f. u, λ f. e)
-      go (no-form known unread e) = (λ f. never (cc), λ u. absurd (known u))
+      go : Verdict → Outcome (checks line) (lineRead line .statement)
+      go (reads l r x once known e) = read-outcome x (judgement r) (ap (λ (a : LineRead). a .statement) e)
+      go (no-such-word u unread e) = refused F.UnknownWord e (inl (u, refl))
+      go (no-form known unread e) = refused F.WrongForm e (inr (known, inl (unread, refl)))
 
-  pub wrong-exactly : (lineRead line .statement ≡ WrongForm) ↔ ((Rule.UnknownWord line (row line) → ⊥) × NoReading line (row line))
-  unfolding lineRead
-  wrong-exactly = go verdict
+  pub refused-exactly : (n : ℕ) → ((f : Failure) × (lineRead line .statement ≡ Fails f) × (numberOf f ≡ n)) ↔ First (checks line) n
+  refused-exactly n = (λ h. out (h .0) (h .1) (h .2) outcome, λ f. back f outcome)
     where
-      go : Verdict line (row line) → (lineRead line .statement ≡ WrongForm) ↔ ((Rule.UnknownWord line (row line) → ⊥) × NoReading line (row line))
-      go (reads l r t once known e) = (λ f. not-later r refl f e, λ h. absurd (h .1 l r t))
-      go (no-such-word u unread e) = (λ f. never (cc), λ h. absurd (h .0 u))
-      go (no-form known unread e) = (λ f. (known, unread), λ h. e)
+      out : (f : Failure) → lineRead line .statement ≡ Fails f → numberOf f ≡ n → Outcome (checks line) (lineRead line .statement)
+          → First (checks line) n
+      out f e q (passes s g p) = never (cc)
+      out f e q (refused k g h) = let i : k ≡ f = cc in subst (First (checks line)) (ap numberOf i ∙ q) h
 
-  pub every-line : ((l : LineLabel) × (r : Reading) × LineText line (row line) l r)
-      ⊎ (Rule.UnknownWord line (row line) ⊎ ((Rule.UnknownWord line (row line) → ⊥) × NoReading line (row line)))
+      back : First (checks line) n → Outcome (checks line) (lineRead line .statement)
+          → (f : Failure) × (lineRead line .statement ≡ Fails f) × (numberOf f ≡ n)
+      back f (passes s g p) = absurd (pass-none (checks line) n p f)
+      back f (refused k g h) = (k, g, first-once (checks line) h f)
+
+  pub passes-exactly : ((s : Statement) × (lineRead line .statement ≡ Passes s)) ↔ Pass (checks line)
+  passes-exactly = (λ h. out (h .0) (h .1) outcome, λ p. back p outcome)
+    where
+      out : (s : Statement) → lineRead line .statement ≡ Passes s → Outcome (checks line) (lineRead line .statement) → Pass (checks line)
+      out s e (passes s′ g p) = p
+      out s e (refused k g h) = never (cc)
+
+      back : Pass (checks line) → Outcome (checks line) (lineRead line .statement) → (s : Statement) × (lineRead line .statement ≡ Passes s)
+      back p (passes s g q) = (s, g)
+      back p (refused k g h) = absurd (pass-none (checks line) (numberOf k) p h)
+
+  -- ---- 4, and 3
+
+  pub unknown-exactly : (lineRead line .statement ≡ Fails F.UnknownWord) ↔ UnknownWord line
+  unfolding checks
+  unknown-exactly =
+      (λ e. first-head 4 (check 4 (UnknownWord line)) (check 3 (NoReading line) ∷ readings) refl (refused-exactly 4 .0 (F.UnknownWord, e, refl)), λ u. go u verdict)
+    where
+      go : UnknownWord line → Verdict → lineRead line .statement ≡ Fails F.UnknownWord
+      go u (reads l r x once known e) = absurd (known u)
+      go u (no-such-word v unread e) = e
+      go u (no-form known unread e) = absurd (known u)
+
+  pub form-exactly : (lineRead line .statement ≡ Fails F.WrongForm) ↔ ((UnknownWord line → ⊥) × NoReading line)
+  unfolding checks First
+  form-exactly = (λ e. out (refused-exactly 3 .0 (F.WrongForm, e, refl)), λ h. back h verdict)
+    where
+      out : First (checks line) 3 → (UnknownWord line → ⊥) × NoReading line
+      out (inl f) = absurd (omega (arith, f .1))
+      out (inr f) = (f .0, first-head 3 (check 3 (NoReading line)) readings refl (f .1))
+
+      back : (UnknownWord line → ⊥) × NoReading line → Verdict → lineRead line .statement ≡ Fails F.WrongForm
+      back h (reads l r x once known e) = absurd (h .1 l r x)
+      back h (no-such-word u unread e) = absurd (h .0 u)
+      back h (no-form known unread e) = e
+
+  pub every-line : ((l : LabelIn) × (r : Reading) × Says line l r) ⊎ (UnknownWord line ⊎ ((UnknownWord line → ⊥) × NoReading line))
   every-line = go verdict
     where
-      go : Verdict line (row line)
-          → ((l : LineLabel) × (r : Reading) × LineText line (row line) l r)
-          ⊎ (Rule.UnknownWord line (row line) ⊎ ((Rule.UnknownWord line (row line) → ⊥) × NoReading line (row line)))
-      go (reads l r t once known e) = inl (l, r, t)
+      go : Verdict → ((l : LabelIn) × (r : Reading) × Says line l r) ⊎ (UnknownWord line ⊎ ((UnknownWord line → ⊥) × NoReading line))
+      go (reads l r x once known e) = inl (l, r, x)
       go (no-such-word u unread e) = inr (inl u)
       go (no-form known unread e) = inr (inr (known, unread))
 
-  pub accepted-exactly : (refusalOf (lineRead line .statement) ≡ 0)
-      ↔ ((l : LineLabel) × (r : Reading) × LineText line (row line) l r × (refusalOf (judged r) ≡ 0))
-  unfolding lineRead
-  accepted-exactly = go verdict
-    where
-      go : Verdict line (row line) → (refusalOf (lineRead line .statement) ≡ 0)
-          ↔ ((l : LineLabel) × (r : Reading) × LineText line (row line) l r × (refusalOf (judged r) ≡ 0))
-      go (reads l r t once known e) =
-          let f : lineRead line .statement ≡ judged r = ap (λ (a : LineRead). a .statement) e in
-          (λ g. (l, r, t, ap refusalOf (sym f) ∙ g), λ h. ap refusalOf f ∙ ap (λ (q : Reading). refusalOf (judged q)) (once (h .0) (h .1) (h .2) .1) ∙ h .3)
-      go (no-such-word u unread e) = (λ g. never (cc), λ h. absurd (unread (h .0) (h .1) (h .2)))
-      go (no-form known unread e) = (λ g. never (cc), λ h. absurd (unread (h .0) (h .1) (h .2)))
+  -- ---- what passes
 
--- ---- the label
-
-module _ (line : List ℕ) where
-  pub label-exactly : (n : Name) → (lineRead line .label ≡ Named n) ↔ ((us : List Token) × Label (row line) n us)
-  unfolding lineRead
-  label-exactly n = go (labels (row line))
+  pub says-exactly : {l : LabelIn} {s : Statement}
+      → (lineRead line ≡ record { label = l; statement = Passes s }) ↔ ((r : Reading) × Says line l r × (judged r ≡ Passes s))
+  says-exactly {l} {s} = (λ e. out e verdict, λ h. read-judged (h .1) ∙ ap (λ (x : StatementRead). record { label = l; statement = x }) (h .2))
     where
-      go : Labels (row line) → (lineRead line .label ≡ Named n) ↔ ((us : List Token) × Label (row line) n us)
-      go (label-is m us a) =
-          (λ e. (us, subst (λ (q : Name). Label (row line) q us) (cc (label-read a)) a), λ h. label-read (h .1))
-      go (none-is none f g) = (λ e. never (cc), λ h. absurd (none n (h .0) (h .1)))
+      out : lineRead line ≡ record { label = l; statement = Passes s } → Verdict → (r : Reading) × Says line l r × (judged r ≡ Passes s)
+      out e (reads m r x once known f) =
+          let g : m ≡ l = ap (λ (a : LineRead). a .label) (sym f ∙ e) in
+          let h : judged r ≡ Passes s = ap (λ (a : LineRead). a .statement) (sym f ∙ e) in
+          (r, subst (λ (k : LabelIn). Says line k r) g x, h)
+      out e (no-such-word u unread f) = let g : Passes s ≡ Fails F.UnknownWord = ap (λ (a : LineRead). a .statement) (sym e) ∙ f in never (cc)
+      out e (no-form known unread f) = let g : Passes s ≡ Fails F.WrongForm = ap (λ (a : LineRead). a .statement) (sym e) ∙ f in never (cc)
 
-  pub no-label-exactly : (lineRead line .label ≡ Absent) ↔ NoLabel (row line)
-  unfolding lineRead
-  no-label-exactly = go (labels (row line))
+  -- ---- END
+
+  -- nothing is asked of what follows its word
+  pub end-exactly : ((l : LabelIn) × Says line l end) ↔ HasWord line W.End
+  end-exactly = (λ h. record { tokens = h .1 .tokens; row = h .1 .row; word = out (h .1 .text) }, λ h. back (h .row) (h .word))
     where
-      go : Labels (row line) → (lineRead line .label ≡ Absent) ↔ NoLabel (row line)
-      go (label-is m us a) = (λ e. never (cc (label-read a)), λ none. absurd (none m us a))
-      go (none-is none f g) = (λ e. none, λ h. f)
+      out : {ts : List Token} {l : LabelIn} → LineText line ts l end → WordIn line W.End ts
+      out (labelled a (ends s)) = behind a s
+      out (unlabelled none (ends s)) = first none s
+
+      back : {ts : List Token} → RowOf line ts → WordIn line W.End ts → (l : LabelIn) × Says line l end
+      back {ts} r (behind {n = n} a s) = (Named n, record { tokens = ts; row = r; text = labelled a (ends s) })
+      back {ts} r (first none s) = (Absent, record { tokens = ts; row = r; text = unlabelled none (ends s) })
+
+  -- ---- the label
+
+  pub label-exactly : (n : Name) → (lineRead line .label ≡ Named n) ↔ Labelled line n
+  unfolding lineRead
+  label-exactly n = (λ e. out (labels row) e, λ h. label-read (subst (λ (ts : List Token). Label ts n (h .rest)) (its-row (h .row)) (h .label)))
+    where
+      out : Labels row → lineRead line .label ≡ Named n → Labelled line n
+      out (label-is m us a) e =
+          let q : m ≡ n = cc (label-read a) in
+          record { tokens = row; rest = us; row = line-row line; label = subst (λ (k : Name). Label row k us) q a }
+      out (none-is none f g) e = never (cc)
+
+  pub no-label-exactly : (lineRead line .label ≡ Absent) ↔ ((n : Name) → Labelled line n → ⊥)
+  no-label-exactly = (λ e n h. let f = label-exactly n .1 h in never (cc), λ none. go (lineRead line .label) refl none)
+    where
+      go : (l : LabelIn) → lineRead line .label ≡ l → ((n : Name) → Labelled line n → ⊥) → l ≡ Absent
+      go Absent e none = refl
+      go (Named n) e none = absurd (none n (label-exactly n .0 e))

@@ -1,6 +1,6 @@
 -- The range of a statement's result, as `in_range` tests it, and the cell that keeps it; laws that the code's proofs cite.
 use Prim.Native.Nat.{ℕ, suc, _<_}
-use mathlib.Core.Bool.{Bool, true, false, cond, _&&_}
+use mathlib.Core.Bool.{Bool, true, false, cond}
 use mathlib.Core.Path.{_≡_, refl, sym, ap, _∙_}
 use native.Mathlib.Omega.{arith}
 use borrow.Author.Tests.{lt-leb, le-leb, le-ltb, ltb-true, ltb-false}
@@ -12,13 +12,15 @@ use Rattle.expressions.specs.declared.ExpressionRead.{ExpressionRead}
 use Rattle.expressions.specs.declared.ExpressionRead.the-variants as E
 use Rattle.expressions.specs.declared.Worth.{Worth}
 use Rattle.expressions.specs.declared.Worth.the-variants as W
-use Rattle.statements.specs.Checks.{resultOf, worthResult}
+use Rattle.statements.specs.Checks.{resultIn}
+use Rattle.statements.specs.Judging.{resultOf, worthResult}
 use Rattle.statements.specs.Reading.{expressionResult}
 use Rattle.statements.specs.Parts.{cellIn, worthOutcome, outcomeOf, said}
+use Rattle.statements.specs.declared.Failure.the-variants.{OutOfRange}
 use Rattle.statements.specs.declared.Outcome.{Outcome}
 use Rattle.statements.specs.declared.Outcome.the-variants.{Value, Fails}
 use Rattle.statements.specs.declared.Statement.{Statement}
-use Rattle.statements.specs.declared.Statement.the-variants.{OutOfRange}
+use Rattle.statements.specs.declared.StatementRead.the-variants as S
 use Rattle.statements.proofs.Labelling.{never}
 
 -- ---- the two tests
@@ -73,9 +75,9 @@ cell-small (negsuc n) h = omega arith
 module _ (least : ℤ) (makes : ℕ → Statement) where
   cell-said : (z : ℤ) → said makes (cellIn least z) ≡ resultOf least makes z
   unfolding cellIn resultOf
-  cell-said z = go (leZ least z && leZ z (pos 65535))
+  cell-said z = go (resultIn least z)
     where
-      go : (b : Bool) → said makes (cond b (Value (ofZ w16 z)) (Fails OutOfRange)) ≡ cond b (makes (ofZ w16 z)) OutOfRange
+      go : (b : Bool) → said makes (cond b (Value (ofZ w16 z)) (Fails OutOfRange)) ≡ cond b (S.Passes (makes (ofZ w16 z))) (S.Fails OutOfRange)
       go true = refl
       go false = refl
 

@@ -1,30 +1,25 @@
--- What is judged of a line once its form is right, in the paper's order: "5; 8; 6 or 7 in order of evaluation ..; then the statement's
--- result" (01, "Refusing a source").
-use Prim.Native.Nat.{ℕ, suc}
-use mathlib.Core.Bool.{cond, _&&_}
-use mathlib.Core.List.{List}
-use lib.Dec.{leb}
+-- The checks of a line by itself, each a statement of its own with its number beside it, in the paper's order (01, "Refusing a
+-- source": "word 4; form 3; 5; 8; 6 or 7 in order of evaluation (left, right, operation); then the statement's result").
+use Prim.Native.Nat.{ℕ, _<_}
+use mathlib.Core.Bool.{Bool, false, _&&_}
+use mathlib.Core.List.{List, [], _∷_}
+use mathlib.Core.Logic.{_⊎_}
+use mathlib.Core.Path.{_≡_}
 use lib.IntN.{ℤ, pos, negsuc}
-use lib.ListN.{length}
 use lib.Signed.{leZ}
-use mir.Syntax.{w16}
-use mir.Val.{ofZ}
-use Rattle.isa.specs.Opcodes.{countOf}
-use Rattle.isa.specs.declared.Opcode.{Opcode}
+use Rattle.numerals.specs.declared.Kept.the-variants as N
+use Rattle.values.specs.declared.LabelIn.{LabelIn}
 use Rattle.expressions.specs.Trees.{Tree, depth, deepest}
 use Rattle.expressions.specs.Worths.{worthOf}
-use Rattle.expressions.specs.declared.Worth.{Worth}
 use Rattle.expressions.specs.declared.Worth.the-variants as E
-use Rattle.operands.specs.Checks as Operands
-use Rattle.operands.specs.declared.InstructionRead.{InstructionRead}
-use Rattle.operands.specs.declared.InstructionRead.the-variants as I
-use Rattle.items.specs.Items.{cellsOf, allInRange}
-use Rattle.statements.specs.Statements.{Reading, nothing, instruction, org, equ, res, cells, end}
-use Rattle.statements.specs.declared.Statement.{Statement}
-use Rattle.statements.specs.declared.Statement.the-variants.{Nothing, Instruction, Org, Equ, Res, Data, End, UnknownWord, WrongForm, WrongOperands, TooDeep, OutOfRange, ByZero}
+use Rattle.operands.specs.Checks.{fits, operandAt, wordOf}
+use Rattle.items.specs.Items.{allInRange}
+use Rattle.statements.specs.Statements.{Reading, nothing, instruction, org, equ, res, cells, end, Says, UnknownWord, NoReading}
+use Rattle.statements.specs.FirstFailing.{Check, check}
 
--- ---- the statement's result: "`ORG e` (0..65535), `EQU e` (-32768..65535, kept modulo 65536), `RES e` (0..65535)"
+-- ---- of a reading
 
+-- "`ORG e` (0..65535), `EQU e` (-32768..65535, ..), `RES e` (0..65535)": the least result
 abbrev pub leastUnsigned : ℤ
 leastUnsigned = pos 0
 
@@ -32,66 +27,65 @@ leastUnsigned = pos 0
 abbrev pub leastSigned : ℤ
 leastSigned = negsuc 32767
 
-unfoldable pub resultOf : ℤ → (ℕ → Statement) → ℤ → Statement
-resultOf least says z = cond (leZ least z && leZ z (pos 65535)) (says (ofZ w16 z)) OutOfRange
+abbrev pub resultIn : ℤ → ℤ → Bool
+resultIn least z = leZ least z && leZ z (pos 65535)
 
--- 6 or 7 of the expression, then the result
-abbrev pub worthResult : ℤ → (ℕ → Statement) → Worth → Statement
-worthResult least says (E.Is z) = resultOf least says z
-worthResult least says E.OutOfRange = OutOfRange
-worthResult least says E.ByZero = ByZero
+-- this holds of the statement's expression, with the least result that the statement allows
+abbrev pub OfExpression : (ℤ → Tree → Type 0) → Reading → Type 0
+OfExpression P nothing = ⊥
+OfExpression P (instruction op os) = ⊥
+OfExpression P (org e) = P leastUnsigned e
+OfExpression P (equ e) = P leastSigned e
+OfExpression P (res e) = P leastUnsigned e
+OfExpression P (cells is) = ⊥
+OfExpression P end = ⊥
 
--- 8 before 6 and 7
-unfoldable pub treeResult : ℤ → (ℕ → Statement) → Tree → Statement
-treeResult least says e = cond (leb (depth e) deepest) (worthResult least says (worthOf e)) TooDeep
+-- "opcode's operand count, or kind not allowed"
+abbrev pub Unfit : Reading → Type 0
+Unfit nothing = ⊥
+Unfit (instruction op os) = fits op os ≡ false
+Unfit (org e) = ⊥
+Unfit (equ e) = ⊥
+Unfit (res e) = ⊥
+Unfit (cells is) = ⊥
+Unfit end = ⊥
 
--- ---- an opcode's operands: 5, then 6
+-- "too deep": "parentheses at most 32 deep"
+abbrev pub TooDeep : Reading → Type 0
+TooDeep = OfExpression (λ least e. deepest < depth e)
 
-abbrev pub instructionResult : Opcode → InstructionRead → Statement
-instructionResult op (I.Read a b) = Instruction op a b
-instructionResult op I.WrongForm = WrongForm
-instructionResult op I.WrongOperands = WrongOperands
-instructionResult op I.OutOfRange = OutOfRange
+-- "number, expression .. out of range": an operand's number; an item's; an expression's number or operation, before any zero divisor
+abbrev pub NumberOut : Reading → Type 0
+NumberOut nothing = ⊥
+NumberOut (instruction op os) = (wordOf (operandAt os 0) ≡ N.OutOfRange) ⊎ (wordOf (operandAt os 1) ≡ N.OutOfRange)
+NumberOut (org e) = worthOf e ≡ E.OutOfRange
+NumberOut (equ e) = worthOf e ≡ E.OutOfRange
+NumberOut (res e) = worthOf e ≡ E.OutOfRange
+NumberOut (cells is) = allInRange is ≡ false
+NumberOut end = ⊥
 
--- ---- what a reading comes to
+-- "expression divides by zero", before any number or operation is out of range
+abbrev pub ZeroDivisor : Reading → Type 0
+ZeroDivisor = OfExpression (λ least e. worthOf e ≡ E.ByZero)
 
-unfoldable pub judged : Reading → Statement
-judged nothing = Nothing
-judged (instruction op os) = instructionResult op (Operands.judged op os)
-judged (org e) = treeResult leastUnsigned Org e
-judged (equ e) = treeResult leastSigned Equ e
-judged (res e) = treeResult leastUnsigned Res e
-judged (cells w is) = cond (allInRange is) (Data (length (cellsOf is)) (w .next)) OutOfRange
-judged end = End
+-- "then the statement's result"
+abbrev pub ResultOut : Reading → Type 0
+ResultOut = OfExpression (λ least e. (z : ℤ) × (worthOf e ≡ E.Is z) × (resultIn least z ≡ false))
 
--- the paper's number for each answer: 0 where the line's own checks pass
-abbrev pub refusalOf : Statement → ℕ
-refusalOf Nothing = 0
-refusalOf (Instruction op a b) = 0
-refusalOf (Org v) = 0
-refusalOf (Equ v) = 0
-refusalOf (Res v) = 0
-refusalOf (Data n c) = 0
-refusalOf End = 0
-refusalOf UnknownWord = 4
-refusalOf WrongForm = 3
-refusalOf WrongOperands = 5
-refusalOf TooDeep = 8
-refusalOf OutOfRange = 6
-refusalOf ByZero = 7
+-- ---- of a line
 
--- how many cells a statement claims: an instruction its words, DATA its items'; "RES moves the address and claims no cell"
-abbrev pub claimOf : Statement → ℕ
-claimOf Nothing = 0
-claimOf (Instruction op a b) = suc (countOf op)
-claimOf (Org v) = 0
-claimOf (Equ v) = 0
-claimOf (Res v) = 0
-claimOf (Data n c) = n
-claimOf End = 0
-claimOf UnknownWord = 0
-claimOf WrongForm = 0
-claimOf WrongOperands = 0
-claimOf TooDeep = 0
-claimOf OutOfRange = 0
-claimOf ByZero = 0
+module _ (line : List ℕ) where
+  -- the line has a reading of which this holds
+  abbrev pub OfReading : (Reading → Type 0) → Type 0
+  OfReading P = (l : LabelIn) × (r : Reading) × Says line l r × P r
+
+  unfoldable pub checks : List (Check ℕ)
+  checks =
+      check 4 (UnknownWord line)
+      ∷ check 3 (NoReading line)
+      ∷ check 5 (OfReading Unfit)
+      ∷ check 8 (OfReading TooDeep)
+      ∷ check 6 (OfReading NumberOut)
+      ∷ check 7 (OfReading ZeroDivisor)
+      ∷ check 6 (OfReading ResultOut)
+      ∷ []

@@ -1,6 +1,10 @@
--- A line of a source (01, "Rules of writing" and "Refusing a source"). Statements.antt is the rule, Checks.antt what is judged once
--- the form is right, Reading.antt the reader as a function, Parts.antt what its parts promise one another.
+-- A line of a source (01, "Rules of writing" and "Refusing a source"). Statements.antt is the rule, Checks.antt the list of a line's
+-- checks with their numbers, Judging.antt what a reading comes to. Reading.antt is the reader as a function, Parts.antt what its parts
+-- promise one another.
 pub mod Statements
+pub mod FirstFailing
 pub mod Checks
+pub mod Judging
 pub mod Reading
+pub mod Cells
 pub mod Parts

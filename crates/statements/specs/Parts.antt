@@ -1,24 +1,26 @@
 -- What the parts of `read_line` promise one another. These promises are inner ones; `read_line` has the natural one.
 use Prim.Native.Nat.{ℕ}
-use mathlib.Core.Bool.{cond, _&&_}
+use mathlib.Core.Bool.{cond}
 use mathlib.Core.List.{List}
 use mathlib.Core.Path.{_≡_}
-use lib.IntN.{ℤ, pos}
-use lib.Signed.{leZ}
+use lib.IntN.{ℤ}
 use mir.Syntax.{w16}
 use mir.Val.{ofZ}
 use Rattle.tokens.specs.Reading.{tokensFrom}
+use Rattle.values.specs.declared.LabelIn.the-variants.{Absent}
 use Rattle.expressions.specs.declared.ExpressionRead.{ExpressionRead}
 use Rattle.expressions.specs.declared.ExpressionRead.the-variants as E
 use Rattle.expressions.specs.declared.Worth.{Worth}
 use Rattle.expressions.specs.declared.Worth.the-variants as W
+use Rattle.statements.specs.Checks.{resultIn}
 use Rattle.statements.specs.Reading.{labelRead, afterLabel}
+use Rattle.statements.specs.declared.Failure.the-variants.{WrongForm, TooDeep, OutOfRange, ByZero}
 use Rattle.statements.specs.declared.Labelled.{Labelled}
-use Rattle.statements.specs.declared.LineLabel.the-variants.{Absent}
 use Rattle.statements.specs.declared.Outcome.{Outcome}
 use Rattle.statements.specs.declared.Outcome.the-variants.{Value, Fails}
 use Rattle.statements.specs.declared.Statement.{Statement}
-use Rattle.statements.specs.declared.Statement.the-variants.{WrongForm, TooDeep, OutOfRange, ByZero}
+use Rattle.statements.specs.declared.StatementRead.{StatementRead}
+use Rattle.statements.specs.declared.StatementRead.the-variants as S
 
 -- no label: the statement begins where the line does
 abbrev pub nowhere : Labelled
@@ -31,7 +33,7 @@ pub record LabelDone (line : List ℕ) (r : Labelled) : Type 0 where
 
 -- a result from the least one up to 65535
 unfoldable pub cellIn : ℤ → ℤ → Outcome
-cellIn least z = cond (leZ least z && leZ z (pos 65535)) (Value (ofZ w16 z)) (Fails OutOfRange)
+cellIn least z = cond (resultIn least z) (Value (ofZ w16 z)) (Fails OutOfRange)
 
 abbrev pub worthOutcome : ℤ → Worth → Outcome
 worthOutcome least (W.Is z) = cellIn least z
@@ -44,6 +46,6 @@ outcomeOf least E.TooDeep = Fails TooDeep
 outcomeOf least E.WrongForm = Fails WrongForm
 
 -- what a statement makes of its outcome
-abbrev pub said : (ℕ → Statement) → Outcome → Statement
-said makes (Value v) = makes v
-said makes (Fails why) = why
+abbrev pub said : (ℕ → Statement) → Outcome → StatementRead
+said makes (Value v) = S.Passes (makes v)
+said makes (Fails why) = S.Fails why

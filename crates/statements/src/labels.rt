@@ -3,13 +3,13 @@ ghost use mathlib.Core.Path.{_≡_};
 ghost use Rattle.statements.specs.Reading.{isWord, isColon};
 ghost use Rattle.statements.specs.Parts.{nowhere, LabelDone};
 use super::Labelled;
-use super::LineLabel;
 use numerals::Cursor;
 use tokens::Kind;
 use tokens::tokens::next_token;
+use values::LabelIn;
 use values::Name;
 
-fn is_word(k: Kind) -> bool
+pub(crate) fn is_word(k: Kind) -> bool
     ensures { λ r. ⌜ r ≡ isWord k ⌝ }
 {
     match k {
@@ -40,7 +40,7 @@ fn unlabelled() -> Labelled
     ensures { λ r. ⌜ r ≡ nowhere ⌝ }
 {
     Labelled {
-        label: LineLabel::Absent,
+        label: LabelIn::Absent,
         next: Cursor { at: 0 },
     }
 }
@@ -64,7 +64,7 @@ pub(crate) fn label(s: &[u8]) -> Labelled
     }
     if c.directly {
         return Labelled {
-            label: LineLabel::Named(Name {
+            label: LabelIn::Named(Name {
                 start: start,
                 end: next.at,
             }),

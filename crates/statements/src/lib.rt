@@ -3,28 +3,27 @@
 use isa::Opcode;
 use numerals::Cursor;
 use operands::Given;
-use values::Name;
+use values::LabelIn;
 
+pub mod cells; // the cells that a line's DATA gives
 mod labels; // a line's label, and the cursor after it
 pub mod line; // a line's reading
+pub mod refusals; // the paper's number of a check that fails
 mod results; // what an expression, operands and items come to
 
-// A line's label, by its place.
-pub enum LineLabel {
-    Absent,
-    Named(Name),
-}
-
-// What a line's statement comes to: what it is, with its operands, its value, or its cells and where its items begin; or the
-// first of the line's own checks that fails: refusal 4, 3, 5, 8, 6 or 7.
+// What a line's statement says: what it is, with its operands, its value, or the number of its cells.
 pub enum Statement {
     Nothing,
     Instruction(Opcode, Given, Given),
     Org(u16),
     Equ(u16),
     Res(u16),
-    Data(usize, Cursor),
+    Data(usize),
     End,
+}
+
+// A check of a line that fails: refusal 4, 3, 5, 8, 6 or 7.
+pub enum Failure {
     UnknownWord,
     WrongForm,
     WrongOperands,
@@ -33,20 +32,26 @@ pub enum Statement {
     ByZero,
 }
 
+// What a line's statement comes to: it passes the line's own checks and says this, or this is the first of them that fails.
+pub enum StatementRead {
+    Passes(Statement),
+    Fails(Failure),
+}
+
 // A line's reading.
 pub struct LineRead {
-    pub label: LineLabel,
-    pub statement: Statement,
+    pub label: LabelIn,
+    pub statement: StatementRead,
 }
 
 // A line's label, and the cursor after it.
 struct Labelled {
-    label: LineLabel,
+    label: LabelIn,
     next: Cursor,
 }
 
-// An expression's result as a cell, or what the statement comes to without one.
+// An expression's result as a cell, or the check that fails.
 enum Outcome {
     Value(u16),
-    Fails(Statement),
+    Fails(Failure),
 }

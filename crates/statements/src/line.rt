@@ -2,8 +2,10 @@
 ghost use mathlib.Core.Path.{_≡_};
 ghost use Rattle.tokens.specs.Reading.{tokensFrom};
 ghost use Rattle.statements.specs.Reading.{byWord, statementRead, lineRead};
+use super::Failure;
 use super::LineRead;
 use super::Statement;
+use super::StatementRead;
 use super::labels::label;
 use super::results::cells;
 use super::results::equ;
@@ -14,27 +16,25 @@ use names::Word;
 use names::lookup::statement_word;
 use numerals::Cursor;
 use tokens::Kind;
-use tokens::Token;
 use tokens::tokens::next_token;
 
 // What a statement says, by what its word is; what follows END is not looked at.
-fn by_word(s: &[u8], word: Word, w: Token) -> Statement
-    ensures { λ r. ⌜ r ≡ byWord (now (s .entry)) word w (tokensFrom (now (s .entry)) (w .next .at)) ⌝ }
+fn by_word(s: &[u8], word: Word, from: Cursor) -> StatementRead
+    ensures { λ r. ⌜ r ≡ byWord (now (s .entry)) word (tokensFrom (now (s .entry)) (from .at)) ⌝ }
 {
-    let from = w.next;
     match word {
         Word::Instructs(op) => instructs(s, op, from),
         Word::Org => org(s, from),
         Word::Equ => equ(s, from),
         Word::Res => res(s, from),
         Word::Data => cells(s, from),
-        Word::End => Statement::End,
-        Word::Unknown => Statement::UnknownWord,
+        Word::End => StatementRead::Passes(Statement::End),
+        Word::Unknown => StatementRead::Fails(Failure::UnknownWord),
     }
 }
 
 // The statement from a cursor on: its word is the first token there.
-fn statement(s: &[u8], from: Cursor) -> Statement
+fn statement(s: &[u8], from: Cursor) -> StatementRead
     ensures { λ r. ⌜ r ≡ statementRead (now (s .entry)) (tokensFrom (now (s .entry)) (from .at)) ⌝ }
 {
     let w = next_token(s, from);
@@ -42,12 +42,12 @@ fn statement(s: &[u8], from: Cursor) -> Statement
     let start = w.start;
     let next = w.next;
     match kind {
-        Kind::End => Statement::Nothing,
-        Kind::Stray => Statement::WrongForm,
-        Kind::Word => by_word(s, statement_word(s, start, next.at), w),
-        Kind::Number(_, _) => Statement::WrongForm,
-        Kind::Text => Statement::WrongForm,
-        Kind::Mark(_) => Statement::WrongForm,
+        Kind::End => StatementRead::Passes(Statement::Nothing),
+        Kind::Stray => StatementRead::Fails(Failure::WrongForm),
+        Kind::Word => by_word(s, statement_word(s, start, next.at), next),
+        Kind::Number(_, _) => StatementRead::Fails(Failure::WrongForm),
+        Kind::Text => StatementRead::Fails(Failure::WrongForm),
+        Kind::Mark(_) => StatementRead::Fails(Failure::WrongForm),
     }
 }
 

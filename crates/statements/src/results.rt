@@ -6,12 +6,15 @@ ghost use Rattle.tokens.specs.Reading.{tokensFrom};
 ghost use Rattle.expressions.specs.Reading.{expressionRead};
 ghost use Rattle.operands.specs.Checks.{instructionRead};
 ghost use Rattle.items.specs.Reading.{itemsRead};
-ghost use Rattle.statements.specs.Checks.{leastUnsigned, leastSigned, instructionResult};
+ghost use Rattle.statements.specs.Checks.{leastUnsigned, leastSigned};
+ghost use Rattle.statements.specs.Judging.{instructionResult};
 ghost use Rattle.statements.specs.Reading.{expressionResult, itemsResult};
 ghost use Rattle.statements.specs.Parts.{cellIn, outcomeOf};
 ghost use Rattle.statements.specs.declared.Statement.the-variants.{Org, Equ, Res};
+use super::Failure;
 use super::Outcome;
 use super::Statement;
+use super::StatementRead;
 use expressions::ExpressionRead;
 use expressions::Worth;
 use expressions::reading::expression;
@@ -28,10 +31,10 @@ fn in_range(least: i32, z: i32) -> Outcome
     ensures { λ r. ⌜ r ≡ cellIn least z ⌝ }
 {
     if z < least {
-        return Outcome::Fails(Statement::OutOfRange);
+        return Outcome::Fails(Failure::OutOfRange);
     }
     if 65535 < z {
-        return Outcome::Fails(Statement::OutOfRange);
+        return Outcome::Fails(Failure::OutOfRange);
     }
     if z < 0 {
         return Outcome::Value((z + 65536) as u16);
@@ -47,60 +50,60 @@ fn outcome(least: i32, read: ExpressionRead) -> Outcome
     match read {
         ExpressionRead::Read(w) => match w {
             Worth::Is(z) => in_range(least, z),
-            Worth::OutOfRange => Outcome::Fails(Statement::OutOfRange),
-            Worth::ByZero => Outcome::Fails(Statement::ByZero),
+            Worth::OutOfRange => Outcome::Fails(Failure::OutOfRange),
+            Worth::ByZero => Outcome::Fails(Failure::ByZero),
         },
-        ExpressionRead::TooDeep => Outcome::Fails(Statement::TooDeep),
-        ExpressionRead::WrongForm => Outcome::Fails(Statement::WrongForm),
+        ExpressionRead::TooDeep => Outcome::Fails(Failure::TooDeep),
+        ExpressionRead::WrongForm => Outcome::Fails(Failure::WrongForm),
     }
 }
 
-pub(crate) fn org(s: &[u8], from: Cursor) -> Statement
+pub(crate) fn org(s: &[u8], from: Cursor) -> StatementRead
     ensures { λ r. ⌜ r ≡ expressionResult leastUnsigned Org (expressionRead (tokensFrom (now (s .entry)) (from .at))) ⌝ }
 {
     match outcome(0, expression(s, from)) {
-        Outcome::Value(v) => Statement::Org(v),
-        Outcome::Fails(why) => why,
+        Outcome::Value(v) => StatementRead::Passes(Statement::Org(v)),
+        Outcome::Fails(why) => StatementRead::Fails(why),
     }
 }
 
-pub(crate) fn equ(s: &[u8], from: Cursor) -> Statement
+pub(crate) fn equ(s: &[u8], from: Cursor) -> StatementRead
     ensures { λ r. ⌜ r ≡ expressionResult leastSigned Equ (expressionRead (tokensFrom (now (s .entry)) (from .at))) ⌝ }
 {
     match outcome(-32768, expression(s, from)) {
-        Outcome::Value(v) => Statement::Equ(v),
-        Outcome::Fails(why) => why,
+        Outcome::Value(v) => StatementRead::Passes(Statement::Equ(v)),
+        Outcome::Fails(why) => StatementRead::Fails(why),
     }
 }
 
-pub(crate) fn res(s: &[u8], from: Cursor) -> Statement
+pub(crate) fn res(s: &[u8], from: Cursor) -> StatementRead
     ensures { λ r. ⌜ r ≡ expressionResult leastUnsigned Res (expressionRead (tokensFrom (now (s .entry)) (from .at))) ⌝ }
 {
     match outcome(0, expression(s, from)) {
-        Outcome::Value(v) => Statement::Res(v),
-        Outcome::Fails(why) => why,
+        Outcome::Value(v) => StatementRead::Passes(Statement::Res(v)),
+        Outcome::Fails(why) => StatementRead::Fails(why),
     }
 }
 
 // An opcode with the operands that follow it.
-pub(crate) fn instructs(s: &[u8], op: Opcode, from: Cursor) -> Statement
+pub(crate) fn instructs(s: &[u8], op: Opcode, from: Cursor) -> StatementRead
     ensures { λ r. ⌜ r ≡ instructionResult op (instructionRead (now (s .entry)) op (tokensFrom (now (s .entry)) (from .at))) ⌝ }
 {
     match instruction(s, op, from) {
-        InstructionRead::Read(a, b) => Statement::Instruction(op, a, b),
-        InstructionRead::WrongForm => Statement::WrongForm,
-        InstructionRead::WrongOperands => Statement::WrongOperands,
-        InstructionRead::OutOfRange => Statement::OutOfRange,
+        InstructionRead::Read(a, b) => StatementRead::Passes(Statement::Instruction(op, a, b)),
+        InstructionRead::WrongForm => StatementRead::Fails(Failure::WrongForm),
+        InstructionRead::WrongOperands => StatementRead::Fails(Failure::WrongOperands),
+        InstructionRead::OutOfRange => StatementRead::Fails(Failure::OutOfRange),
     }
 }
 
 // DATA with the items that follow it.
-pub(crate) fn cells(s: &[u8], from: Cursor) -> Statement
-    ensures { λ r. ⌜ r ≡ itemsResult from (itemsRead (now (s .entry)) (tokensFrom (now (s .entry)) (from .at))) ⌝ }
+pub(crate) fn cells(s: &[u8], from: Cursor) -> StatementRead
+    ensures { λ r. ⌜ r ≡ itemsResult (itemsRead (now (s .entry)) (tokensFrom (now (s .entry)) (from .at))) ⌝ }
 {
     match items(s, from) {
-        ItemsRead::Cells(n) => Statement::Data(n, from),
-        ItemsRead::WrongForm => Statement::WrongForm,
-        ItemsRead::OutOfRange => Statement::OutOfRange,
+        ItemsRead::Cells(n) => StatementRead::Passes(Statement::Data(n)),
+        ItemsRead::WrongForm => StatementRead::Fails(Failure::WrongForm),
+        ItemsRead::OutOfRange => StatementRead::Fails(Failure::OutOfRange),
     }
 }

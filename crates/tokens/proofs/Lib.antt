@@ -6,6 +6,8 @@ pub mod Words
 pub mod Quoted
 pub mod Here
 pub mod Places
+pub mod Heads
+pub mod Parted
 pub mod Meanings
 pub mod Rows
 pub mod EveryRow

@@ -2,7 +2,7 @@
 -- the number of tokens that its definition allows.
 use Prim.Native.Nat.{ℕ, zero, suc, _+_, _-_, _≤_, _<_}
 use mathlib.Core.Bool.{Bool}
-use mathlib.Core.List.{List, [], _∷_}
+use mathlib.Core.List.{List, [], _∷_, _++_}
 use mathlib.Core.Path.{_≡_, refl, sym, ap, subst, _∙_}
 use native.Mathlib.Omega.{arith}
 use lib.Dec.{eqb}
@@ -175,3 +175,19 @@ ordered-within (suc m) s at =
 pub row-ordered : (s : List ℕ) (at : ℕ) → InOrder (length s) at (tokensFrom s at)
 unfolding tokensFrom
 row-ordered s at = ordered-within (length s - at) s at
+
+-- tokens that each stand within a line of n bytes, a byte at least where their kind has any
+abbrev pub Within : ℕ → List Token → Type 0
+Within n [] = Unit
+Within n (t ∷ ts) = EndsAt (t .kind) n (t .start) (t .next .at) × Within n ts
+
+each-within : (n from : ℕ) (ts : List Token) → InOrder n from ts → Within n ts
+each-within n from [] o = tt
+each-within n from (t ∷ ts) o = (o .0 .ends, each-within n (t .next .at) ts (o .1))
+
+pub row-within : (s : List ℕ) (at : ℕ) → Within (length s) (tokensFrom s at)
+row-within s at = each-within (length s) at (tokensFrom s at) (row-ordered s at)
+
+pub parts-within : (n : ℕ) (us vs : List Token) → Within n (us ++ vs) → Within n us × Within n vs
+parts-within n [] vs h = (tt, h)
+parts-within n (u ∷ us) vs h = let r = parts-within n us vs (h .1) in ((h .0, r .0), r .1)

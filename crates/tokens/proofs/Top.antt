@@ -7,18 +7,22 @@ use lib.Dec.{T}
 use lib.ListN.{length, take, drop}
 use Rattle.numerals.specs.Bytes.{anyWordByte}
 use Rattle.numerals.specs.Digits.{allBelow}
+use Rattle.numerals.specs.declared.Cursor.{Cursor}
 use Rattle.tokens.specs.Lines.{Lines}
 use Rattle.tokens.specs.Words.{Word}
 use Rattle.tokens.specs.Strings.{Characters}
 use Rattle.tokens.specs.Rows.{Row, RowOf}
 use Rattle.tokens.specs.Reading.{characterAt, tokenAt, afterKind, tokensFrom, lineLength, linesOf}
+use Rattle.tokens.specs.Commas.{followsOf}
+use Rattle.tokens.specs.declared.Follows.the-variants.{Comma}
 use Rattle.tokens.specs.declared.Token.{Token}
 use Rattle.tokens.proofs.LinesOf as LinesOf
 use Rattle.tokens.proofs.Words as Words
 use Rattle.tokens.proofs.Quoted as Quoted
 use Rattle.tokens.proofs.Quoted.{Inside, ReadAt}
 use Rattle.tokens.proofs.Places as Places
-use Rattle.tokens.proofs.Places.{Placed, InOrder}
+use Rattle.tokens.proofs.Places.{Placed, InOrder, Within}
+use Rattle.tokens.proofs.Parted as Parted
 use Rattle.tokens.proofs.Meanings as Meanings
 use Rattle.tokens.proofs.Meanings.{Means}
 use Rattle.tokens.proofs.Rows as Rows
@@ -86,6 +90,20 @@ token-placed = Places.token-placed
 -- A row's tokens come in order and do not overlap.
 pub row-ordered : {line : List ℕ} {ts : List Token} → RowOf line ts → InOrder (length line) 0 ts
 row-ordered {line} r = subst (InOrder (length line) 0) (one-row (line-row line) r) (Places.row-ordered line 0)
+
+-- Each of them stands within the line, so each word's place does and has a byte at least; and so it is for a part of a row.
+pub row-within : {line : List ℕ} {ts : List Token} → RowOf line ts → Within (length line) ts
+row-within {line} r = subst (Within (length line)) (one-row (line-row line) r) (Places.row-within line 0)
+
+pub row-within-from : (line : List ℕ) (at : ℕ) → Within (length line) (tokensFrom line at)
+row-within-from = Places.row-within
+
+pub parts-within : (n : ℕ) (us vs : List Token) → Within n (us ++ vs) → Within n us × Within n vs
+parts-within = Places.parts-within
+
+-- The comma that `follows` hands back takes a byte of the line.
+pub comma-moves : (s : List ℕ) (at : ℕ) {c : Cursor} → followsOf (tokenAt s at) ≡ Comma c → (at < c .at) × (c .at ≤ length s)
+comma-moves = Parted.comma-moves
 
 -- ---- words
 

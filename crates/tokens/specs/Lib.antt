@@ -4,4 +4,6 @@ pub mod Bytes
 pub mod Words
 pub mod Strings
 pub mod Rows
+pub mod Marks
 pub mod Reading
+pub mod Commas

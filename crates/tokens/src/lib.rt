@@ -2,6 +2,7 @@
 use numerals::Cursor;
 use numerals::Radix;
 
+pub mod commas; // what follows an operand or an item
 pub mod lines; // where a line ends
 pub mod strings; // the character of a string at a cursor
 pub mod tokens; // the token at a cursor
@@ -29,4 +30,11 @@ pub enum Character {
     Stands(u8, Cursor),
     Closed(Cursor),
     Broken,
+}
+
+// What follows an operand or an item of DATA: a comma, with the cursor after it, the line's end, or neither.
+pub enum Follows {
+    Comma(Cursor),
+    Over,
+    Neither,
 }

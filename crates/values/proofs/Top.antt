@@ -6,12 +6,15 @@ use native.Mathlib.Omega.{arith}
 use Rattle.numerals.specs.declared.Cursor.{Cursor}
 use Rattle.tokens.specs.Reading.{tokensFrom}
 use Rattle.tokens.specs.declared.Token.{Token}
+use Rattle.tokens.proofs.Places.{Within}
 use Rattle.values.specs.Values.{ValueText}
 use Rattle.values.specs.Reading.{valueAt}
 use Rattle.values.specs.declared.Value.{Value}
 use Rattle.values.specs.declared.ValueRead.the-variants.{Found, Absent}
 use Rattle.values.proofs.Finds as Finds
 use Rattle.values.proofs.Finds.{StandsAt, FoundAt}
+use Rattle.values.proofs.Within as Bounds
+use Rattle.values.proofs.Within.{ValueWithin}
 use Rattle.values.proofs.Examples as Examples
 use Rattle.values.proofs.Examples.{Examples}
 
@@ -33,6 +36,10 @@ absent-is-none s at e ts us r t = let z : _≡_ {A = ℕ} 0 1 = cc (value-is-fou
 pub one-value : {ts us ts′ us′ : List Token} {v v′ : Value} → ts ++ us ≡ ts′ ++ us′ → ValueText ts v → ValueText ts′ v′
     → (v ≡ v′) × (ts ≡ ts′) × (us ≡ us′)
 one-value = Finds.one-value
+
+-- A label's place is a word's: a byte at least, within the line that its tokens stand in.
+pub value-within : (n : ℕ) {ts : List Token} {v : Value} → ValueText ts v → Within n ts → ValueWithin n v
+value-within = Bounds.value-within
 
 -- The ends of a displacement's ranges, and values that are easily misread.
 pub examples : Examples

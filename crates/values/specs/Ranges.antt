@@ -5,7 +5,7 @@ use lib.IntN.{pos}
 use lib.Signed.{leZ}
 use Rattle.numerals.specs.Numbers.{valueOf, keptOf}
 use Rattle.numerals.specs.declared.Kept.{Kept}
-use Rattle.numerals.specs.declared.Kept.the-variants.{Cell, OutOfRange}
+use Rattle.numerals.specs.declared.Kept.the-variants.{OutOfRange}
 use Rattle.numerals.specs.declared.Numeral.{Numeral}
 use Rattle.numerals.specs.declared.Radix.{Radix}
 use Rattle.numerals.specs.declared.Radix.the-variants.{Decimal, Hexadecimal}

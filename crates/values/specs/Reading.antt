@@ -3,39 +3,44 @@ use Prim.Native.Nat.{ℕ}
 use Prim.Native.Char.{code}
 use mathlib.Core.Bool.{Bool, true, false, cond}
 use mathlib.Core.List.{List}
-use lib.Dec.{eqb}
-use Rattle.numerals.specs.declared.Cursor.{Cursor}
-use Rattle.numerals.specs.declared.Radix.{Radix}
+use Rattle.numerals.specs.declared.Numeral.{Numeral}
 use Rattle.numerals.specs.declared.Radix.the-variants.{Decimal, Hexadecimal}
+use Rattle.tokens.specs.Marks.{only}
 use Rattle.tokens.specs.Reading.{tokenAt}
 use Rattle.tokens.specs.declared.Kind.{Kind}
 use Rattle.tokens.specs.declared.Kind.the-variants as K
-use Rattle.tokens.specs.declared.Token.{Token}
 use Rattle.values.specs.Values.{numeral, nameAt}
 use Rattle.values.specs.declared.Value.the-variants as V′
 use Rattle.values.specs.declared.ValueRead.{ValueRead}
 use Rattle.values.specs.declared.ValueRead.the-variants.{Found, Absent}
 
--- the digits after a `-`
-abbrev pub minusBy : Kind → Bool → Cursor → ValueRead
-minusBy K.End directly next = Absent
-minusBy K.Stray directly next = Absent
-minusBy K.Word directly next = Absent
-minusBy (K.Number v Decimal) directly next = cond directly (Found (V′.Number (numeral true Decimal v)) next) Absent
-minusBy (K.Number v Hexadecimal) directly next = Absent
-minusBy K.Text directly next = Absent
-minusBy (K.Mark b) directly next = Absent
+-- ---- what a token leads to, over any answer
+
+-- a word, a number or `-`, with which a value begins; any other token leads to `other`
+abbrev pub valueBy : {S : Type 0} → S → (Numeral → S) → S → S → Kind → S
+valueBy word number minus other K.End = other
+valueBy word number minus other K.Stray = other
+valueBy word number minus other K.Word = word
+valueBy word number minus other (K.Number v k) = number (numeral false k v)
+valueBy word number minus other K.Text = other
+valueBy word number minus other (K.Mark b) = only other (code "-") minus b
+
+-- the digits after a `-`: "decimal digits, optionally with `-` directly before; or `0x` .. unsigned"
+abbrev pub digitsBy : {S : Type 0} → (Numeral → S) → S → Kind → Bool → S
+digitsBy number other K.End directly = other
+digitsBy number other K.Stray directly = other
+digitsBy number other K.Word directly = other
+digitsBy number other (K.Number v Decimal) directly = cond directly (number (numeral true Decimal v)) other
+digitsBy number other (K.Number v Hexadecimal) directly = other
+digitsBy number other K.Text directly = other
+digitsBy number other (K.Mark b) directly = other
+
+-- ---- the value
 
 unfoldable pub minusAt : List ℕ → ℕ → ValueRead
-minusAt s at = minusBy (tokenAt s at .kind) (tokenAt s at .directly) (tokenAt s at .next)
-
-abbrev pub valueBy : List ℕ → Kind → Token → ValueRead
-valueBy s K.End t = Absent
-valueBy s K.Stray t = Absent
-valueBy s K.Word t = Found (V′.Label (nameAt t)) (t .next)
-valueBy s (K.Number v k) t = Found (V′.Number (numeral false k v)) (t .next)
-valueBy s K.Text t = Absent
-valueBy s (K.Mark b) t = cond (eqb b (code "-")) (minusAt s (t .next .at)) Absent
+minusAt s at = digitsBy (λ n. Found (V′.Number n) (tokenAt s at .next)) Absent (tokenAt s at .kind) (tokenAt s at .directly)
 
 unfoldable pub valueAt : List ℕ → ℕ → ValueRead
-valueAt s at = valueBy s (tokenAt s at .kind) (tokenAt s at)
+valueAt s at =
+    valueBy (Found (V′.Label (nameAt (tokenAt s at))) (tokenAt s at .next)) (λ n. Found (V′.Number n) (tokenAt s at .next))
+    (minusAt s (tokenAt s at .next .at)) Absent (tokenAt s at .kind)

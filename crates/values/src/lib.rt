@@ -23,3 +23,9 @@ pub enum ValueRead {
     Found(Value, Cursor),
     Absent,
 }
+
+// The label that a line or an operand names, by its place, if it does.
+pub enum LabelIn {
+    Absent,
+    Named(Name),
+}

@@ -5,7 +5,7 @@ use Prim.Native.Nat.{_+_, _-_, _≤_}
 use mathlib.Core.Path.{sym, _∙_}
 use native.Mathlib.Omega.{arith}
 use lib.ListN.{length}
-use Rattle.items.proofs.Counts.{Left, count-start, count-moves, count-on, count-closed, count-broken, count-over}
+use Rattle.items.proofs.Counts.{Left, character-moves, count-start, count-on, count-closed, count-broken, count-over}
 use Rattle.items.proofs.strings.character_count.Statement.{statement}
 use Rattle.items.proofs.strings.character_count.Tie as tie
 
@@ -30,14 +30,14 @@ add-count : tie.Need-add-count Inv-loop μ-loop
 add-count c =
     let a = c .before .before .before .before .before .before .before .args in
     let l = c .before .before .before .before .before .loop in
-    let h = count-moves (a .s .now) (a .from) (l .i) (l .count) (l .inv .1) (sym (c .before .before .before .character .ensures) ∙ c .before .next .given .1) in
+    let h = character-moves (a .s .now) (l .i) (sym (c .before .before .before .character .ensures) ∙ c .before .next .given .1) in
     omega (arith, h)
 
 loop-less : tie.Need-loop-less Inv-loop μ-loop
 loop-less c =
     let a = c .before .before .before .before .before .before .before .args in
     let l = c .before .before .before .before .before .loop in
-    let h = count-moves (a .s .now) (a .from) (l .i) (l .count) (l .inv .1) (sym (c .before .before .before .character .ensures) ∙ c .before .next .given .1) in
+    let h = character-moves (a .s .now) (l .i) (sym (c .before .before .before .character .ensures) ∙ c .before .next .given .1) in
     omega (arith, h)
 
 loop-again : tie.Need-loop-again Inv-loop μ-loop
@@ -45,7 +45,7 @@ loop-again c =
     let a = c .before .before .before .before .before .before .before .args in
     let l = c .before .before .before .before .before .loop in
     let k = sym (c .before .before .before .character .ensures) ∙ c .before .next .given .1 in
-    let h = count-moves (a .s .now) (a .from) (l .i) (l .count) (l .inv .1) k in
+    let h = character-moves (a .s .now) (l .i) k in
     (omega (arith, h), count-on (a .s .now) (a .from) (l .i) (l .count) (l .inv .1) k)
 
 enum-told : tie.Need-enum-told Inv-loop μ-loop

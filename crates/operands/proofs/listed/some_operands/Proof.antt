@@ -31,7 +31,7 @@ returns-2 c =
     let l = c .before .before .before .before .before .before .before .before in
     let s = l .before .before .args .s .now in
     let g = subst (λ (r : OperandRead). Goes s operand (l .loop .at) r) (c .before .before .before .before .before .read .given .1) (c .before .before .before .before .before .before .before .operand .ensures) in
-    let e = sym (c .before .before .between .ensures) ∙ c .enum-told2 .given .1 in
+    let e = sym (c .before .before .follows .ensures) ∙ c .enum-told2 .given .1 in
     ap L.Read (c .before .before .before .with-operand .ensures) ∙ sym (l .loop .inv ∙ some-over s (l .loop .all) (l .loop .at) g e)
 
 returns-3 : tie.Need-returns-3 Inv-loop μ-loop
@@ -39,7 +39,7 @@ returns-3 c =
     let l = c .before .before .before .before .before .before .before .before in
     let s = l .before .before .args .s .now in
     let g = subst (λ (r : OperandRead). Goes s operand (l .loop .at) r) (c .before .before .before .before .before .read .given .1) (c .before .before .before .before .before .before .before .operand .ensures) in
-    let e = sym (c .before .before .between .ensures) ∙ c .enum-told3 .given .1 in
+    let e = sym (c .before .before .follows .ensures) ∙ c .enum-told3 .given .1 in
     sym (l .loop .inv ∙ some-neither s (l .loop .all) (l .loop .at) g e)
 
 loop-less : tie.Need-loop-less Inv-loop μ-loop
@@ -47,7 +47,7 @@ loop-less c =
     let l = c .before .before .before .before .before .before .before .before .before in
     let s = l .before .before .args .s .now in
     let g = subst (λ (r : OperandRead). Goes s operand (l .loop .at) r) (c .before .before .before .before .before .before .read .given .1) (c .before .before .before .before .before .before .before .before .operand .ensures) in
-    let e = sym (c .before .before .before .between .ensures) ∙ c .before .follows .given .1 in
+    let e = sym (c .before .before .before .follows .ensures) ∙ c .before .after .given .1 in
     let h = some-comma s (l .loop .all) (l .loop .at) g (c .before .before .before .before .with-operand .ensures) e in
     omega (arith, h .1, h .2)
 
@@ -56,7 +56,7 @@ loop-again c =
     let l = c .before .before .before .before .before .before .before .before .before in
     let s = l .before .before .args .s .now in
     let g = subst (λ (r : OperandRead). Goes s operand (l .loop .at) r) (c .before .before .before .before .before .before .read .given .1) (c .before .before .before .before .before .before .before .before .operand .ensures) in
-    let e = sym (c .before .before .before .between .ensures) ∙ c .before .follows .given .1 in
+    let e = sym (c .before .before .before .follows .ensures) ∙ c .before .after .given .1 in
     let h = some-comma s (l .loop .all) (l .loop .at) g (c .before .before .before .before .with-operand .ensures) e in
     l .loop .inv ∙ h .0
 

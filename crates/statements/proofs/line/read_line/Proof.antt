@@ -1,14 +1,14 @@
 -- The label and the tokens behind it are what `label` found, and the statement is read from there.
 use borrow.Author.Needs.{needs}
 use mathlib.Core.Path.{ap, ap₂, _∙_}
+use Rattle.values.specs.declared.LabelIn.{LabelIn}
 use Rattle.statements.specs.Reading.{statementRead, lineRead}
-use Rattle.statements.specs.declared.LineLabel.{LineLabel}
 use Rattle.statements.specs.declared.LineRead.{LineRead}
-use Rattle.statements.specs.declared.Statement.{Statement}
+use Rattle.statements.specs.declared.StatementRead.{StatementRead}
 use Rattle.statements.proofs.line.read_line.Statement.{statement}
 use Rattle.statements.proofs.line.read_line.Tie as tie
 
-answer : LineLabel → Statement → LineRead
+answer : LabelIn → StatementRead → LineRead
 answer l st = record { label = l; statement = st }
 
 returns : tie.Need-returns

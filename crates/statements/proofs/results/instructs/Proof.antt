@@ -1,7 +1,7 @@
 -- The arms are the definition's clauses.
 use borrow.Author.Needs.{needs}
 use mathlib.Core.Path.{sym, ap, _∙_}
-use Rattle.statements.specs.Checks.{instructionResult}
+use Rattle.statements.specs.Judging.{instructionResult}
 use Rattle.statements.proofs.results.instructs.Statement.{statement}
 use Rattle.statements.proofs.results.instructs.Tie as tie
 

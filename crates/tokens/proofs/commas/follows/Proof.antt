@@ -1,8 +1,8 @@
 -- By the kind of the token; a mark is tested for the comma.
 use borrow.Author.Tests.{eq-eqb, ne-eqb}
 use borrow.Author.Needs.{needs}
-use Rattle.items.proofs.single.follows.Statement.{statement}
-use Rattle.items.proofs.single.follows.Tie as tie
+use Rattle.tokens.proofs.commas.follows.Statement.{statement}
+use Rattle.tokens.proofs.commas.follows.Tie as tie
 
 next-token-requires : tie.Need-next-token-requires
 next-token-requires c κs = search needs

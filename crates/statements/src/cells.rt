@@ -1,0 +1,52 @@
+// The cells that a line's DATA gives (specs/Cells.antt).
+ghost use mathlib.Core.Path.{_≡_};
+ghost use lib.Seq.{sets};
+ghost use Rattle.tokens.specs.Reading.{tokensFrom};
+ghost use Rattle.statements.specs.Cells.{isData, bodyCells, cellsIn};
+use super::labels::is_word;
+use super::labels::label;
+use names::Word;
+use names::lookup::statement_word;
+use numerals::Cursor;
+use tokens::tokens::next_token;
+
+fn is_data(w: Word) -> bool
+    ensures { λ r. ⌜ r ≡ isData w ⌝ }
+{
+    match w {
+        Word::Instructs(_) => false,
+        Word::Org => false,
+        Word::Equ => false,
+        Word::Res => false,
+        Word::Data => true,
+        Word::End => false,
+        Word::Unknown => false,
+    }
+}
+
+// The statement from a cursor on.
+fn write_body(s: &[u8], from: Cursor, row: &mut [u16], at: usize)
+    ensures { λ _. ⌜ now (row .exit) ≡ sets (now (row .entry)) at (bodyCells (now (s .entry)) (tokensFrom (now (s .entry)) (from .at))) ⌝ }
+{
+    let w = next_token(s, from);
+    let kind = w.kind;
+    let start = w.start;
+    let next = w.next;
+    if !is_word(kind) {
+        return;
+    }
+    if !is_data(statement_word(s, start, next.at)) {
+        return;
+    }
+    items::writing::write_cells(s, next, row, at);
+}
+
+// The cells that a line gives by DATA, into a lent row from a place on; what does not fit is left out, and a line that is refused
+// or says something else writes nothing.
+pub fn write_cells(line: &[u8], row: &mut [u16], at: usize)
+    ensures { λ _. ⌜ now (row .exit) ≡ sets (now (row .entry)) at (cellsIn (now (line .entry))) ⌝ }
+{
+    let found = label(line);
+    let next = found.next;
+    write_body(line, next, row, at);
+}

@@ -1,0 +1,17 @@
+// The paper's number of a check that fails (specs/Judging.antt).
+ghost use mathlib.Core.Path.{_≡_};
+ghost use Rattle.statements.specs.Judging.{numberOf};
+use super::Failure;
+
+pub fn number_of(f: Failure) -> u8
+    ensures { λ r. ⌜ r ≡ numberOf f ⌝ }
+{
+    match f {
+        Failure::UnknownWord => 4,
+        Failure::WrongForm => 3,
+        Failure::WrongOperands => 5,
+        Failure::TooDeep => 8,
+        Failure::OutOfRange => 6,
+        Failure::ByZero => 7,
+    }
+}
