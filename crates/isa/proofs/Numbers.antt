@@ -3,7 +3,7 @@
 use mathlib.Core.Path.{_≡_, refl, sym, ap, _∙_, subst}
 use mathlib.Core.Bool.{Bool, true, false, cond}
 use mathlib.Core.List.{List, [], _∷_}
-use Prim.Native.Nat.{ℕ, _<_}
+use Prim.Native.Nat.{ℕ, _<_, _≤_}
 use Prim.Native.String.{String}
 use native.Mathlib.Omega.{arith}
 use borrow.Author.Tests.{ltb-true, ltb-false, eqb-true}
@@ -12,7 +12,9 @@ use lib.Text.{eqt}
 use lib.ListN.{List·getD-eq-default}
 use Rattle.isa.specs.declared.Opcode.{Opcode}
 use Rattle.isa.specs.declared.Opcode.the-variants.{NOP, HALT, MOVE, PUSH, POP, ADD, SUB, MUL, DIV, MOD, INC, DEC, NEG, CMP, AND, OR, XOR, NOT, BR, BZ, BNZ, BP, BNP, BN, BNN, BV, BNV, BC, BNC, BE, BO, CALL, RET, INCHAR, ININT, INSTR, WRCHAR, WRINT, WRSTR}
-use Rattle.isa.specs.Opcodes.{table, opcodes, opcodeOf}
+use Rattle.isa.specs.declared.Kinds.{Kinds}
+use Rattle.isa.specs.declared.Kinds.the-variants.{Nothing, Source, Destination, Place, Target}
+use Rattle.isa.specs.Opcodes.{table, opcodes, opcodeOf, presentIn, countOf}
 use Rattle.isa.proofs.Tests.{every, every-at}
 
 pub opcode-of-number : (o : Opcode) → opcodeOf (table o .number) ≡ o
@@ -100,3 +102,16 @@ opcode-of-name o =
 -- two opcodes with one name are one
 pub same-name : (o p : Opcode) → table o .name ≡ table p .name → o ≡ p
 same-name o p e = sym (opcode-of-name o) ∙ ap named e ∙ opcode-of-name p
+
+-- ---- operands
+
+one-at-most : (k : Kinds) → presentIn k ≤ 1
+one-at-most Nothing = omega arith
+one-at-most Source = omega arith
+one-at-most Destination = omega arith
+one-at-most Place = omega arith
+one-at-most Target = omega arith
+
+pub few-operands : (o : Opcode) → countOf o ≤ 2
+unfolding countOf
+few-operands o = omega (arith, one-at-most (table o .first), one-at-most (table o .second))

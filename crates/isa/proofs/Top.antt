@@ -3,7 +3,10 @@
 use mathlib.Core.Path.{_≡_, refl, sym, _∙_}
 use mathlib.Core.Bool.{true, cond}
 use mathlib.Core.List.{List, [], _∷_, _++_}
+use mathlib.Core.Logic.{_↔_}
 use Prim.Native.Nat.{ℕ, suc, _+_, _-_, _<_, _≤_}
+use native.Mathlib.Omega.{arith}
+use borrow.Author.Tests.{ltb-true, lt-ltb}
 use lib.ListN.{length, take, drop}
 use Rattle.isa.specs.declared.Opcode.{Opcode}
 use Rattle.isa.specs.declared.Opcode.the-variants.{INC, BZ, BR, MOVE}
@@ -13,6 +16,7 @@ use Rattle.isa.specs.declared.Address.{Address}
 use Rattle.isa.specs.declared.Decoded.the-variants.{Read}
 use Rattle.isa.specs.Opcodes.{table, opcodes, opcodeOf, countOf}
 use Rattle.isa.specs.Operands.{allows, operandOf}
+use Rattle.isa.specs.Registers.{PC, isRegister}
 use Rattle.isa.specs.Encoding.{firstWordOf, wordsOf, allowed, encodeOf, refusalOf, wordsIn}
 use Rattle.isa.specs.Decoding.{modesAllowed, sizeIn, instructionIn, readUnless, decodeWord, decodeOf, stopOf}
 use Rattle.isa.specs.Marked.{MarkedInstructions, instruction}
@@ -72,6 +76,14 @@ same-number = numbers.same-number
 
 pub same-name : (o p : Opcode) → table o .name ≡ table p .name → o ≡ p
 same-name = numbers.same-name
+
+-- No opcode has more than two operands
+pub few-operands : (o : Opcode) → countOf o ≤ 2
+few-operands = numbers.few-operands
+
+-- "Registers: R0..R9 0..9, A 10, SR 11, IX 12, IY 13, SP 14, PC 15": a code names a register up to PC, and none above
+pub register-codes : (code : ℕ) → (isRegister code ≡ true) ↔ (code ≤ PC)
+register-codes code = (λ e. omega (arith, ltb-true code 16 e), λ h. lt-ltb code 16 (omega arith))
 
 -- "Decoding refuses as stops 2, 3, 5, 4 below, in step order": the order itself is in `Refusals`; here it is at single words
 pub record RefusedExamples : Type 0 where

@@ -66,6 +66,7 @@ pub record Examples : Type 0 where
   pub numbers-written : written "DATA -2,-32768,65535,0x8000,-0" ≡ 65534 ∷ 32768 ∷ 65535 ∷ 32768 ∷ 0 ∷ []
   -- "A string takes a cell a character and a 0 cell"
   pub string-written : written "DATA \"a\\n\",0" ≡ 97 ∷ 10 ∷ 0 ∷ 0 ∷ []
+  pub ends-written : written "DATA \" ~\"" ≡ 32 ∷ 126 ∷ 0 ∷ []
   pub empty-written : written "DATA \"\"" ≡ 0 ∷ []
   pub refused-not-written : written "DATA 1,65536" ≡ []
   -- form 3 comes before range 6
@@ -100,6 +101,7 @@ examples =
       too-high-in-the-midst = refl;
       numbers-written = refl;
       string-written = refl;
+      ends-written = refl;
       empty-written = refl;
       refused-not-written = refl;
       form-first = refl;

@@ -22,7 +22,7 @@ use Rattle.names.proofs.Examples.{Examples}
 pub instruction : (w : List ℕ) (o : Opcode) → (wordOf w ≡ Instructs o) ↔ (isNamed w (table o .name) ≡ true)
 instruction = Exactly.instructs-exactly
 
--- "ORG e, EQU e, RES e, END, DATA": the same for each directive.
+-- "`ORG e` .., `EQU e` .., `RES e` .., `END`, `DATA`": the same for each directive.
 pub org : (w : List ℕ) → (wordOf w ≡ Org) ↔ (isNamed w "ORG" ≡ true)
 org = Exactly.org-exactly
 

@@ -1,9 +1,10 @@
 -- Texts that are easily misread, settled one by one by computing them.
 use Prim.Native.String.{String}
 use mathlib.Core.Bool.{true, false}
-use mathlib.Core.List.{List, [], _∷_}
+use mathlib.Core.List.{List, [], _∷_, map}
 use mathlib.Core.Path.{_≡_, refl}
-use Rattle.numerals.specs.Bytes.{bytes, rank}
+use lib.ListN.{replicate}
+use Rattle.numerals.specs.Bytes.{bytes, isWordByte, rank}
 use Rattle.numerals.specs.Digits.{worthAfter}
 use Rattle.numerals.specs.Numbers.{keptOf}
 use Rattle.numerals.specs.Reading.{run, digitsAt, radixAt, unsignedAt, numberAt, lineNumber}
@@ -23,6 +24,11 @@ ReadZero [] = Unit {0}
 ReadZero (line ∷ lines) = (lineNumber (bytes line) ≡ 0) × ReadZero lines
 
 pub record Examples : Type 0 where
+  -- "letters, digits, `_`", at the ends of each, and the bytes next to them; "hex digits of either case"
+  pub word-bytes : map isWordByte (bytes "09AZaz_") ≡ replicate 7 true
+  pub no-word-bytes : map isWordByte (bytes "/:@[`{ ") ≡ replicate 7 false
+  pub digit-ranks : map rank (bytes "09AFaf") ≡ 0 ∷ 9 ∷ 10 ∷ 15 ∷ 10 ∷ 15 ∷ []
+  pub other-ranks : map rank (bytes "GZgz_/:@[`{") ≡ 16 ∷ 16 ∷ 16 ∷ 16 ∷ 16 ∷ 17 ∷ 17 ∷ 17 ∷ 17 ∷ 17 ∷ 17 ∷ []
   pub minus-zero : numberAt (bytes "-0") 0 ≡ Found (numeral true Decimal 0) (cursor 2)
   pub zeros-in-front : numberAt (bytes "007") 0 ≡ Found (numeral false Decimal 7) (cursor 3)
   pub hex-zeros-in-front : numberAt (bytes "0x0000FFFF") 0 ≡ Found (numeral false Hexadecimal 65535) (cursor 10)
@@ -44,6 +50,10 @@ pub examples : Examples
 unfolding rank worthAfter keptOf run digitsAt radixAt unsignedAt numberAt lineNumber decimalBefore decimal signedDecimal
 examples =
     record {
+      word-bytes = refl;
+      no-word-bytes = refl;
+      digit-ranks = refl;
+      other-ranks = refl;
       minus-zero = refl;
       zeros-in-front = refl;
       hex-zeros-in-front = refl;

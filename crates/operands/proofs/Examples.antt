@@ -9,10 +9,11 @@ use Rattle.numerals.specs.Numbers.{keptOf}
 use Rattle.numerals.specs.Reading.{run, digitsAt, radixAt, unsignedAt}
 use Rattle.isa.specs.Opcodes.{table, countOf}
 use Rattle.isa.specs.Operands.{allows}
+use Rattle.isa.specs.Registers.{PC}
 use Rattle.isa.specs.declared.Opcode.{Opcode}
 use Rattle.isa.specs.declared.Opcode.the-variants.{NOP, MOVE, PUSH, INC, BR, BZ, INSTR}
 use Rattle.isa.specs.declared.Operand.{Operand}
-use Rattle.isa.specs.declared.Operand.the-variants.{Absent, Immediate, Register, Memory, Indirect, IndexedX, IndexedSp, Relative}
+use Rattle.isa.specs.declared.Operand.the-variants.{Absent, Immediate, Register, Memory, Indirect, IndexedX, IndexedY, IndexedSp, Relative}
 use Rattle.names.specs.Names.{capital, isNamed, registers, placeIn, registerCode}
 use Rattle.tokens.specs.Bytes.{isBlank, isMark}
 use Rattle.tokens.specs.Reading.{blanks, closing, tokenHere, tokenAt, tokensWithin, tokensFrom}
@@ -51,7 +52,41 @@ abbrev pub WrongForms : List String → Type 0
 WrongForms [] = Unit {0}
 WrongForms (text ∷ texts) = Says PUSH text WrongForm × WrongForms texts
 
+-- an operand, and what it is
+pub record Shown : Type 0 where
+  pub text : String
+  pub is : Operand
+
+abbrev shown : String → Operand → Shown
+shown text o = record { text = text; is = o }
+
+-- each of these is that operand of PUSH, or of BR; with 7 for its label; or out of range
+abbrev pub Reads : Opcode → List Shown → Type 0
+Reads op [] = Unit {0}
+Reads op (x ∷ xs) = Says op (x .text) (Read (plain (x .is)) (plain Absent)) × Reads op xs
+
+abbrev pub EachSettles : Opcode → List Shown → Type 0
+EachSettles op [] = Unit {0}
+EachSettles op (x ∷ xs) = Settles op (x .text) 7 8 (x .is) Absent × EachSettles op xs
+
+abbrev pub OutOfRanges : Opcode → List String → Type 0
+OutOfRanges op [] = Unit {0}
+OutOfRanges op (text ∷ texts) = Says op text OutOfRange × OutOfRanges op texts
+
 pub record Examples : Type 0 where
+  -- each shape at the ends of its range: "Range -32768..65535"; "A decimal displacement .. lies in -32768..32767; a hex one .. is a bit pattern"
+  pub numbers : Reads PUSH (shown "#-32768" (Immediate 32768) ∷ shown "#65535" (Immediate 65535) ∷ shown "/-32768" (Memory 32768) ∷ shown "/65535" (Memory 65535) ∷ [])
+  pub by-IX : Reads PUSH (shown "#-32768[.IX]" (IndexedX 32768) ∷ shown "#32767[.IX]" (IndexedX 32767) ∷ shown "#0xFFFF[.IX]" (IndexedX 65535) ∷ [])
+  pub by-IY : Reads PUSH (shown "#-32768[.IY]" (IndexedY 32768) ∷ shown "#32767[.IY]" (IndexedY 32767) ∷ shown "#0xFFFF[.IY]" (IndexedY 65535) ∷ [])
+  pub by-SP : Reads PUSH (shown "#-32768[.SP]" (IndexedSp 32768) ∷ shown "#32767[.SP]" (IndexedSp 32767) ∷ shown "#0xFFFF[.SP]" (IndexedSp 65535) ∷ [])
+  pub targets : Reads BR (shown "$-32768" (Relative 32768) ∷ shown "$32767" (Relative 32767) ∷ shown "$0xFFFF" (Relative 65535) ∷ shown "/65535" (Memory 65535) ∷ [])
+  pub past-numbers : OutOfRanges PUSH ("#-32769" ∷ "#65536" ∷ "/-32769" ∷ "/65536" ∷ [])
+  pub past-displacements : OutOfRanges PUSH ("#-32769[.IX]" ∷ "#32768[.IX]" ∷ "#-32769[.IY]" ∷ "#32768[.IY]" ∷ "#-32769[.SP]" ∷ "#32768[.SP]" ∷ "#0x10000[.SP]" ∷ [])
+  pub past-targets : OutOfRanges BR ("$-32769" ∷ "$32768" ∷ "$0x10000" ∷ [])
+  -- each shape that holds a label
+  pub labels : EachSettles PUSH (shown "#x" (Immediate 7) ∷ shown "/x" (Memory 7) ∷ shown "#x[.IX]" (IndexedX 7) ∷ shown "#x[.IY]" (IndexedY 7) ∷ shown "#x[.SP]" (IndexedSp 7) ∷ [])
+  -- the first and the last register
+  pub first-and-last : Reads PUSH (shown ".R0" (Register 0) ∷ shown ".PC" (Register PC) ∷ shown "[.R0]" (Indirect 0) ∷ shown "[.PC]" (Indirect PC) ∷ [])
   -- "blanks may stand between" tokens; "Labels keep case; other words don't"
   pub blanks-between : Says MOVE "# -5 [ . ix ] , [ . A ]" (Read (plain (IndexedX 65531)) (plain (Indirect 10)))
   pub nothing : Says NOP " ; no operand" (Read (plain Absent) (plain Absent))
@@ -91,6 +126,16 @@ pub examples : Examples
 unfolding rank worthAfter keptOf run digitsAt radixAt unsignedAt table countOf allows capital isNamed registers placeIn registerCode isBlank isMark blanks closing tokenHere tokenAt tokensWithin tokensFrom displacementOf starts indexStep walk operandsOf fits wordOf labelIn judged instructionRead
 examples =
     record {
+      numbers = (refl, (refl, (refl, (refl, tt))));
+      by-IX = (refl, (refl, (refl, tt)));
+      by-IY = (refl, (refl, (refl, tt)));
+      by-SP = (refl, (refl, (refl, tt)));
+      targets = (refl, (refl, (refl, (refl, tt))));
+      past-numbers = (refl, (refl, (refl, (refl, tt))));
+      past-displacements = (refl, (refl, (refl, (refl, (refl, (refl, (refl, tt)))))));
+      past-targets = (refl, (refl, (refl, tt)));
+      labels = (refl, (refl, (refl, (refl, (refl, tt)))));
+      first-and-last = (refl, (refl, (refl, (refl, tt))));
       blanks-between = refl;
       nothing = refl;
       memory = refl;

@@ -1,4 +1,4 @@
--- An operand's label replaced by its value (01, "Layout": "then one word per operand in order: value, displacement or register code").
+-- An operand's label replaced by the word that it stands for (01, "Layout": "then one word per operand in order: value, displacement or register code").
 use Prim.Native.Nat.{ℕ}
 use Rattle.isa.specs.declared.Instruction.{Instruction}
 use Rattle.isa.specs.declared.Opcode.{Opcode}
@@ -20,7 +20,7 @@ reworded (O.IndexedY d) w = O.IndexedY w
 reworded (O.IndexedSp d) w = O.IndexedSp w
 reworded (O.Relative d) w = O.Relative w
 
--- a label's value takes the place of the word 0 that stands there till labels are settled
+-- that word takes the place of the 0 that stands there till labels are settled
 abbrev pub settledBy : LabelIn → Operand → ℕ → Operand
 settledBy L.Absent o w = o
 settledBy (L.Named name) o w = reworded o w

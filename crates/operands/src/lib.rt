@@ -24,7 +24,7 @@ pub enum Written {
     Relative(Value),
 }
 
-// An operand with its word. A label's value takes the place of a word 0 when labels are settled.
+// An operand with its word. What a label stands for takes the place of a word 0 when labels are settled.
 pub struct Given {
     pub operand: Operand,
     pub label: LabelIn,

@@ -1,4 +1,4 @@
-// Labels replaced by their values (specs/Settling.antt), which a second walk over the source knows.
+// Labels replaced by the words that they stand for (specs/Settling.antt), which a second walk over the source knows.
 ghost use mathlib.Core.Path.{_≡_};
 ghost use Rattle.operands.specs.Settling.{reworded, settledOperand, settledInstruction};
 use super::Given;

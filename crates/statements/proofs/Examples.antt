@@ -102,6 +102,8 @@ pub record Examples : Type 0 where
   pub only-colons : RefusedBehind 1 "a::" 3
   pub label-then-end : Labelled 1 "x: END: junk" End
   pub no-blank-owed : Labelled 1 "x:NOP" nop
+  -- blanks may stand before it
+  pub label-after-blanks : Line (bytes " \tx: NOP") (Named (record { start = 2; end = 3 })) nop
   pub no-word : Refuses 3 (": NOP" ∷ "5" ∷ "\"a\"" ∷ ".A" ∷ [])
   -- "END is a word like any other"
   pub end-as-label : Labelled 3 "END:" Nothing
@@ -117,6 +119,8 @@ pub record Examples : Type 0 where
   pub longest-runs : Refuses 4 ("ENDX" ∷ "ORG5" ∷ "B0 /1" ∷ [])
   pub wrong-forms : Refuses 3 ("EQU -5" ∷ "ORG" ∷ "ORG 1,2" ∷ "ORG #5" ∷ "ORG x" ∷ "DATA" ∷ "DATA 1," ∷ "DATA 5-3" ∷ "PUSH 5" ∷ "PUSH #5[.R1]" ∷ "PUSH #- 5" ∷ "NOP .A,.A,.X" ∷ "MOVE #1," ∷ "MOVE #1 .A" ∷ [])
   pub origin : Means "ORG(5)" (Org 5)
+  pub least-origin : Means "ORG 0" (Org 0)
+  pub most-origin : Means "ORG 65535" (Org 65535)
   pub one-string : Means "DATA\"a\"" (Data 2)
   pub one-number : Means "DATA-5" (Data 1)
   pub no-blanks : Means "MOVE#1,.A" (Instruction Op.MOVE (plain (O.Immediate 1)) (plain (O.Register 10)))
@@ -125,12 +129,14 @@ pub record Examples : Type 0 where
   pub a-difference : Means "EQU 5 -3" (Equ 2)
   pub below-zero : Means "EQU 0-5" (Equ 65531)
   pub least-equ : Means "EQU 0-32768" (Equ 32768)
+  pub most-equ : Means "EQU 65535" (Equ 65535)
+  pub none-reserved : Means "RES 0" (Res 0)
   pub most-reserved : Means "RES 65535" (Res 65535)
   pub out-of-range : Refuses 6 ("EQU 0-32769" ∷ "EQU 65536" ∷ "EQU 65535+1" ∷ "ORG 0-1" ∷ "RES 65536" ∷ "RES 0-1" ∷ "BR $32768" ∷ "PUSH #65536" ∷ "DATA 1,-32769" ∷ [])
   -- "6 or 7 in order of evaluation (left, right, operation)"
   pub by-zero : Refuses 7 ("EQU 1/0" ∷ "RES 5%0" ∷ "EQU 1/0+65536" ∷ "EQU 0*(1/0)" ∷ [])
   pub before-the-zero : Refuses 6 ("EQU 65536/0" ∷ "EQU 1/65536" ∷ "EQU 65535*65535/0" ∷ [])
-  -- "kind before size"
+  -- the kind comes before the size
   pub wrong-operands : Refuses 5 ("INC $3" ∷ "INC $40000" ∷ "BR #3[.SP]" ∷ "BZ .R3" ∷ "MOVE .A,.A,.A" ∷ "NOP .A" ∷ "HALT /70000" ∷ [])
   -- form, then depth, then values
   pub deepest-origin : Line (deepOrg 32 "5") Absent (Org 5)
@@ -155,6 +161,7 @@ examples =
       only-colons = (refl, refl);
       label-then-end = refl;
       no-blank-owed = refl;
+      label-after-blanks = refl;
       no-word = ((refl, refl), ((refl, refl), ((refl, refl), ((refl, refl), tt))));
       end-as-label = refl;
       end-as-operand = refl;
@@ -168,6 +175,8 @@ examples =
       longest-runs = ((refl, refl), ((refl, refl), ((refl, refl), tt)));
       wrong-forms = ((refl, refl), ((refl, refl), ((refl, refl), ((refl, refl), ((refl, refl), ((refl, refl), ((refl, refl), ((refl, refl), ((refl, refl), ((refl, refl), ((refl, refl), ((refl, refl), ((refl, refl), ((refl, refl), tt))))))))))))));
       origin = refl;
+      least-origin = refl;
+      most-origin = refl;
       one-string = refl;
       one-number = refl;
       no-blanks = refl;
@@ -175,6 +184,8 @@ examples =
       a-difference = refl;
       below-zero = refl;
       least-equ = refl;
+      most-equ = refl;
+      none-reserved = refl;
       most-reserved = refl;
       out-of-range = ((refl, refl), ((refl, refl), ((refl, refl), ((refl, refl), ((refl, refl), ((refl, refl), ((refl, refl), ((refl, refl), ((refl, refl), tt)))))))));
       by-zero = ((refl, refl), ((refl, refl), ((refl, refl), ((refl, refl), tt))));

@@ -1,5 +1,5 @@
 -- What a reading comes to: it passes its checks, or fails with the number of the first that fails.
-use Prim.Native.Nat.{ℕ, _≤_, _<_}
+use Prim.Native.Nat.{ℕ, zero, suc, _≤_, _<_}
 use mathlib.Core.Bool.{Bool, true, false, cond}
 use mathlib.Core.List.{List, [], _∷_}
 use mathlib.Core.Logic.{inl, inr}
@@ -7,13 +7,14 @@ use mathlib.Core.Path.{_≡_, refl, ap, _∙_}
 use native.Mathlib.Omega.{arith}
 use lib.Dec.{leb}
 use lib.IntN.{ℤ}
-use lib.ListN.{length}
+use lib.ListN.{length, List·getD-eq-default}
 use mir.Syntax.{w16}
 use mir.Val.{ofZ}
 use borrow.Author.Tests.{le-leb, leb-true, leb-false}
 use Rattle.numerals.specs.declared.Kept.{Kept}
 use Rattle.numerals.specs.declared.Kept.the-variants as N
 use Rattle.isa.specs.declared.Opcode.{Opcode}
+use Rattle.isa.proofs.Top.{few-operands}
 use Rattle.expressions.specs.Trees.{Tree, depth, deepest}
 use Rattle.expressions.specs.Worths.{worthOf}
 use Rattle.expressions.specs.declared.Worth.{Worth}
@@ -22,6 +23,8 @@ use Rattle.operands.specs.Checks.{fits, operandAt, wordOf, given}
 use Rattle.operands.specs.Checks as Operands
 use Rattle.operands.specs.declared.InstructionRead.the-variants as I
 use Rattle.operands.specs.declared.Written.{Written}
+use Rattle.operands.specs.declared.Written.the-variants.{Absent}
+use Rattle.operands.proofs.Top.{fits-exactly}
 use Rattle.items.specs.Items.{Item, cellsOf, allInRange}
 use Rattle.statements.specs.Statements.{Reading, nothing, instruction, org, equ, res, cells, end}
 use Rattle.statements.specs.FirstFailing.{Check, check, Pass, First}
@@ -89,6 +92,13 @@ module _ (least : ℤ) (makes : ℕ → Statement) (e : Tree) where
 -- ---- an opcode's operands
 
 module _ (op : Opcode) (os : List Written) where
+  -- there is no third operand
+  no-third : (i : ℕ) → fits op os ≡ true → wordOf (operandAt os (suc (suc i))) ≡ N.Cell 0
+  unfolding wordOf
+  no-third i f =
+      let few = fits-exactly op os .0 f .as-many in
+      ap wordOf (List·getD-eq-default os Absent (omega (arith, few, few-operands op)))
+
   operands-judgement : Outcome (readingChecks (instruction op os)) (instructionResult op (Operands.judged op os))
   unfolding Operands.judged First Pass
   operands-judgement = by-fit (fits op os) refl
@@ -104,13 +114,14 @@ module _ (op : Opcode) (os : List Written) where
 
       by-words : (x y : Kept) → wordOf a ≡ x → wordOf b ≡ y → fits op os ≡ true
           → Outcome (readingChecks (instruction op os)) (instructionResult op (Operands.ranged a x b y))
-      by-words (N.Cell x) (N.Cell y) p q f = passes (Instruction op (given a x) (given b y)) refl (fitting f, (no, (none, (no, (no, tt)))))
+      by-words (N.Cell x) (N.Cell y) p q f = passes (Instruction op (given a x) (given b y)) refl (fitting f, (no, (λ o. none-at (o .0) (o .1), (no, (no, tt)))))
         where
-          none : NumberOut (instruction op os) → ⊥
-          none (inl o) = never (cc)
-          none (inr o) = never (cc)
-      by-words (N.Cell x) N.OutOfRange p q f = refused F.OutOfRange refl (inr (fitting f, inr (no, inl (inr q, refl))))
-      by-words N.OutOfRange y p q f = refused F.OutOfRange refl (inr (fitting f, inr (no, inl (inl p, refl))))
+          none-at : (i : ℕ) → wordOf (operandAt os i) ≡ N.OutOfRange → ⊥
+          none-at zero o = never (cc)
+          none-at (suc zero) o = never (cc)
+          none-at (suc (suc i)) o = let g = no-third i f in never (cc)
+      by-words (N.Cell x) N.OutOfRange p q f = refused F.OutOfRange refl (inr (fitting f, inr (no, inl ((1, q), refl))))
+      by-words N.OutOfRange y p q f = refused F.OutOfRange refl (inr (fitting f, inr (no, inl ((0, p), refl))))
 
       by-fit : (t : Bool) → fits op os ≡ t
           → Outcome (readingChecks (instruction op os)) (instructionResult op (cond t (Operands.ranged a (wordOf a) b (wordOf b)) I.WrongOperands))

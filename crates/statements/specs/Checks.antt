@@ -3,7 +3,6 @@
 use Prim.Native.Nat.{ℕ, _<_}
 use mathlib.Core.Bool.{Bool, false, _&&_}
 use mathlib.Core.List.{List, [], _∷_}
-use mathlib.Core.Logic.{_⊎_}
 use mathlib.Core.Path.{_≡_}
 use lib.IntN.{ℤ, pos, negsuc}
 use lib.Signed.{leZ}
@@ -57,7 +56,7 @@ TooDeep = OfExpression (λ least e. deepest < depth e)
 -- "number, expression .. out of range": an operand's number; an item's; an expression's number or operation, before any zero divisor
 abbrev pub NumberOut : Reading → Type 0
 NumberOut nothing = ⊥
-NumberOut (instruction op os) = (wordOf (operandAt os 0) ≡ N.OutOfRange) ⊎ (wordOf (operandAt os 1) ≡ N.OutOfRange)
+NumberOut (instruction op os) = (i : ℕ) × (wordOf (operandAt os i) ≡ N.OutOfRange)
 NumberOut (org e) = worthOf e ≡ E.OutOfRange
 NumberOut (equ e) = worthOf e ≡ E.OutOfRange
 NumberOut (res e) = worthOf e ≡ E.OutOfRange

@@ -1,4 +1,4 @@
-// What an expression, an opcode's operands and DATA's items come to as a statement (specs/Checks.antt, specs/Parts.antt).
+// What an expression, an opcode's operands and DATA's items come to as a statement (specs/Judging.antt, specs/Reading.antt, specs/Parts.antt).
 ghost use mathlib.Core.Path.{_≡_};
 ghost use Prim.Native.Nat.{_<_};
 ghost use lib.Signed.{mag};

@@ -28,12 +28,18 @@ pub record Examples : Type 0 where
   pub string-directly : RowOf (bytes "DATA\"a\"") (token Word 0 true 4 ∷ token Text 4 true 7 ∷ [])
   pub digit-in-a-word : RowOf (bytes "ORG5") (token Word 0 true 4 ∷ [])
   pub first-after-blanks : RowOf (bytes "\t x") (token Word 2 false 3 ∷ [])
+  pub all-of-a-word : RowOf (bytes "AZaz_09") (token Word 0 true 7 ∷ [])
+  pub first-and-last-mark : RowOf (bytes "!~") (token (Mark 33) 0 true 1 ∷ token (Mark 126) 1 true 2 ∷ [])
   -- no blank stands inside a number, and its `-` stands directly before it
   pub minus-apart : RowOf (bytes "- 5") (token (Mark (code "-")) 0 true 1 ∷ token (Number 5 Decimal) 2 false 3 ∷ [])
   pub digits-apart : RowOf (bytes "5 5") (token (Number 5 Decimal) 0 true 1 ∷ token (Number 5 Decimal) 2 false 3 ∷ [])
   pub minus-directly : RowOf (bytes "-5") (token (Mark (code "-")) 0 true 1 ∷ token (Number 5 Decimal) 1 true 2 ∷ [])
   pub hexadecimal : RowOf (bytes "/0xfF") (token (Mark (code "/")) 0 true 1 ∷ token (Number 255 Hexadecimal) 1 true 5 ∷ [])
   pub too-large : RowOf (bytes "99999") (token (Number 65536 Decimal) 0 true 5 ∷ [])
+  -- "Strings hold 32..126"
+  pub first-and-last-character : RowOf (bytes "\" ~\"") (token Text 0 true 4 ∷ [])
+  pub before-the-first : RowOf (34 ∷ 31 ∷ 34 ∷ []) (token Stray 0 true 0 ∷ [])
+  pub after-the-last : RowOf (34 ∷ 127 ∷ 34 ∷ []) (token Stray 0 true 0 ∷ [])
   -- `\n` is the only backslash of a string, and `;` in a string begins no comment
   pub newline-in-a-string : RowOf (bytes "\"a\\n\"") (token Text 0 true 5 ∷ [])
   pub semicolon-in-a-string : RowOf (bytes "\"a;b\";c") (token Text 0 true 5 ∷ [])
@@ -61,11 +67,16 @@ examples =
       string-directly = line-row _;
       digit-in-a-word = line-row _;
       first-after-blanks = line-row _;
+      all-of-a-word = line-row _;
+      first-and-last-mark = line-row _;
       minus-apart = line-row _;
       digits-apart = line-row _;
       minus-directly = line-row _;
       hexadecimal = line-row _;
       too-large = line-row _;
+      first-and-last-character = line-row _;
+      before-the-first = line-row _;
+      after-the-last = line-row _;
       newline-in-a-string = line-row _;
       semicolon-in-a-string = line-row _;
       carriage-return = line-row _;

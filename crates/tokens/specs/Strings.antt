@@ -1,4 +1,4 @@
--- "Strings hold 32..126 except `\"`; a backslash only as `\\n` (10). A string takes a cell a character and a 0 cell." (01)
+-- "Strings hold 32..126 except `"`; a backslash only as `\n` (10). A string takes a cell a character and a 0 cell." (01)
 use Prim.Native.Nat.{ℕ}
 use Prim.Native.Char.{code}
 use mathlib.Core.Bool.{Bool, not, _&&_}

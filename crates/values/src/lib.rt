@@ -3,7 +3,7 @@
 use numerals::Cursor;
 use numerals::Numeral;
 
-pub mod ranges; // the cell that keeps a number
+pub mod ranges; // the cell that keeps a displacement
 pub mod reading; // the value at a cursor
 
 // A word of the line, by its place.
