@@ -18,7 +18,7 @@ use Rattle.tokens.proofs.Classes.{inside}
 use Rattle.tokens.proofs.Quoted.{plain-is}
 use Rattle.items.specs.Items.{Item, ItemText, is-number, is-string, Items, one, more, itemCells, itemInRange, cellsOf, allInRange}
 use Rattle.items.specs.Reading.{item, Result, reads, wrong, walk}
-use Rattle.items.specs.Writing.{cellsIn, cellsFrom}
+use Rattle.items.specs.Writing.{acceptedCells, cellsFrom}
 use Rattle.items.proofs.Readings.{in-line, sound}
 use Rattle.items.proofs.Writes.{first}
 
@@ -66,6 +66,6 @@ module _ (line : List ℕ) where
       by-range is true r q = items-small r q
       by-range is false r q = none-small
 
-      go : (x : Result) → walk line item (tokensFrom line at) ≡ x → Small (cellsIn x)
+      go : (x : Result) → walk line item (tokensFrom line at) ≡ x → Small (acceptedCells x)
       go (reads is) e = by-range is (allInRange is) (sound line (in-line line at) e) refl
       go wrong e = none-small

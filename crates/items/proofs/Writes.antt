@@ -29,7 +29,7 @@ use Rattle.values.specs.declared.ValueRead.the-variants as R
 use Rattle.items.specs.Items.{Item, number, itemCells, itemInRange, cellsOf, allInRange}
 use Rattle.items.specs.Reading.{characters, item, Result, reads, wrong, cons, walk, judged, itemsRead}
 use Rattle.items.specs.Turns.{stringAt, itemBy, itemAt, measured}
-use Rattle.items.specs.Writing.{cellsIn, cellsFrom, accepted, cellsAt}
+use Rattle.items.specs.Writing.{acceptedCells, cellsFrom, accepted, cellsAt}
 use Rattle.items.specs.declared.ItemRead.the-variants.{Absent}
 use Rattle.items.specs.declared.ItemsRead.{ItemsRead}
 use Rattle.items.specs.declared.ItemsRead.the-variants.{Cells, WrongForm, OutOfRange}
@@ -137,7 +137,7 @@ module _ (s : List ℕ) (at : ℕ) (row : List ℕ) (to : ℕ) where
 pub record First (i : Item) (r : Result) : Type 0 where
   pub fits : itemInRange i ≡ true
   pub rest : accepted r ≡ true
-  pub cells : cellsIn (cons i r) ≡ itemCells i ++ cellsIn r
+  pub cells : acceptedCells (cons i r) ≡ itemCells i ++ acceptedCells r
 
 pub first : (i : Item) (r : Result) → accepted (cons i r) ≡ true → First i r
 unfolding cellsOf allInRange
@@ -162,12 +162,12 @@ module _ (s : List ℕ) (at : ℕ) (ok : accepted (walk s item (tokensFrom s at)
 
     -- the item's cells, and then those of the rest
     written : (row : List ℕ) (to : ℕ) {ms : List ℕ} (r : Result) → walk s item (tokensFrom s at) ≡ cons (h .item) r
-        → ms ≡ sets row to (cellsAt (itemAt s at)) → sets row to (cellsFrom s (tokensFrom s at)) ≡ sets ms (to + m) (cellsIn r)
+        → ms ≡ sets row to (cellsAt (itemAt s at)) → sets row to (cellsFrom s (tokensFrom s at)) ≡ sets ms (to + m) (acceptedCells r)
     unfolding cellsFrom
     written row to {ms} r e w =
         let f = headed r e in
         let i : ms ≡ sets row to (itemCells (h .item)) = w ∙ rw (h .is, f .fits) in
-        ap (λ (x : Result). sets row to (cellsIn x)) e ∙ ap (sets row to) (f .cells) ∙ sets-append row to (itemCells (h .item)) (cellsIn r) ∙ rw (← i, ← h .cells)
+        ap (λ (x : Result). sets row to (acceptedCells x)) e ∙ ap (sets row to) (f .cells) ∙ sets-append row to (itemCells (h .item)) (acceptedCells r) ∙ rw (← i, ← h .cells)
 
     pub last-written : (row : List ℕ) (to : ℕ) {ms : List ℕ} → followsOf (tokenAt s (c .at)) ≡ Over → ms ≡ sets row to (cellsAt (itemAt s at))
         → ms ≡ sets row to (cellsFrom s (tokensFrom s at))
@@ -183,15 +183,15 @@ module _ (s : List ℕ) (at : ℕ) (ok : accepted (walk s item (tokensFrom s at)
         → sets row to (cellsFrom s (tokensFrom s at)) ≡ sets ms n (cellsFrom s (tokensFrom s (d .at)))
     unfolding cellsFrom walk
     next-written row to {ms} {d} e w q =
-        written row to (walk s item (tokensFrom s (d .at))) (walked s at h e) w ∙ ap (λ (x : ℕ). sets ms x (cellsIn (walk s item (tokensFrom s (d .at))))) (sym q)
+        written row to (walk s item (tokensFrom s (d .at))) (walked s at h e) w ∙ ap (λ (x : ℕ). sets ms x (acceptedCells (walk s item (tokensFrom s (d .at))))) (sym q)
 
 -- ---- the cells by the reply of `items`
 
 -- what a reply to a row's result says of the cells
 abbrev pub Given : Result → ItemsRead → Type 0
-Given x (Cells n) = (accepted x ≡ true) × (length (cellsIn x) ≡ n)
-Given x WrongForm = cellsIn x ≡ []
-Given x OutOfRange = cellsIn x ≡ []
+Given x (Cells n) = (accepted x ≡ true) × (length (acceptedCells x) ≡ n)
+Given x WrongForm = acceptedCells x ≡ []
+Given x OutOfRange = acceptedCells x ≡ []
 
 judged-given : (x : Result) → Given x (judged x)
 judged-given (reads is) = go (allInRange is) refl

@@ -8,12 +8,12 @@ use Rattle.items.specs.Reading.{item, Result, reads, wrong, walk}
 use Rattle.items.specs.Turns.{Standing, stands, none}
 
 -- the cells of the items that follow DATA; none where these are refused
-abbrev pub cellsIn : Result → List ℕ
-cellsIn (reads is) = cond (allInRange is) (cellsOf is) []
-cellsIn wrong = []
+abbrev pub acceptedCells : Result → List ℕ
+acceptedCells (reads is) = cond (allInRange is) (cellsOf is) []
+acceptedCells wrong = []
 
 unfoldable pub cellsFrom : List ℕ → List Token → List ℕ
-cellsFrom line ts = cellsIn (walk line item ts)
+cellsFrom line ts = acceptedCells (walk line item ts)
 
 -- ---- what the code of one turn writes
 
