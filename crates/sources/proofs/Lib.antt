@@ -1,0 +1,2 @@
+-- Laws of the definitions, by topic; Top.antt restates what the crate promises.
+pub mod Examples
