@@ -4,3 +4,5 @@ pub mod Passing
 pub mod Tests
 pub mod Verdicts
 pub mod LineDecided
+pub mod Works
+pub mod LateDecided

@@ -138,10 +138,6 @@ module _ (k : ℕ) (bytes : List ℕ) where
 
       -- ---- the whole line
 
-      in-parts : lineChecks M k p bytes ≡ labelChecks ++ (onLine k (checks bytes) ++ actChecks)
-      unfolding lineChecks checks
-      in-parts = refl
-
       pub line-tells : Tells (lineVerdict M k p (readLine bytes)) (lineChecks M k p bytes)
       unfolding lineVerdict lineChecks checks
       line-tells =
