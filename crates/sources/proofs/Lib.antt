@@ -6,3 +6,5 @@ pub mod Verdicts
 pub mod LineDecided
 pub mod Works
 pub mod LateDecided
+pub mod Ends
+pub mod Walk
