@@ -1,15 +1,15 @@
 -- The verdicts on the loans, on the source's end and on labels in operands tell their checks.
 use Prim.Native.Nat.{ℕ}
-use mathlib.Core.Bool.{Bool, not, _&&_, _||_}
+use mathlib.Core.Bool.{not, _||_}
 use mathlib.Core.List.{List, [], _∷_, _++_}
-use lib.Dec.{eqb, leb, ltb}
+use lib.Dec.{eqb, ltb}
 use lib.ListN.{length}
-use Rattle.statements.specs.FirstFailing.{check, Pass}
+use Rattle.statements.specs.FirstFailing.{Pass}
 use Rattle.sources.specs.Limits.{mostCells, longestSource}
 use Rattle.sources.specs.Placing.{Bound, Place, bindings}
 use Rattle.sources.specs.Uses.{valueOf, Use}
 use Rattle.sources.specs.Order.{_on_, loanChecks, endChecks, useChecks}
-use Rattle.sources.specs.Assembling.{loanVerdict, Work, endVerdict, isUnknown, tooFar, useVerdict, usesVerdict, lateVerdict}
+use Rattle.sources.specs.Assembling.{loanVerdict, Work, endVerdict, useVerdict, usesVerdict, lateVerdict}
 use Rattle.sources.proofs.Tests.{lt-decides, eq-decides, or-decides, not-decides, waiting-decides, unknown-decides, far-decides}
 use Rattle.sources.proofs.Verdicts.{Tells, tells-none, tells-test, tells-join}
 

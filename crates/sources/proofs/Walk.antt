@@ -1,7 +1,7 @@
 -- The walk over a source's lines: it passes exactly where every line up to END has a reading and passes, and else stops at the line
 -- and the check that fail first.
 use Prim.Native.Nat.{ℕ, suc, _+_}
-use mathlib.Core.Bool.{Bool, true, false, cond}
+use mathlib.Core.Bool.{Bool, cond}
 use mathlib.Core.List.{List, [], _∷_, map}
 use mathlib.Core.Logic.{_⊎_, inl, inr}
 use mathlib.Core.Path.{_≡_, refl, ap, ap₂, subst, _∙_}
@@ -15,7 +15,7 @@ use Rattle.statements.specs.Reading.{lineRead}
 use Rattle.statements.specs.declared.LineRead.{LineRead}
 use Rattle.statements.proofs.Top as Lines
 use Rattle.sources.specs.Sources.{Said, said, UpToEnd, over, ends, more, Before, at-start, further}
-use Rattle.sources.specs.Placing.{Place, Judged, judgedLine, after, placeAfter}
+use Rattle.sources.specs.Placing.{Place, judgedLine, after, placeAfter}
 use Rattle.sources.specs.Order.{Refusal, lineChecks, Passed}
 use Rattle.sources.specs.Assembling.{Verdict, passes, refused, andThen, readLine, endsIt, upToEnd, lineVerdict, walkLines}
 use Rattle.sources.proofs.Verdicts.{Tells, tells-pass, tells-first}
@@ -23,34 +23,27 @@ use Rattle.sources.proofs.Passing.{passing-says}
 use Rattle.sources.proofs.LineDecided.{line-tells}
 use Rattle.sources.proofs.Ends.{end-ends, others-go-on, end-or-not}
 
--- ---- the reader sees the same lines
+-- ---- a line with a reading
 
--- a line with a reading is the line that `read_line` answers
+-- it is the line that `read_line` answers
 pub read-line : (bytes : List ℕ) {l : LabelIn} {r : Reading} → Says bytes l r → readLine bytes ≡ judgedLine (said bytes l r)
 read-line bytes x = ap (λ (a : LineRead). record { bytes = bytes; read = a }) (Lines.read-judged bytes x)
 
 says-ends : (bytes : List ℕ) {l : LabelIn} {r : Reading} → Says bytes l r → endsIt (lineRead bytes .statement) ≡ endsIt (judged r)
 says-ends bytes x = ap (λ (a : LineRead). endsIt (a .statement)) (Lines.read-judged bytes x)
 
-cut : (bytes : List ℕ) (rest : List (List ℕ)) {b : Bool} {l : LabelIn} {r : Reading} → Says bytes l r → endsIt (judged r) ≡ b
+-- the lines behind it are read, unless it says END
+pub cut : (bytes : List ℕ) (rest : List (List ℕ)) {b : Bool} {l : LabelIn} {r : Reading} → Says bytes l r → endsIt (judged r) ≡ b
     → upToEnd (bytes ∷ rest) ≡ bytes ∷ cond b [] (upToEnd rest)
 unfolding upToEnd
 cut bytes rest {b} x e = let f : endsIt (lineRead bytes .statement) ≡ b = says-ends bytes x ∙ e in rw f
-
-pub lines-read : {xs : List Said} {ls : List (List ℕ)} → UpToEnd ls xs → map readLine (upToEnd ls) ≡ map judgedLine xs
-unfolding upToEnd
-lines-read over = refl
-lines-read (ends {bytes} {lines} s) = ap (map readLine) (cut bytes lines s end-ends) ∙ ap (λ (x : Judged). x ∷ []) (read-line bytes s)
-lines-read (more {bytes} {lines} {xs} {l} {r} s not-end u) =
-    ap (map readLine) (cut bytes lines s (others-go-on r not-end))
-    ∙ ap₂ (λ (x : Judged) (xs : List Judged). x ∷ xs) (read-line bytes s) (lines-read u)
 
 module _ (M : ℕ) where
   abbrev at-line : ℕ → Place → List ℕ → Verdict
   at-line k p bytes = lineVerdict M k p (readLine bytes)
 
   line-passes : (k : ℕ) (p : Place) (bytes : List ℕ) → Pass (lineChecks M k p bytes) → at-line k p bytes ≡ passes
-  line-passes k p bytes h = tells-pass (at-line k p bytes) (lineChecks M k p bytes) (line-tells k bytes p M) h
+  line-passes k p bytes h = tells-pass (at-line k p bytes) (lineChecks M k p bytes) (line-tells M k p bytes) h
 
   step : (k : ℕ) (p : Place) (bytes : List ℕ) (rest : List (List ℕ)) {b : Bool} {l : LabelIn} {r : Reading} → Says bytes l r
       → endsIt (judged r) ≡ b
@@ -80,7 +73,7 @@ module _ (M : ℕ) where
   first-line : (k : ℕ) (p : Place) (bytes : List ℕ) (rest : List (List ℕ)) {why : Refusal} → First (lineChecks M k p bytes) why
       → walkLines M k p (upToEnd (bytes ∷ rest)) ≡ refused why
   unfolding walkLines upToEnd
-  first-line k p bytes rest f = rw (tells-first (at-line k p bytes) (lineChecks M k p bytes) (line-tells k bytes p M) f)
+  first-line k p bytes rest f = rw (tells-first (at-line k p bytes) (lineChecks M k p bytes) (line-tells M k p bytes) f)
 
   pub walk-fails : {ls rest : List (List ℕ)} {xs : List Said} (bytes : List ℕ) (k : ℕ) (p : Place) {why : Refusal}
       → Before ls xs (bytes ∷ rest)
@@ -108,7 +101,7 @@ module _ (M : ℕ) where
   pub walked : (ls : List (List ℕ)) (k : ℕ) (p : Place) → Walked k p ls
   unfolding Passed placeAfter
   walked [] k p = all-pass [] over tt
-  walked (b ∷ ls) k p = go (at-line k p b) (line-tells k b p M) (walked ls)
+  walked (b ∷ ls) k p = go (at-line k p b) (line-tells M k p b) (walked ls)
     where
       on : {l : LabelIn} {r : Reading} → Says b l r → (r ≡ end → ⊥) → Pass (lineChecks M k p b)
           → Walked (k + 1) (after p (judgedLine (said b l r))) ls

@@ -3,7 +3,7 @@ use Prim.Native.Nat.{ℕ, _+_}
 use mathlib.Core.List.{List, [], _∷_, _++_, append-assoc, append-nil}
 use mathlib.Core.Path.{_≡_, refl, sym, _∙_}
 use Rattle.sources.specs.Placing.{start, acted, Judged, nextFrom, after, placeAfter}
-use Rattle.sources.specs.Uses.{Use, usesRead, usesOf}
+use Rattle.sources.specs.Uses.{usesRead, usesOf}
 use Rattle.sources.specs.Assembling.{Work, startWork, worked, workAfter}
 
 -- the place after the k-th line and those behind it
