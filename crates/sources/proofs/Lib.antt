@@ -1,2 +1,5 @@
 -- Laws of the definitions, by topic; Top.antt restates what the crate promises.
 pub mod Examples
+pub mod Passing
+pub mod Stores
+pub mod Contents
