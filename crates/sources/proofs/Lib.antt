@@ -3,3 +3,4 @@ pub mod Examples
 pub mod Passing
 pub mod Stores
 pub mod Contents
+pub mod Filling
