@@ -4,3 +4,4 @@ pub mod Passing
 pub mod Stores
 pub mod Contents
 pub mod Filling
+pub mod Images
