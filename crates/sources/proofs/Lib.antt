@@ -5,3 +5,4 @@ pub mod Stores
 pub mod Contents
 pub mod Filling
 pub mod Images
+pub mod Counts
