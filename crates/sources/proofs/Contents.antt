@@ -270,9 +270,11 @@ module _ (bs : List Bound) (k : ℕ) (bytes : List ℕ) (at next : ℕ) (op : Op
       fill-operand bs k bytes at next (a .label) (a .operand) wa (f ∷ []) ys m in
       let ends : sets m at (f ∷ (xs′ ++ ys)) ≡ sets m at ((f ∷ xs′) ++ (ys ++ [])) =
       ap (λ (zs : List ℕ). sets m at (f ∷ (xs′ ++ zs))) (sym (append-nil ys)) in
-      let second : filled bs vs (sets m at ((f ∷ xs′) ++ (ys ++ []))) ≡ sets m at ((f ∷ xs′) ++ (ys′ ++ [])) =
-      subst (λ (c : ℕ). filled bs (useBy k bytes c next (b .operand) (b .label)) (sets m at ((f ∷ xs′) ++ (ys ++ []))) ≡ sets m at ((f ∷ xs′) ++ (ys′ ++ [])))
-      there (fill-operand bs k bytes at next (b .label) (b .operand) wb (f ∷ xs′) [] m) in
+      let from = sets m at ((f ∷ xs′) ++ (ys ++ [])) in
+      let to = sets m at ((f ∷ xs′) ++ (ys′ ++ [])) in
+      let second : filled bs vs from ≡ to =
+      subst (λ (c : ℕ). filled bs (useBy k bytes c next (b .operand) (b .label)) from ≡ to) there
+      (fill-operand bs k bytes at next (b .label) (b .operand) wb (f ∷ xs′) [] m) in
       let back : sets m at ((f ∷ xs′) ++ (ys′ ++ [])) ≡ sets m at (f ∷ (xs′ ++ ys′)) =
       ap (λ (zs : List ℕ). sets m at (f ∷ (xs′ ++ zs))) (append-nil ys′) in
       let word : sets m at (f ∷ (xs′ ++ ys′)) ≡ sets m at (firstWordOf (settledInstruction op a b v w) ∷ (xs′ ++ ys′)) =
@@ -309,39 +311,38 @@ module _ (bytes : List ℕ) {op : Opcode} {a b : Given} (e : lineRead bytes .sta
 
 -- what holds of the cells of a line at an address
 pub record LineCells (bs : List Bound) (k : ℕ) (bytes : List ℕ) (at : ℕ) (r : Reading) (s : Statement) : Type 0 where
-  pub given-long : length (givenBy bs bytes (movedBy (does s .moves) at) r) ≡ claimOf s
+  pub given-long : (next : ℕ) → length (givenBy bs bytes next r) ≡ claimOf s
   pub raw-long : length (rawBy bytes s) ≡ claimOf s
   pub fills : (m : List ℕ)
       → filled bs (usesBy k bytes at s) (sets m at (rawBy bytes s)) ≡ sets m at (givenBy bs bytes (movedBy (does s .moves) at) r)
   pub uses-inside : Inside at (claimOf s) (usesBy k bytes at s)
 
--- of a line that gives no cell
 module _ (bs : List Bound) (k : ℕ) (bytes : List ℕ) (at : ℕ) where
   line-by : {l : LabelIn} {r : Reading} {s : Statement} → Says bytes l r → lineRead bytes .statement ≡ Passes s → PassesAs r s
       → LineCells bs k bytes at r s
   unfolding usesBy filled does
-  line-by x e as-nothing = record { given-long = refl; raw-long = refl; fills = λ m. refl; uses-inside = tt }
+  line-by x e as-nothing = record { given-long = λ next. refl; raw-long = refl; fills = λ m. refl; uses-inside = tt }
   line-by x e (as-instruction {op} {os} {a} {b} f) =
       let next = at + claimOf (S.Instruction op a b) in
       let v = wordIn bs bytes next a in
       let w = wordIn bs bytes next b in
       let h = operands-worded bytes e in
-      let n = statements.words-claimed bytes e v w in
-      let c = same-count op a b v w in
-      let given : codeOf bs bytes next op a b ≡ givenBy bs bytes next (instruction op os) = ap (λ (i : InstructionRead). codeRead bs bytes next op i) (sym f) in
+      let c = sym (same-count op a b v w) ∙ statements.words-claimed bytes e v w in
+      let given : (n : ℕ) → codeOf bs bytes n op a b ≡ givenBy bs bytes n (instruction op os) =
+      λ n. ap (λ (i : InstructionRead). codeRead bs bytes n op i) (sym f) in
       record {
-        given-long = ap length (sym given) ∙ n;
-        raw-long = words-long (record { op = op; first = a .operand; second = b .operand }) ∙ sym c ∙ n;
-        fills = λ m. code-filled bs k bytes at next op a b (h .0) (h .1) m ∙ ap (sets m at) given;
-        uses-inside = code-inside bs k bytes at next op a b (h .0) (h .1) (claimOf (S.Instruction op a b)) (sym c ∙ n);
+        given-long = λ n. ap length (sym (given n)) ∙ statements.words-claimed bytes e (wordIn bs bytes n a) (wordIn bs bytes n b);
+        raw-long = words-long (record { op = op; first = a .operand; second = b .operand }) ∙ c;
+        fills = λ m. code-filled bs k bytes at next op a b (h .0) (h .1) m ∙ ap (sets m at) (given next);
+        uses-inside = code-inside bs k bytes at next op a b (h .0) (h .1) (claimOf (S.Instruction op a b)) c;
       }
-  line-by x e as-org = record { given-long = refl; raw-long = refl; fills = λ m. refl; uses-inside = tt }
-  line-by x e as-equ = record { given-long = refl; raw-long = refl; fills = λ m. refl; uses-inside = tt }
-  line-by x e as-res = record { given-long = refl; raw-long = refl; fills = λ m. refl; uses-inside = tt }
+  line-by x e as-org = record { given-long = λ next. refl; raw-long = refl; fills = λ m. refl; uses-inside = tt }
+  line-by x e as-equ = record { given-long = λ next. refl; raw-long = refl; fills = λ m. refl; uses-inside = tt }
+  line-by x e as-res = record { given-long = λ next. refl; raw-long = refl; fills = λ m. refl; uses-inside = tt }
   line-by x e (as-cells {is} f) =
       let c = statements.cells-exactly bytes x f in
-      record { given-long = refl; raw-long = ap length c; fills = λ m. ap (sets m at) c; uses-inside = tt }
-  line-by x e as-end = record { given-long = refl; raw-long = refl; fills = λ m. refl; uses-inside = tt }
+      record { given-long = λ next. refl; raw-long = ap length c; fills = λ m. ap (sets m at) c; uses-inside = tt }
+  line-by x e as-end = record { given-long = λ next. refl; raw-long = refl; fills = λ m. refl; uses-inside = tt }
 
   -- as many cells are given, and are written, as are claimed; the labels' words filled in, they are those that are given; and each
   -- label's cell is among them

@@ -2,7 +2,7 @@
 use Prim.Native.Nat.{ℕ, zero, suc, _+_, _≤_, _<_}
 use mathlib.Core.Bool.{Bool, true, false, cond}
 use mathlib.Core.List.{List, [], _∷_, map}
-use mathlib.Core.Path.{_≡_, refl, sym, ap, subst, _∙_}
+use mathlib.Core.Path.{_≡_, refl, sym, ap, _∙_}
 use native.Mathlib.Omega.{arith}
 use lib.Dec.{eqb}
 use lib.ListN.{length, getD, replicate, set, length-set, length-replicate}
@@ -13,7 +13,7 @@ use Rattle.sources.specs.Limits.{free, codeMark, dataMark}
 use Rattle.sources.specs.Sources.{Said}
 use Rattle.sources.specs.Placing.{doesRead, Bound, Place, start, acted, judgedLine, after, placeAfter, placeOf, bindings}
 use Rattle.sources.specs.Order.{Passed}
-use Rattle.sources.specs.Image.{Block, blockOf, blocksOf, blocks, Image, Accepted, cellsMarked}
+use Rattle.sources.specs.Image.{Block, blockOf, blocksOf, blocks, Accepted, cellsMarked}
 use Rattle.sources.specs.Assembling.{startWork, workAfter}
 use Rattle.sources.proofs.Filling.{Read, all-read, fits, marks-long, work-marks}
 use Rattle.sources.proofs.Images.{image-there, one-image}
@@ -91,9 +91,10 @@ module _ (k : ℕ) (used : k ≡ free → ⊥) where
       let a = doesRead (judged (x .says)) in
       let q = after p (judgedLine x) in
       let b = blockOf bs (p .at) x in
-      let own : cellsMarked k (q .marks) ≡ counted (eqb (a .mark) k) (a .claims) + cellsMarked k (p .marks) =
+      let here = eqb (a .mark) k in
+      let own : cellsMarked k (q .marks) ≡ counted here (a .claims) + cellsMarked k (p .marks) =
       sets-counted (a .claims) (p .at) (a .mark) (p .marks) (λ w. omega (arith, f .within w)) (f .untaken) in
-      let given : counted (eqb (a .mark) k) (length (b .given)) ≡ counted (eqb (a .mark) k) (a .claims) = ap (counted (eqb (a .mark) k)) (f .given-long) in
+      let given : counted here (length (b .given)) ≡ counted here (a .claims) = ap (counted here) (f .given-long) in
       let rest = lines-counted M (n + 1) bs q xs (marks-long p (judgedLine x) ∙ l) (s .1) (h .1) in
       omega (arith, own, given, rest)
 

@@ -1,16 +1,14 @@
 -- Cells that are written with 0 in the places of labels, and filled at the end, come to the cells that each line gives, line by line: a
 -- label's cell lies in its own line's block, which no later line touches.
-use Prim.Native.Nat.{ℕ, suc, _+_, _≤_, _<_}
+use Prim.Native.Nat.{ℕ, _+_, _≤_, _<_}
 use mathlib.Core.List.{List, [], _∷_, _++_, map, append-assoc, append-nil}
 use mathlib.Core.Path.{_≡_, refl, sym, ap, subst, _∙_}
 use native.Mathlib.Omega.{arith}
 use lib.ListN.{length, getD, replicate, set, length-replicate, getD-replicate}
 use lib.Seq.{sets, length-sets}
-use Rattle.values.specs.declared.LabelIn.{LabelIn}
 use Rattle.statements.specs.Statements.{Reading, Says}
 use Rattle.statements.specs.FirstFailing.{Pass}
-use Rattle.statements.specs.Judging.{judged, claimOf}
-use Rattle.statements.specs.declared.Statement.{Statement}
+use Rattle.statements.specs.Judging.{judged}
 use Rattle.statements.specs.declared.StatementRead.{StatementRead}
 use Rattle.statements.specs.declared.StatementRead.the-variants.{Passes}
 use Rattle.statements.proofs.Top as statements
@@ -23,7 +21,7 @@ use Rattle.sources.specs.Image.{givenBy, blockOf}
 use Rattle.sources.specs.Assembling.{rawRead, Work, startWork, worked, workAfter, filled, memoryOf}
 use Rattle.sources.proofs.Passing.{passing-says, passed-line}
 use Rattle.sources.proofs.Stores.{Outside, sets-other, sets-same, set-sets}
-use Rattle.sources.proofs.Contents.{claims-count, marked-cells, filled-append, Inside, LineCells, line-cells}
+use Rattle.sources.proofs.Contents.{claims-count, marked-cells, filled-append, Inside, line-cells}
 
 -- every line of a list has its reading
 abbrev pub Read : List Said → Type 0
@@ -67,7 +65,7 @@ module _ (M k : ℕ) (bs : List Bound) (p : Place) (x : Said) where
         within = f .0;
         untaken = f .1;
         marking = marked-cells s;
-        given-long = l .given-long ∙ sym n;
+        given-long = l .given-long (movedBy (does s .moves) (p .at)) ∙ sym n;
         raw-long = l .raw-long ∙ sym n;
         fills = l .fills;
         uses-inside = subst (λ (c : ℕ). Inside (p .at) c (usesBy k (x .bytes) (p .at) s)) (sym n) (l .uses-inside);
@@ -84,7 +82,8 @@ module _ {M k : ℕ} {bs : List Bound} {p : Place} (x : Said) (f : Fits M k bs p
   keeps-mark c t =
       let a = doesRead (judged (x .says)) in
       let o = not-its c t in
-      sets-other (replicate (a .claims) (a .mark)) (p .marks) (p .at) c (λ i h e. o i (omega (arith, length-replicate {A = ℕ} (a .claims) (a .mark))) e)
+      let n = length-replicate {A = ℕ} (a .claims) (a .mark) in
+      sets-other (replicate (a .claims) (a .mark)) (p .marks) (p .at) c (λ i h e. o i (omega (arith, n)) e)
 
   -- a cell that the line claims gets the line's mark
   pub gets-mark : length (p .marks) ≡ M → (i : ℕ) → i < doesRead (judged (x .says)) .claims

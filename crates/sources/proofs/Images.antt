@@ -19,7 +19,7 @@ use Rattle.sources.specs.Order.{lineChecks, Passed}
 use Rattle.sources.specs.Image.{Block, blockOf, blocksOf, blocks, Has, Apart, Image}
 use Rattle.sources.specs.Assembling.{startWork, workAfter, memoryOf}
 use Rattle.sources.proofs.Stores.{Outside, sets-other, sets-same}
-use Rattle.sources.proofs.Filling.{Read, fits, keeps-mark, gets-mark, marks-long, written, memory-written, work-marks}
+use Rattle.sources.proofs.Filling.{Read, fits, gets-mark, marks-long, written, memory-written, work-marks}
 
 -- ---- from a place on, over a memory
 
