@@ -8,5 +8,11 @@ pub mod Works
 pub mod Ends
 pub mod Walk
 pub mod Whole
-pub mod Examples
+pub mod Stores
+pub mod Contents
+pub mod Filling
+pub mod Images
+pub mod Counts
 pub mod Below
+pub mod Examples
+pub mod Top
