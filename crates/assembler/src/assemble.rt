@@ -21,6 +21,7 @@ use walking::walk::walk;
 
 // "M from 1 to 65,536"; "Source is at most 32,768 bytes"
 const MOST_CELLS: usize = 65536;
+
 const LONGEST_SOURCE: usize = 32768;
 
 fn refused(number: u8, line: Line) -> Reply

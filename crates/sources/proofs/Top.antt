@@ -1,10 +1,12 @@
 -- What the meaning of a source promises (demands 2 and 3): every source is accepted with one image, or refused with one number and line,
 -- never both; no source has two readings; and the assembler as a function answers exactly so.
 use Prim.Native.Nat.{ℕ}
-use mathlib.Core.Bool.{true}
+use mathlib.Core.Bool.{Bool, true, false}
 use mathlib.Core.List.{List, _∷_, _++_, map}
 use mathlib.Core.Logic.{_↔_, _⊎_, inl, inr}
 use mathlib.Core.Path.{_≡_, refl, sym, ap, ap₂, subst, _∙_}
+use lib.Dec.{eqb}
+use borrow.Author.Tests.{eqb-true, eqb-false}
 use Rattle.tokens.specs.Lines.{Lines}
 use Rattle.names.specs.declared.Word.the-variants as W
 use Rattle.statements.specs.Statements.{HasWord}
@@ -32,6 +34,15 @@ use Rattle.sources.proofs.Examples.{Examples}
 -- "No source has two readings."
 pub one-reading : {source : List ℕ} {xs ys : List Said} → SourceText source xs → SourceText source ys → xs ≡ ys
 one-reading = Whole.one-source-text
+
+-- a map that passes check 1 has M bytes
+map-length : (M N : ℕ) (source : List ℕ) → Pass (loanChecks M N source) → N ≡ M
+unfolding loanChecks Pass
+map-length M N source h = go (eqb N M) refl
+  where
+    go : (b : Bool) → eqb N M ≡ b → N ≡ M
+    go true e = eqb-true N M e
+    go false e = absurd (h .0 (inr (inr (eqb-false N M e))))
 
 module _ (M N : ℕ) (source : List ℕ) where
   -- memory and map that the walk over some lines leaves
@@ -132,6 +143,12 @@ module _ (M N : ℕ) (source : List ℕ) where
 
   pub data-counted : {memory marks : List ℕ} (a : Accepted M N source memory marks) → cellsMarked dataMark marks ≡ cellsOfMark dataMark (blocks M (a .reading))
   data-counted a = Counts.data-cells a
+
+-- An accepted image depends on source and M alone: the map's length is M, and what memory and map held plays no part.
+pub source-and-M-alone : {M N N′ : ℕ} {source m k m′ k′ : List ℕ} → Accepted M N source m k → Accepted M N′ source m′ k′ → (m ≡ m′) × (k ≡ k′)
+source-and-M-alone {M} {N} {N′} {source} {m} {k} {m′} {k′} a b =
+    let e : N′ ≡ N = map-length M N′ source (b .passing .loans) ∙ sym (map-length M N source (a .passing .loans)) in
+    one-image-only M N source a (subst (λ (n : ℕ). Accepted M n source m′ k′) e b)
 
 -- What stands below END changes nothing: two sources whose lines are the same up to END, and neither of which fails 1 or 2, are
 -- accepted with the same image or refused with the same number and line.
