@@ -1,6 +1,5 @@
 // All labels that operands name, in the order of lines and operands.
-ghost use mathlib.Core.Path.{_≡_};
-ghost use Prim.Native.Nat.{_+_, _*_, _≤_};
+ghost use Prim.Native.Nat.{_*_, _≤_};
 ghost use lib.ListN.{length};
 ghost use Rattle.labels.specs.Labels.{words, zipped};
 ghost use Rattle.sources.specs.Assembling.{usesVerdict, filled};

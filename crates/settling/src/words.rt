@@ -1,7 +1,5 @@
 // The word that a label stands for (sources/specs/Uses.antt, `countedWord`), or 13 or 14.
-ghost use mathlib.Core.Path.{_≡_};
-ghost use mathlib.Core.List.{[], _∷_};
-ghost use Prim.Native.Nat.{ℕ, _+_, _≤_, _<_};
+ghost use Prim.Native.Nat.{_+_, _≤_, _<_};
 ghost use lib.ListN.{length};
 ghost use Rattle.labels.specs.Labels.{window, words, zipped};
 ghost use Rattle.sources.specs.Uses.{valueOf, countedWord};
