@@ -4,3 +4,5 @@ pub mod ActLaws
 pub mod NameLaws
 pub mod TestLaws
 pub mod PlaceLaws
+pub mod LabelLaws
+pub mod LineLaws
