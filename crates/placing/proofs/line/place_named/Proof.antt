@@ -1,11 +1,8 @@
 use borrow.Author.Needs.{needs}
-use Prim.Native.Nat.{ℕ, _+_, _-_, _≤_, _<_}
-use mathlib.Core.List.{List}
-use mathlib.Core.Path.{_≡_, refl, sym, ap, subst, _∙_}
+use Prim.Native.Nat.{ℕ, _+_, _-_}
+use mathlib.Core.Path.{_≡_, sym, ap, subst, _∙_}
 use native.Mathlib.Omega.{arith}
-use lib.Dec.{ltb, leb}
 use lib.ListN.{length}
-use borrow.Author.Tests.{lt-ltb, le-ltb, le-leb, lt-leb}
 use Rattle.labels.specs.Labels.{words}
 use Rattle.labels.proofs.Laws.{length-words}
 use Rattle.statements.specs.declared.LineRead.{LineRead}
@@ -19,10 +16,6 @@ use Rattle.placing.proofs.LabelLaws.{label-within}
 use Rattle.placing.proofs.LineLaws.{as-read, tells-by, label-fails, named-placed}
 use Rattle.placing.proofs.line.place_named.Statement.{statement}
 use Rattle.placing.proofs.line.place_named.Tie as tie
-use Rattle.placing.proofs.line.place_named.Reads as reads
-use Rattle.placing.proofs.line.place_named.Lts as lts
-use Rattle.placing.proofs.declaring.declare.Reads as declare-reads
-use Rattle.placing.proofs.placing.place_statement.Reads as place-statement-reads
 
 declare-requires : tie.Need-declare-requires
 declare-requires c κs =
@@ -31,22 +24,10 @@ declare-requires c κs =
     let w = label-within (a .line .now) (ap (λ (r : LineRead). r .label) (sym (p .5)) ∙ p .8) in
     (p .0, p .1, p .2, w .0, w .1, omega (arith, w .1, p .6), p .7 (a .n .start) (a .n .end - a .n .start) (omega (arith, w .0, w .1)))
 
-enum-known-f : tie.Need-enum-known-f
-enum-known-f c = search needs
-
-enum-known-d : tie.Need-enum-known-d
-enum-known-d c = search needs
-
 place-statement-requires : tie.Need-place-statement-requires
 place-statement-requires c κs =
     let p = c .before .before .before .before .before .before .before .before .before .before .before .before .before .before .before .before .before .before .pre in
     (subst FairDid (c .before .before .before .d .given .1) (c .before .before .before .before .before .before .before .before .before .declare .ensures .0), p .3, p .4)
-
-same-length : tie.Need-same-length
-same-length c = search needs
-
-same-length-2 : tie.Need-same-length-2
-same-length-2 c = search needs
 
 returns : tie.Need-returns
 returns c =
@@ -67,18 +48,6 @@ returns c =
       λ k. as-read (length (a .marks .now)) k place (a .line .now) (λ z. place) (No (f .0 .0)) (p .5)
           (label-fails (length (a .marks .now)) k place (record { bytes = a .line .now; read = a .read }) (p .8) (by k (No (f .0 .0)) (f .1))),
     )
-
-same-length-3 : tie.Need-same-length-3
-same-length-3 c = search needs
-
-same-length-4 : tie.Need-same-length-4
-same-length-4 c = search needs
-
-same-length-5 : tie.Need-same-length-5
-same-length-5 c = search needs
-
-same-length-6 : tie.Need-same-length-6
-same-length-6 c = search needs
 
 returns-2 : tie.Need-returns-2
 returns-2 c =
@@ -111,14 +80,14 @@ place-named-spec =
     tie.close
     (tie.spec
     declare-requires
-    enum-known-f
-    enum-known-d
+    (λ c. search needs)
+    (λ c. search needs)
     place-statement-requires
-    same-length
-    same-length-2
+    (λ c. search needs)
+    (λ c. search needs)
     returns
-    same-length-3
-    same-length-4
-    same-length-5
-    same-length-6
+    (λ c. search needs)
+    (λ c. search needs)
+    (λ c. search needs)
+    (λ c. search needs)
     returns-2)
