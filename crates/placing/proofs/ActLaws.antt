@@ -1,6 +1,6 @@
 -- What a statement does, row by row.
 use Prim.Native.Nat.{ℕ, suc, _+_, _≤_}
-use mathlib.Core.Path.{_≡_, refl, sym, ap, subst, _∙_}
+use mathlib.Core.Path.{_≡_, sym, ap, subst, _∙_}
 use native.Mathlib.Omega.{arith}
 use Rattle.isa.specs.Opcodes.{table, presentIn, countOf}
 use Rattle.isa.specs.declared.Kinds.{Kinds}

@@ -8,8 +8,9 @@ use Rattle.placing.proofs.naming.bind.Tie as tie
 
 returns : tie.Need-returns
 returns c =
-    let a = (c .before .before .before .before .before .before .before .args) in
-    let f = (c .before .before .before .before .before .before .before .pre) .0 in (
+    let start = c .before .before .before .before .before .before .before in
+    let a = start .args in
+    let f = start .pre .0 in (
       record { low = f .low; few = omega (arith, f .few) },
       refl,
       omega arith,

@@ -1,3 +1,4 @@
+-- By what the act gives.
 use borrow.Author.Needs.{needs}
 use mathlib.Core.Path.{refl, subst}
 use Rattle.placing.proofs.PlaceLaws.{waits-as, number-as, start-as}

@@ -1,3 +1,4 @@
+-- Where none waits, nothing is to be done.
 use borrow.Author.Needs.{needs}
 use mathlib.Core.Path.{refl}
 use native.Mathlib.Omega.{arith}

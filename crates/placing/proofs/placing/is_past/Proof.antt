@@ -1,3 +1,4 @@
+-- The test by differences is the test by a sum.
 use Rattle.placing.proofs.TestLaws.{past-none, past-big, past-test}
 use Rattle.placing.proofs.placing.is_past.Statement.{statement}
 use Rattle.placing.proofs.placing.is_past.Tie as tie

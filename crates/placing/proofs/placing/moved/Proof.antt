@@ -1,3 +1,4 @@
+-- By how the act moves.
 use borrow.Author.Needs.{needs}
 use native.Mathlib.Omega.{arith}
 use Rattle.placing.proofs.TestLaws.{moved-as}

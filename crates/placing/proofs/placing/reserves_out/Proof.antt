@@ -1,3 +1,4 @@
+-- The test by a difference is the test by a sum.
 use borrow.Author.Needs.{needs}
 use Rattle.placing.proofs.TestLaws.{reserves-test}
 use Rattle.placing.proofs.placing.reserves_out.Statement.{statement}
