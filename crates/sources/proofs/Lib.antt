@@ -14,5 +14,6 @@ pub mod Filling
 pub mod Images
 pub mod Counts
 pub mod Below
+pub mod Numbers
 pub mod Examples
 pub mod Top

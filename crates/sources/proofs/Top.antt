@@ -1,6 +1,6 @@
 -- What the meaning of a source promises (demands 2 and 3): every source is accepted with one image, or refused with one number and line,
 -- never both; no source has two readings; and the assembler as a function answers exactly so.
-use Prim.Native.Nat.{ℕ}
+use Prim.Native.Nat.{ℕ, _≤_}
 use mathlib.Core.Bool.{Bool, true, false}
 use mathlib.Core.List.{List, _∷_, _++_, map}
 use mathlib.Core.Logic.{_↔_, _⊎_, inl, inr}
@@ -28,6 +28,7 @@ use Rattle.sources.proofs.Images.{image-there, one-image}
 use Rattle.sources.proofs.Counts as Counts
 use Rattle.sources.proofs.Counts.{cellsOfMark}
 use Rattle.sources.proofs.Below as Below
+use Rattle.sources.proofs.Numbers as Numbers
 use Rattle.sources.proofs.Examples as Examples
 use Rattle.sources.proofs.Examples.{Examples}
 
@@ -143,6 +144,10 @@ module _ (M N : ℕ) (source : List ℕ) where
 
   pub data-counted : {memory marks : List ℕ} (a : Accepted M N source memory marks) → cellsMarked dataMark marks ≡ cellsOfMark dataMark (blocks M (a .reading))
   data-counted a = Counts.data-cells a
+
+-- A refusal's number is one of 1 to 14, and never 0.
+pub refusal-numbered : {M N : ℕ} {source : List ℕ} {why : Refusal} → FirstFailing M N source why → (1 ≤ why .number) × (why .number ≤ 14)
+refusal-numbered = Numbers.refusal-numbered
 
 -- An accepted image depends on source and M alone: the map's length is M, and what memory and map held plays no part.
 pub source-and-M-alone : {M N N′ : ℕ} {source m k m′ k′ : List ℕ} → Accepted M N source m k → Accepted M N′ source m′ k′ → (m ≡ m′) × (k ≡ k′)
