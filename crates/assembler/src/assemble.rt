@@ -5,9 +5,10 @@ ghost use lib.ListN.{length, replicate};
 ghost use Rattle.tokens.specs.Reading.{linesOf};
 ghost use Rattle.labels.specs.Labels.{words, zipped};
 ghost use Rattle.sources.specs.Placing.{start};
-ghost use Rattle.sources.specs.Assembling.{andThen, upToEnd, walkLines, workOf, lateVerdict, memoryOf, usesVerdict, filled};
+ghost use Rattle.sources.specs.Order.{_on_};
+ghost use Rattle.sources.specs.Assembling.{passes, andThen, upToEnd, walkLines, workOf, lateVerdict, memoryOf, usesVerdict, filled};
 ghost use Rattle.uses.specs.Held.{usesHeld};
-ghost use Rattle.assembler.specs.Promise.{acceptance, refusal, Replies};
+ghost use Rattle.assembler.specs.Promise.{told, refusal, Replies};
 ghost use Rattle.assembler.specs.Parts.{outcome, outcomeBy};
 use super::Reply;
 use super::copying::copy_cells;
@@ -25,20 +26,20 @@ const MOST_CELLS: usize = 65536;
 const LONGEST_SOURCE: usize = 32768;
 
 fn refused(number: u8, line: Line) -> Reply
-    ensures { λ r. ⌜ r ≡ record { refusal = number; line = line; code_cells = 0; data_cells = 0 } ⌝ }
+    ensures { λ r. ⌜ told r ≡ refusal (number on line .0) ⌝ }
 {
     Reply {
         refusal: number,
         line: line,
-        code_cells: 0,
-        data_cells: 0,
+        code: 0,
+        data: 0,
     }
 }
 
 // Acceptance: the whole memory and the whole map are rewritten.
 fn accept(cells: &[u16], marks: &[u8], memory: &mut [u16], map: &mut [u8]) -> Reply
     requires { ⌜ (length (now cells) ≡ length (now memory)) × (length (now marks) ≡ length (now map)) ⌝ }
-    ensures { λ r. ⌜ outcome r (now (memory .exit)) (now (map .exit)) ≡ outcome (acceptance (now (marks .entry))) (now (cells .entry)) (now (marks .entry)) ⌝ }
+    ensures { λ r. ⌜ outcome r (now (memory .exit)) (now (map .exit)) ≡ outcomeBy passes (now (cells .entry)) (now (marks .entry)) (now (memory .entry)) (now (map .entry)) ⌝ }
 {
     copy_cells(cells, memory);
     copy_marks(marks, map);
@@ -47,8 +48,8 @@ fn accept(cells: &[u16], marks: &[u8], memory: &mut [u16], map: &mut [u8]) -> Re
     Reply {
         refusal: 0,
         line: Line(0),
-        code_cells: code,
-        data_cells: data,
+        code: code,
+        data: data,
     }
 }
 
@@ -93,8 +94,8 @@ fn assemble_over(
     memory: &mut [u16],
     map: &mut [u8],
 ) -> Reply
-    requires { ⌜ (length (now s) ≤ 32768) × (length (now starts) ≡ 512) × (length (now lengths) ≡ 512) × (length (now values) ≡ 512) × (length (now memory) ≤ 65536) × (length (now map) ≡ length (now memory)) × (now marks ≡ replicate (length (now memory)) 0) × (now cells ≡ replicate (length (now memory)) 0) × (131080 ≤ length (now row)) × (32770 ≤ length (now aways)) ⌝ }
-    ensures { λ r. ⌜ outcome r (now (memory .exit)) (now (map .exit)) ≡ outcomeBy (andThen (walkLines (length (now (memory .entry))) 1 (start (length (now (memory .entry)))) (upToEnd (linesOf (now (s .entry))))) (lateVerdict (workOf (length (now (memory .entry))) (now (s .entry))) (length (upToEnd (linesOf (now (s .entry))))))) (memoryOf (workOf (length (now (memory .entry))) (now (s .entry)))) (workOf (length (now (memory .entry))) (now (s .entry)) .place .marks) (now (memory .entry)) (now (map .entry)) ⌝ }
+    requires { ⌜ (length (now s) ≤ 32768) × (length (now starts) ≡ 512) × (length (now lengths) ≡ 512) × (length (now values) ≡ 512) × (length (now marks) ≤ 65536) × (now marks ≡ replicate (length (now marks)) 0) × (now cells ≡ replicate (length (now marks)) 0) × (131080 ≤ length (now row)) × (32770 ≤ length (now aways)) × (length (now memory) ≡ length (now marks)) × (length (now map) ≡ length (now marks)) ⌝ }
+    ensures { λ r. ⌜ outcome r (now (memory .exit)) (now (map .exit)) ≡ outcomeBy (andThen (walkLines (length (now (marks .entry))) 1 (start (length (now (marks .entry)))) (upToEnd (linesOf (now (s .entry))))) (lateVerdict (workOf (length (now (marks .entry))) (now (s .entry))) (length (upToEnd (linesOf (now (s .entry))))))) (memoryOf (workOf (length (now (marks .entry))) (now (s .entry)))) (workOf (length (now (marks .entry))) (now (s .entry)) .place .marks) (now (memory .entry)) (now (map .entry)) ⌝ }
 {
     match walk(s, starts, lengths, values, marks, cells, row, aways) {
         Walked::Refused(f, l) => {

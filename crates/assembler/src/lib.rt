@@ -10,6 +10,6 @@ mod counting; // the numbers of code and data cells
 pub struct Reply {
     pub refusal: u8,
     pub line: Line,
-    pub code_cells: usize,
-    pub data_cells: usize,
+    pub code: usize,
+    pub data: usize,
 }

@@ -118,6 +118,12 @@ module _ (M N : ℕ) (source : List ℕ) where
       let g = refused-exactly why .1 f in
       never (cc)
 
+  pub passing-never : {xs : List Said} {why : Refusal} → Passing M N source xs → FirstFailing M N source why → ⊥
+  passing-never h f =
+      let e = passes-complete M N source h in
+      let g = fails-complete M N source f in
+      never (cc)
+
   -- there is one image,
   pub one-image-only : {m k m′ k′ : List ℕ} → Accepted M N source m k → Accepted M N source m′ k′ → (m ≡ m′) × (k ≡ k′)
   one-image-only {m} {k} {m′} {k′} a b =
