@@ -29,9 +29,9 @@ nothing = bytes "version=1\nsize=1\nclaimed=0\n"
 
 pub record Examples : Type 0 where
   pub document-01 : imageText memory marks ≡ text
-  pub into-its-room : printed memory marks (replicate 139 7) ≡ left 0 139 text
+  pub into-its-room : printed memory marks (replicate 135 7) ≡ left 0 135 text
   -- the room behind the text is as it was
-  pub into-a-larger-room : printed memory marks (replicate 141 7) ≡ left 0 139 (text ++ (7 ∷ 7 ∷ []))
+  pub into-a-larger-room : printed memory marks (replicate 137 7) ≡ left 0 135 (text ++ (7 ∷ 7 ∷ []))
   -- "a free cell's value is never printed"
   pub nothing-claimed : printed (5 ∷ []) (0 ∷ []) (replicate 27 7) ≡ left 0 27 nothing
   -- "2 room short", by one byte: nothing is written

@@ -22,12 +22,12 @@ module _ (xs : List ℕ) (at : ℕ) (ys : List ℕ) where
   overwrite-on zs h =
       let front : length (take at xs ++ ys) ≡ at + length ys = simp (length-append, length-take-le at xs h) in
       let before : take (at + length ys) (overwrite xs at ys) ≡ take at xs ++ ys =
-        rw (← append-assoc (take at xs) ys) (take-at (take at xs ++ ys) _ _ front) in
+      rw (← append-assoc (take at xs) ys) (take-at (take at xs ++ ys) _ _ front) in
       let after : drop (at + length ys + length zs) (overwrite xs at ys) ≡ drop (at + length (ys ++ zs)) xs =
-        sym (drop-drop (length zs) (at + length ys) (overwrite xs at ys))
-        ∙ ap (drop (length zs)) (overwrite-after xs at ys h)
-        ∙ drop-drop (length zs) (at + length ys) xs
-        ∙ ap (λ (n : ℕ). drop n xs) (add-assoc at (length ys) (length zs) ∙ ap (λ (n : ℕ). at + n) (sym (length-append ys zs))) in
+      sym (drop-drop (length zs) (at + length ys) (overwrite xs at ys))
+      ∙ ap (drop (length zs)) (overwrite-after xs at ys h)
+      ∙ drop-drop (length zs) (at + length ys) xs
+      ∙ ap (λ (n : ℕ). drop n xs) (add-assoc at (length ys) (length zs) ∙ ap (λ (n : ℕ). at + n) (sym (length-append ys zs))) in
       rw (before, after) (simp append-assoc)
 
   -- in two steps

@@ -6,7 +6,7 @@ use Prim.Native.Nat.{ℕ, zero, suc, _+_, _*_, _≤_, _<_}
 use native.Mathlib.Numerals.{add-one}
 use native.Mathlib.Omega.{arith}
 use borrow.Author.Tests.{eq-eqb, ne-eqb, eqb-true, eqb-false, leb-true, le-leb, lt-leb}
-use lib.Dec.{eqb}
+use lib.Dec.{leb, eqb}
 use lib.ListN.{length, getD, drop, length-append, drop-of-length-le}
 use lib.Seq.{drop-cons}
 use Rattle.numerals.specs.Bytes.{bytes}
@@ -173,8 +173,8 @@ module _ (marks : List ℕ) (i : ℕ) where
 pub known-all : (marks : List ℕ) → knownMarks marks ≡ true → (i : ℕ) → i < length marks → getD marks i 0 ≤ 2
 unfolding knownMarks
 known-all [] e i h = absurd (omega arith)
-known-all (mark ∷ marks) e zero h = leb-true mark 2 (both-true _ _ e .0)
-known-all (mark ∷ marks) e (suc i) h = known-all marks (both-true _ _ e .1) i (omega arith)
+known-all (mark ∷ marks) e zero h = leb-true mark 2 (both-true (leb mark 2) (knownMarks marks) e .0)
+known-all (mark ∷ marks) e (suc i) h = known-all marks (both-true (leb mark 2) (knownMarks marks) e .1) i (omega arith)
 
 pub all-known : (marks : List ℕ) → ((i : ℕ) → i < length marks → getD marks i 0 ≤ 2) → knownMarks marks ≡ true
 unfolding knownMarks

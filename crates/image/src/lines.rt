@@ -51,13 +51,11 @@ fn cell(room: &mut [u8], at: usize, address: u32, mark: u8, value: u16) -> usize
 
 // The lines of all cells.
 fn cells(room: &mut [u8], from: usize, memory: &[u16], map: &[u8])
-    requires {
-        ⌜
-            (length (now map) ≡ length (now memory))
-            × (length (now memory) ≤ 65536)
-            × (from + length (cellsText (now memory) (now map)) ≤ length (now room))
-        ⌝
-    }
+    requires { ⌜
+        (length (now map) ≡ length (now memory))
+        × (length (now memory) ≤ 65536)
+        × (from + length (cellsText (now memory) (now map)) ≤ length (now room))
+        ⌝ }
     ensures { λ _. ⌜ now (room .exit) ≡ overwrite (now (room .entry)) from (cellsText (now (memory .entry)) (now (map .entry))) ⌝ }
 {
     let mut at = from;
@@ -81,13 +79,11 @@ fn head(room: &mut [u8], size: u32, number: u32) -> usize
 
 // The whole text.
 pub(crate) fn write(room: &mut [u8], memory: &[u16], map: &[u8])
-    requires {
-        ⌜
-            (length (now map) ≡ length (now memory))
-            × (length (now memory) ≤ 65536)
-            × (length (imageText (now memory) (now map)) ≤ length (now room))
-        ⌝
-    }
+    requires { ⌜
+        (length (now map) ≡ length (now memory))
+        × (length (now memory) ≤ 65536)
+        × (length (imageText (now memory) (now map)) ≤ length (now room))
+        ⌝ }
     ensures { λ _. ⌜ now (room .exit) ≡ overwrite (now (room .entry)) 0 (imageText (now (memory .entry)) (now (map .entry))) ⌝ }
 {
     let number = claimed_in(map) as u32;
