@@ -21,7 +21,7 @@ pub fn put_byte(out: &mut [u8], at: usize, x: u16) -> Moved
 }
 
 // A whole text, for which there is room.
-fn copy(out: &mut [u8], at: usize, text: &[u8])
+pub fn copy(out: &mut [u8], at: usize, text: &[u8])
     requires { ⌜ at + length (now text) ≤ length (now out) ⌝ }
     ensures { λ _. ⌜ now (out .exit) ≡ overwrite (now (out .entry)) at (now (text .entry)) ⌝ }
 {
