@@ -2,6 +2,7 @@
 
 pub mod assemble;
 pub mod blocks;
+pub mod covered;
 pub mod draw;
 pub mod edges;
 pub mod faulty;
@@ -69,6 +70,7 @@ impl Maker {
         let mut random = Random::new(seed);
         let first = match kind {
             Kind::Assemble => edges::all(&mut random),
+            Kind::Machine => covered::all(&mut random),
             _ => Vec::new(),
         };
         Maker { kind, random, first: first.into_iter() }
