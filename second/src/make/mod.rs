@@ -1,6 +1,7 @@
 //! Making cases from a seed: the same kind, count and seed give the same bytes everywhere.
 
 pub mod assemble;
+pub mod bench;
 pub mod blocks;
 pub mod covered;
 pub mod draw;
@@ -71,6 +72,7 @@ impl Maker {
         let first = match kind {
             Kind::Assemble => edges::all(&mut random),
             Kind::Machine => covered::all(&mut random),
+            Kind::Print => images::edges(&mut random),
             _ => Vec::new(),
         };
         Maker { kind, random, first: first.into_iter() }

@@ -17,12 +17,12 @@ fn check(name: &str, count: usize) {
 
 #[test]
 fn assemble_cases() {
-    check("assemble", 1_500);
+    check("assemble", 5_000);
 }
 
 #[test]
 fn machine_cases() {
-    check("machine", 4_500);
+    check("machine", 7_000);
 }
 
 #[test]
@@ -32,5 +32,5 @@ fn line_cases() {
 
 #[test]
 fn print_cases() {
-    check("print", 200);
+    check("print", 500);
 }
