@@ -23,7 +23,8 @@ pub fn all(random: &mut Random) -> Vec<Case> {
     for opcode in
         [Opcode::Inchar, Opcode::Inint, Opcode::Instr, Opcode::Wrchar, Opcode::Wrint, Opcode::Wrstr]
     {
-        for _ in 0..12 {
+        let times = if opcode.places().0 == Place::Text { 36 } else { 12 };
+        for _ in 0..times {
             cases.push(Case::Step(long(random, opcode)));
         }
     }
@@ -196,7 +197,7 @@ fn long(random: &mut Random, opcode: Opcode) -> LentMachine {
         Opcode::Inchar => random.between(100, lent.input.len()) as u64,
         _ => 0,
     };
-    lent.output_length = length + random.below(4);
+    lent.output_length = length + random.below(6);
     lent.output_position = match opcode {
         Opcode::Wrstr => random.below(4) as u64,
         _ => (lent.output_length - random.below(8)) as u64,
