@@ -303,7 +303,9 @@ impl Program<'_> {
     fn value(&mut self, mark: &str, named: bool) {
         self.put(mark);
         self.blank();
-        let value = if named {
+        let value = if named && self.random.one_in(150) {
+            self.nearly_known()
+        } else if named {
             self.random.pick(&self.names).clone()
         } else {
             match self.random.below(4) {
@@ -312,6 +314,17 @@ impl Program<'_> {
             }
         };
         self.put(&value);
+    }
+
+    /// A label's name in other letters, with a byte less or more: mostly no label's.
+    fn nearly_known(&mut self) -> String {
+        let name = self.random.pick(&self.names).clone();
+        match self.random.below(4) {
+            0 => name.to_ascii_lowercase(),
+            1 => name.to_ascii_uppercase(),
+            2 if name.len() > 1 => name[..name.len() - 1].to_string(),
+            _ => name + "_",
+        }
     }
 
     /// The labels that are left, by EQU, by a statement or waiting for the end; then END or not.

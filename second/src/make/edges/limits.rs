@@ -9,6 +9,8 @@ pub fn add(random: &mut Random, cases: &mut Vec<Case>) {
     labels(random, cases);
     parentheses(random, cases);
     lengths(random, cases);
+    many_uses(random, cases);
+    long_blocks(random, cases);
 }
 
 /// So many labels, a line each: two letters, and what each line says.
@@ -23,7 +25,9 @@ fn labels(random: &mut Random, cases: &mut Vec<Case>) {
             cases.push(case(random, 16_384, labelled(count, "") + end));
         }
     }
-    for end in ["zz: END", "zz: FOO", "aa: END", "BR $aa", "BR /zz", "END\nzz:"] {
+    for end in
+        ["zz: END", "zz: FOO", "aa: END", "BR $aa", "BR /zz", "END\nzz:", "tr: HALT", "ka: RES 0"]
+    {
         cases.push(case(random, 65_536, labelled(512, "") + end));
         cases.push(case(random, 65_536, labelled(511, "") + end));
     }
@@ -82,8 +86,32 @@ fn lengths(random: &mut Random, cases: &mut Vec<Case>) {
         ("HALT\n", b'\n', 32_768),
         ("HALT\n", b'\n', 32_769),
         ("FOO\nEND\n", b'\n', 32_770),
+        ("x: HALT\nEND\n", 255, 32_769),
+        ("", b';', 32_770),
     ] {
         cases.push(case(random, 16, filled(start, byte, length)));
     }
     cases.push(with_map(random, 16, 17, filled("END", b' ', 32_769)));
+}
+
+/// As many label uses as fit into a source, all known or all but the last.
+fn many_uses(random: &mut Random, cases: &mut Vec<Case>) {
+    let start = "a: EQU 0\n";
+    let uses = "ADD/a,/a\n".repeat((32_768 - start.len()) / 9);
+    cases.push(case(random, 16_384, format!("{}{}", start, uses)));
+    let mut unknown = format!("{}{}", start, uses).into_bytes();
+    let last = unknown.len() - 2;
+    unknown[last] = b'b';
+    cases.push(case(random, 16_384, unknown));
+}
+
+/// DATA of 4,000 cells that ends with a claimed cell, just before it, or past M by one.
+fn long_blocks(random: &mut Random, cases: &mut Vec<Case>) {
+    let data = format!("DATA 0{}\n", ",0".repeat(3_999));
+    for (cells, start) in [(16_384, 4_000), (16_384, 3_999), (3_999, 3_998)] {
+        cases.push(case(random, cells, format!("ORG {}\nHALT\nORG 0\n{}", start, data)));
+    }
+    let text = format!("DATA \"{}\"", "x".repeat(3_000));
+    cases.push(case(random, 3_000, &text));
+    cases.push(case(random, 3_001, format!("ORG 3000\nDATA 1\nORG 0\n{}", text)));
 }

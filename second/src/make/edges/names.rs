@@ -33,6 +33,7 @@ pub fn add(random: &mut Random, cases: &mut Vec<Case>) {
             let defined = format!("{}: EQU 7\n{}: EQU 9\n", name, two);
             cases.push(case(random, 16, format!("{}MOVE #{},/{}", defined, two, name)));
             cases.push(case(random, 16, format!("{}: EQU 7\nPUSH #{}", name, two)));
+            cases.push(case(random, 16, format!("{}: EQU 7\nPUSH #{}", two, name)));
         }
     }
 }
