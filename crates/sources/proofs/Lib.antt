@@ -15,5 +15,6 @@ pub mod Images
 pub mod Counts
 pub mod Below
 pub mod Numbers
+pub mod Edges
 pub mod Examples
 pub mod Top

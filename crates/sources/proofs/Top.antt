@@ -29,6 +29,8 @@ use Rattle.sources.proofs.Counts as Counts
 use Rattle.sources.proofs.Counts.{cellsOfMark}
 use Rattle.sources.proofs.Below as Below
 use Rattle.sources.proofs.Numbers as Numbers
+use Rattle.sources.proofs.Edges as Edges
+use Rattle.sources.proofs.Edges.{Edges}
 use Rattle.sources.proofs.Examples as Examples
 use Rattle.sources.proofs.Examples.{Examples}
 
@@ -176,3 +178,7 @@ below-end M N source source′ above e rest rest′ l l′ w h h′ =
 -- Sources that are easily misread, with the paper's numbers.
 pub examples : Examples
 examples = Examples.examples
+
+-- Each limit at both its ends.
+pub edges : Edges
+edges = Edges.edges
