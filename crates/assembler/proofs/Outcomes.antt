@@ -1,7 +1,7 @@
 -- Reply, memory and map by what the parts answer.
 use Prim.Native.Nat.{ℕ}
 use mathlib.Core.List.{List}
-use mathlib.Core.Path.{_≡_, refl, sym, ap, ap₂, subst, _∙_}
+use mathlib.Core.Path.{_≡_, sym, ap₂, subst, _∙_}
 use Rattle.sources.specs.Limits.{codeMark, dataMark}
 use Rattle.sources.specs.Order.{_on_}
 use Rattle.sources.specs.Image.{cellsMarked}

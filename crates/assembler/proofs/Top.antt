@@ -1,16 +1,15 @@
 -- What `assemble` promises (demands 1, 2 and 3), restated from its promise `Replies` alone.
-use Prim.Native.Nat.{ℕ, _≤_}
+use Prim.Native.Nat.{ℕ}
 use mathlib.Core.List.{List}
-use mathlib.Core.Logic.{_↔_, _⊎_, inl, inr}
-use mathlib.Core.Path.{_≡_, refl, sym, ap, ap₂, subst, _∙_}
+use mathlib.Core.Logic.{_↔_}
+use mathlib.Core.Path.{_≡_, sym, ap, subst, _∙_}
 use native.Mathlib.Omega.{arith}
 use lib.ListN.{length}
 use Rattle.sources.specs.Limits.{codeMark, dataMark}
 use Rattle.sources.specs.Sources.{Said}
 use Rattle.sources.specs.Order.{Refusal, FirstFailing, Passing}
-use Rattle.sources.specs.Image.{blocks, Accepted, cellsMarked}
+use Rattle.sources.specs.Image.{Accepted, cellsMarked}
 use Rattle.sources.proofs.Top as sources
-use Rattle.sources.proofs.Counts.{cellsOfMark}
 use Rattle.assembler.specs.Promise.{Told, told, acceptance, refusal, Replies, accepts, refuses}
 use Rattle.assembler.specs.declared.Reply.{Reply}
 

@@ -9,7 +9,7 @@ use Rattle.statements.proofs.Labelling.{never}
 use Rattle.sources.specs.Placing.{Bound, start, bindings}
 use Rattle.sources.specs.Uses.{Use}
 use Rattle.sources.specs.Order.{Refusal, _on_}
-use Rattle.sources.specs.Assembling.{Verdict, passes, refused, andThen, upToEnd, walkLines, Work, workOf, endVerdict, usesVerdict, filled, lateVerdict, memoryOf}
+use Rattle.sources.specs.Assembling.{Verdict, passes, refused, andThen, upToEnd, walkLines, workOf, endVerdict, usesVerdict, filled, lateVerdict, memoryOf}
 use Rattle.sources.specs.declared.Line.{Line}
 use Rattle.uses.specs.Held.{usesHeld}
 use Rattle.walking.specs.Walking.{Holds, Ends}

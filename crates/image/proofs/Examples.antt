@@ -2,7 +2,7 @@
 use Prim.Native.Nat.{ℕ}
 use mathlib.Core.Path.{_≡_, refl}
 use mathlib.Core.List.{List, [], _∷_, _++_}
-use lib.ListN.{length, replicate}
+use lib.ListN.{replicate}
 use Rattle.numerals.specs.Bytes.{bytes}
 use Rattle.numerals.specs.Writing.{decimalBefore, decimal}
 use Rattle.image.specs.Image.{cellLine, cellLines, claimed, textOf, imageText}

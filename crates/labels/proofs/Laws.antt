@@ -7,7 +7,7 @@ use native.Mathlib.Numerals.{add-one}
 use native.Mathlib.Omega.{arith}
 use lib.Dec.{eqb}
 use lib.ListN.{length, getD, drop, take, set, replicate}
-use lib.Seq.{slice, drop-cons, take-suc-set, getD-take, getD-drop}
+use lib.Seq.{drop-cons, take-suc-set, getD-take, getD-drop}
 use borrow.Author.Tests.{eq-eqb, ne-eqb}
 use Rattle.sources.specs.Uses.{same}
 use Rattle.labels.specs.Labels.{window, words, placeIn}

@@ -3,17 +3,17 @@
 use Prim.Native.Nat.{ℕ}
 use mathlib.Core.Bool.{true, false}
 use mathlib.Core.List.{List, [], _∷_}
-use mathlib.Core.Path.{_≡_, refl, ap, _∙_}
+use mathlib.Core.Path.{_≡_, refl, ap}
 use lib.Dec.{ltb}
 use lib.ListN.{length, replicate, length-replicate}
 use Rattle.sources.specs.Limits.{longestSource}
 use Rattle.sources.specs.Placing.{Place, names, act}
-use Rattle.sources.specs.Uses.{known, unknown, plainly, from, countedWord, same}
+use Rattle.sources.specs.Uses.{known, plainly, from, countedWord, same}
 use Rattle.sources.specs.Order.{_on_}
 use Rattle.sources.specs.Image.{cellsMarked}
 use Rattle.sources.specs.Assembling.{passes, refused, firstOf, loanVerdict, among, nameVerdict, taken, actVerdict, endVerdict, tooFar}
 use Rattle.sources.specs.declared.Gives.the-variants.{Waits, Number, Start}
-use Rattle.sources.specs.declared.Moves.the-variants.{On, Reserving, To}
+use Rattle.sources.specs.declared.Moves.the-variants.{On, Reserving}
 
 -- a place with so many labels, all waiting
 abbrev labels : ℕ → Place

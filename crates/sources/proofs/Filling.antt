@@ -1,7 +1,7 @@
 -- Cells that are written with 0 in the places of labels, and filled at the end, come to the cells that each line gives, line by line: a
 -- label's cell lies in its own line's block, which no later line touches.
 use Prim.Native.Nat.{ℕ, _+_, _≤_, _<_}
-use mathlib.Core.List.{List, [], _∷_, _++_, map, append-assoc, append-nil}
+use mathlib.Core.List.{List, [], _∷_, map}
 use mathlib.Core.Path.{_≡_, refl, sym, ap, subst, _∙_}
 use native.Mathlib.Omega.{arith}
 use lib.ListN.{length, getD, replicate, set, length-replicate, getD-replicate}
@@ -14,11 +14,12 @@ use Rattle.statements.specs.declared.StatementRead.the-variants.{Passes}
 use Rattle.statements.proofs.Top as statements
 use Rattle.sources.specs.Limits.{free}
 use Rattle.sources.specs.Sources.{Said, UpToEnd, over, ends, more}
-use Rattle.sources.specs.Placing.{does, doesRead, movedBy, Bound, Place, start, acted, Judged, judgedLine, after, placeAfter, placeOf, nextFrom, bindings}
+use Rattle.sources.specs.Placing.{does, doesRead, movedBy, Bound, Place, start, acted, Judged, judgedLine, after, placeOf, nextFrom, bindings}
 use Rattle.sources.specs.Uses.{valueOf, Use, usesBy, usesRead, usesOf, countedWord}
 use Rattle.sources.specs.Order.{lineChecks, Passed}
 use Rattle.sources.specs.Image.{givenBy, blockOf}
 use Rattle.sources.specs.Assembling.{rawRead, Work, startWork, worked, workAfter, filled, memoryOf}
+use Rattle.sources.proofs.Works.{place-of-work, uses-of-work}
 use Rattle.sources.proofs.Passing.{passing-says, passed-line}
 use Rattle.sources.proofs.Stores.{Outside, sets-other, sets-same, set-sets}
 use Rattle.sources.proofs.Contents.{claims-count, marked-cells, filled-append, Inside, line-cells}
@@ -166,22 +167,10 @@ module _ (M : ℕ) (bs : List Bound) where
 
 -- ---- the walk over the lines
 
-work-place : (k : ℕ) (w : Work) (js : List Judged) → workAfter k w js .place ≡ placeAfter (w .place) js
-unfolding workAfter worked placeAfter
-work-place k w [] = refl
-work-place k w (x ∷ js) = work-place (k + 1) (worked k w x) js
-
 work-cells : (k : ℕ) (w : Work) (js : List Judged) → workAfter k w js .cells ≡ rawWritten (w .place .at) js (w .cells)
 unfolding workAfter worked rawWritten after acted
 work-cells k w [] = refl
 work-cells k w (x ∷ js) = work-cells (k + 1) (worked k w x) js
-
-work-uses : (k : ℕ) (w : Work) (js : List Judged) → workAfter k w js .uses ≡ w .uses ++ usesOf k (w .place .at) js
-unfolding workAfter worked usesOf after acted
-work-uses k w [] = sym (append-nil (w .uses))
-work-uses k w (x ∷ js) =
-    work-uses (k + 1) (worked k w x) js
-    ∙ append-assoc (w .uses) (usesRead k (x .bytes) (w .place .at) (x .read .statement)) (usesOf (k + 1) (nextFrom (w .place .at) x) js)
 
 -- what the walk leaves in memory is what the lines give, over zeros
 pub memory-written : (M : ℕ) (xs : List Said) → Read xs → Passed M 1 (start M) xs
@@ -192,9 +181,9 @@ memory-written M xs s h =
     let w = startWork M in
     let bs = bindings (placeOf M xs) in
     let zeros : List ℕ = replicate M 0 in
-    let p : bindings (workAfter 1 w js .place) ≡ bs = ap bindings (work-place 1 w js) in
+    let p : bindings (workAfter 1 w js .place) ≡ bs = ap bindings (place-of-work 1 w js) in
     let c = work-cells 1 w js in
-    let u = work-uses 1 w js in
+    let u = uses-of-work 1 w js in
     ap (λ (b : List Bound). filled b (workAfter 1 w js .uses) (workAfter 1 w js .cells)) p
     ∙ ap (λ (us : List Use). filled bs us (workAfter 1 w js .cells)) u
     ∙ ap (filled bs (usesOf 1 0 js)) c
@@ -203,4 +192,4 @@ memory-written M xs s h =
 -- and the map is that of the lines' place
 pub work-marks : (M : ℕ) (xs : List Said) → workAfter 1 (startWork M) (map judgedLine xs) .place .marks ≡ placeOf M xs .marks
 unfolding startWork
-work-marks M xs = ap (λ (p : Place). p .marks) (work-place 1 (startWork M) (map judgedLine xs))
+work-marks M xs = ap (λ (p : Place). p .marks) (place-of-work 1 (startWork M) (map judgedLine xs))

@@ -1,12 +1,12 @@
 -- One more label is held behind those that are held.
 use Prim.Native.Nat.{ℕ, zero, suc, _+_, _*_, _≤_, _<_}
 use mathlib.Core.List.{List, [], _∷_, _++_}
-use mathlib.Core.Path.{_≡_, refl, sym, ap, ap₂, subst, _∙_}
+use mathlib.Core.Path.{_≡_, refl, ap, ap₂, _∙_}
 use native.Mathlib.Omega.{arith}
 use lib.ListN.{length, getD, set, length-set}
 use lib.Seq.{getD-set-same, getD-set-other}
 use Rattle.sources.specs.Uses.{Use}
-use Rattle.uses.specs.Held.{useHeld, useAt, usesHeld}
+use Rattle.uses.specs.Held.{useHeld, usesHeld}
 
 -- what is held does not depend on what stands behind it
 same-below : (s row row′ aways aways′ : List ℕ) (n : ℕ) → ((i : ℕ) → i < 4 * n → getD row′ i 0 ≡ getD row i 0)
