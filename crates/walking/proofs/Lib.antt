@@ -1,4 +1,4 @@
 -- Laws of the definitions, by topic.
+pub mod Notes
 pub mod Said
 pub mod Words
-pub mod Notes

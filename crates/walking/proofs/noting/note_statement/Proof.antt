@@ -1,4 +1,16 @@
 use borrow.Author.Needs.{needs}
+use native.Mathlib.Omega.{arith}
+use Prim.Native.Nat.{ℕ, _+_, _≤_, _<_}
+use mathlib.Core.List.{_++_, append-nil}
+use mathlib.Core.Path.{_≡_, refl, sym, ap, subst, _∙_}
+use Rattle.isa.proofs.Top.{few-operands}
+use Rattle.statements.specs.Judging.{claimOf}
+use Rattle.statements.specs.declared.Statement.{Statement}
+use Rattle.statements.specs.declared.StatementRead.the-variants.{Passes}
+use Rattle.sources.specs.Uses.{Use, usesBy}
+use Rattle.uses.specs.Held.{usesHeld}
+use Rattle.walking.proofs.Notes.{none-named}
+use Rattle.walking.proofs.Said.{some-byte, first-placeable, second-placeable, uses-noted}
 use Rattle.walking.proofs.noting.note_statement.Statement.{statement}
 use Rattle.walking.proofs.noting.note_statement.Tie as tie
 use Rattle.walking.proofs.noting.note_statement.Reads as reads
@@ -16,15 +28,33 @@ operand-count-requires c κs = search needs
 
 -- src/noting.rt:135:24
 add-next : tie.Need-add-next
-add-next c = ?
+add-next c =
+    let d = c .before .before in
+    omega (arith, c .operand-count .ensures, few-operands (d .says .given .0 .0), d .before .before .before .before .before .pre .3)
 
 -- src/noting.rt:135:24
 add-next-2 : tie.Need-add-next-2
-add-next-2 c = ?
+add-next-2 c =
+    let d = c .before .before in
+    omega (arith, c .operand-count .ensures, few-operands (d .says .given .0 .0), d .before .before .before .before .before .pre .3)
 
 -- src/noting.rt:136:13
 note-operands-requires : tie.Need-note-operands-requires
-note-operands-requires c κs = ?
+note-operands-requires c κs =
+    let d = c .before .before .before .before in
+    let k = d .before .before .before .before .before in
+    let a = k .args in
+    let e = k .pre .0 ∙ ap Passes (d .says .given .1) in
+    let n = c .before .before .operand-count .ensures in
+    let room = subst (λ (x : Statement). 0 < claimOf x → a .at + claimOf x ≤ 65536) (d .says .given .1) (k .pre .4) (omega arith) in
+    (
+      k .pre .5,
+      k .pre .6,
+      k .pre .2,
+      k .pre .3,
+      first-placeable (a .line .now) e (a .from) (a .at) (k .pre .1) room n,
+      second-placeable (a .line .now) e (a .from) (a .at) (k .pre .1) room n,
+    )
 
 -- src/noting.rt:136:13
 same-length : tie.Need-same-length
@@ -36,7 +66,20 @@ same-length-2 c = search needs
 
 -- src/noting.rt:136:13
 returns : tie.Need-returns
-returns c = ?
+returns c =
+    let p = c .before .before .before .before in
+    let o = p .before .before .before in
+    let d = o .before .before in
+    let k = d .before .before .before .before .before in
+    let a = k .args in
+    let e = k .pre .0 ∙ ap Passes (d .says .given .1) in
+    (
+      λ s part. uses-noted (a .line .now) e s (a .from) (a .number) part (a .at) (o .operand-count .ensures)
+          (usesHeld s (a .row .now) (a .aways .now) (a .count)) (p .note-operands .ensures .0 s)
+          ∙ ap (λ (x : Statement). usesHeld s (a .row .now) (a .aways .now) (a .count) ++ usesBy (a .number) (a .line .now) (a .at) x) (sym (d .says .given .1)),
+      p .note-operands .ensures .1,
+      omega (arith, p .note-operands .ensures .2, some-byte (a .line .now) e),
+    )
 
 -- src/noting.rt:139:13
 enum-told : tie.Need-enum-told
@@ -44,7 +87,10 @@ enum-told c = search needs
 
 -- src/noting.rt:139:13
 returns-2 : tie.Need-returns-2
-returns-2 c = ?
+unfolding usesBy
+returns-2 c =
+    let a = c .before .before .before .before .before .args in
+    (λ s part. none-named _ (a .number) (a .at) (a .line .now) (c .enum-told .given .1) refl, omega arith, omega arith)
 
 -- src/noting.rt:142:13
 enum-told-2 : tie.Need-enum-told-2
@@ -52,7 +98,10 @@ enum-told-2 c = search needs
 
 -- src/noting.rt:142:13
 returns-3 : tie.Need-returns-3
-returns-3 c = ?
+unfolding usesBy
+returns-3 c =
+    let a = c .before .before .before .before .before .args in
+    (λ s part. none-named _ (a .number) (a .at) (a .line .now) (c .enum-told2 .given .1) refl, omega arith, omega arith)
 
 -- src/noting.rt:145:13
 enum-told-3 : tie.Need-enum-told-3
@@ -60,7 +109,10 @@ enum-told-3 c = search needs
 
 -- src/noting.rt:145:13
 returns-4 : tie.Need-returns-4
-returns-4 c = ?
+unfolding usesBy
+returns-4 c =
+    let a = c .before .before .before .before .before .args in
+    (λ s part. none-named _ (a .number) (a .at) (a .line .now) (c .enum-told3 .given .1) refl, omega arith, omega arith)
 
 -- src/noting.rt:148:13
 enum-told-4 : tie.Need-enum-told-4
@@ -68,7 +120,10 @@ enum-told-4 c = search needs
 
 -- src/noting.rt:148:13
 returns-5 : tie.Need-returns-5
-returns-5 c = ?
+unfolding usesBy
+returns-5 c =
+    let a = c .before .before .before .before .before .args in
+    (λ s part. none-named _ (a .number) (a .at) (a .line .now) (c .enum-told4 .given .1) refl, omega arith, omega arith)
 
 -- src/noting.rt:151:13
 enum-told-5 : tie.Need-enum-told-5
@@ -76,7 +131,10 @@ enum-told-5 c = search needs
 
 -- src/noting.rt:151:13
 returns-6 : tie.Need-returns-6
-returns-6 c = ?
+unfolding usesBy
+returns-6 c =
+    let a = c .before .before .before .before .before .args in
+    (λ s part. none-named _ (a .number) (a .at) (a .line .now) (c .enum-told5 .given .1) refl, omega arith, omega arith)
 
 -- src/noting.rt:154:13
 enum-told-6 : tie.Need-enum-told-6
@@ -84,7 +142,10 @@ enum-told-6 c = search needs
 
 -- src/noting.rt:154:13
 returns-7 : tie.Need-returns-7
-returns-7 c = ?
+unfolding usesBy
+returns-7 c =
+    let a = c .before .before .before .before .before .args in
+    (λ s part. none-named _ (a .number) (a .at) (a .line .now) (c .enum-told6 .given .1) refl, omega arith, omega arith)
 
 pub note-statement-spec : {M : Type 1} → statement M
 note-statement-spec =
