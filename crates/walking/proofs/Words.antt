@@ -11,6 +11,8 @@ use Rattle.isa.specs.declared.Encoded.{Encoded}
 use Rattle.isa.specs.declared.Encoded.the-variants.{One, Two, Three, Refused}
 use Rattle.isa.specs.declared.Instruction.{Instruction}
 use Rattle.isa.proofs.Top.{encoder-words}
+use Rattle.statements.specs.declared.Statement.{Statement}
+use Rattle.sources.specs.Assembling.{rawBy}
 
 module _ (i : Instruction) {r : Encoded} (t : allowed i ≡ true) (p : r ≡ encodeOf i) (m : List ℕ) (at : ℕ) where
   -- by the encoder's answer
@@ -31,3 +33,7 @@ module _ (i : Instruction) {r : Encoded} (t : allowed i ≡ true) (p : r ≡ enc
       let n : at + 1 ≡ ℕ.suc at = omega arith in
       let k : at + 2 ≡ ℕ.suc (ℕ.suc at) = omega arith in
       g ∙ ap₂ (λ (l : List ℕ) (k : ℕ). set l k z) (f ∙ ap₂ (λ (l : List ℕ) (k : ℕ). set l k y) e n) k ∙ as-encoded q
+
+-- the cells of a statement, by what it is
+pub as-said : (line m : List ℕ) (at : ℕ) {x y : Statement} {m′ : List ℕ} → x ≡ y → m′ ≡ sets m at (rawBy line y) → m′ ≡ sets m at (rawBy line x)
+as-said line m at e h = h ∙ ap (λ (s : Statement). sets m at (rawBy line s)) (sym e)

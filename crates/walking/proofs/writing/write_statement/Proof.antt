@@ -1,4 +1,8 @@
 use borrow.Author.Needs.{needs}
+use mathlib.Core.Path.{ap, _∙_}
+use Rattle.statements.specs.declared.StatementRead.the-variants.{Passes}
+use Rattle.walking.proofs.Said.{allowed-said}
+use Rattle.walking.proofs.Words.{as-said}
 use Rattle.walking.proofs.writing.write_statement.Statement.{statement}
 use Rattle.walking.proofs.writing.write_statement.Tie as tie
 use Rattle.walking.proofs.writing.write_statement.Reads as reads
@@ -12,7 +16,10 @@ enum-known-says c = search needs
 
 -- src/writing.rt:51:13
 write-words-requires : tie.Need-write-words-requires
-write-words-requires c κs = ?
+write-words-requires c κs =
+    let d = c .before .before in
+    let k = d .before .before .before .before in
+    (allowed-said (k .args .line .now) (k .pre .0 ∙ ap Passes (d .says .given .1)), k .pre .1)
 
 -- src/writing.rt:60:13
 same-length : tie.Need-same-length
@@ -20,7 +27,11 @@ same-length c = search needs
 
 -- src/writing.rt:60:13
 returns : tie.Need-returns
-returns c = ?
+returns c =
+    let p = c .before .before in
+    let d = p .before .before .before in
+    let a = d .before .before .before .before .args in
+    as-said (a .line .now) (a .cells .now) (a .at) (d .says .given .1) (p .write-words .ensures)
 
 -- src/writing.rt:63:31
 enum-told : tie.Need-enum-told
@@ -36,7 +47,11 @@ same-length-2 c = search needs
 
 -- src/writing.rt:64:13
 returns-2 : tie.Need-returns-2
-returns-2 c = ?
+returns-2 c =
+    let p = c .before .before in
+    let d = p .before .before in
+    let a = d .before .before .before .before .args in
+    as-said (a .line .now) (a .cells .now) (a .at) (d .enum-told .given .1) (p .write-cells .ensures)
 
 -- src/writing.rt:67:13
 enum-told-2 : tie.Need-enum-told-2
