@@ -1,6 +1,8 @@
 // What a statement does to the place (sources/specs/Placing.antt, `does`).
 ghost use mathlib.Core.Path.{_≡_};
-ghost use Rattle.sources.specs.Placing.{idle, does};
+ghost use Rattle.sources.specs.Placing.{does};
+ghost use Rattle.sources.specs.declared.Gives.the-variants.{Start};
+ghost use Rattle.sources.specs.declared.Moves.the-variants.{On};
 ghost use Rattle.placing.specs.State.{Sound};
 use isa::opcodes::operand_count;
 use sources::Act;
@@ -16,7 +18,7 @@ const CODE: u8 = 1;
 const DATA: u8 = 2;
 
 fn claiming(n: usize, mark: u8) -> Act
-    ensures { λ r. ⌜ r ≡ record { gives = Rattle.sources.specs.declared.Gives.the-variants.Start; moves = Rattle.sources.specs.declared.Moves.the-variants.On n; claims = n; mark = mark } ⌝ }
+    ensures { λ r. ⌜ r ≡ record { gives = Start; moves = On n; claims = n; mark = mark } ⌝ }
 {
     Act {
         gives: Gives::Start,
