@@ -2,3 +2,6 @@
 pub mod Notes
 pub mod Said
 pub mod Words
+pub mod Kept
+pub mod Loop
+pub mod Walks

@@ -1,11 +1,10 @@
 -- One operand's label, kept by its place in the source.
-use Prim.Native.Nat.{ℕ, zero, suc, _+_, _-_, _≤_, _<_}
+use Prim.Native.Nat.{ℕ, _+_, _-_, _≤_, _<_}
 use mathlib.Core.List.{List, [], _∷_, _++_, append-nil, append-assoc}
 use mathlib.Core.Path.{_≡_, refl, sym, ap, ap₂, subst, _∙_}
 use native.Mathlib.Omega.{arith}
 use borrow.Author.Tests.{ne-eqb}
-use lib.ListN.{length, getD}
-use lib.Seq.{slice, slice-empty, slice-cons}
+use lib.ListN.{length}
 use Rattle.isa.specs.Operands.{operandWords}
 use Rattle.isa.specs.declared.Operand.{Operand}
 use Rattle.isa.specs.declared.Operand.the-variants as O
@@ -15,7 +14,6 @@ use Rattle.values.specs.declared.Name.{Name}
 use Rattle.operands.specs.declared.Given.{Given}
 use Rattle.statements.specs.declared.Statement.{Statement}
 use Rattle.labels.specs.Labels.{window}
-use Rattle.sources.specs.Sources.{spelled}
 use Rattle.sources.specs.Uses.{Counted, from, Use, countedFor, secondCell, usesBy}
 use Rattle.uses.specs.Held.{countedBy, useHeld}
 use Rattle.walking.specs.Noting.{awayFor, Placeable, notedBy, noted}
@@ -80,23 +78,6 @@ both-noted s start k at next a b us e v w =
     w
     ∙ ap₂ (λ (l : List Use) (n : ℕ). l ++ noted s start k n next b) v (sym (second-cell at a e))
     ∙ append-assoc us x (noted s start k (secondCell at a) next b)
-
--- ---- a word by its place in the line
-
-window-slice : (l : List ℕ) (n a : ℕ) → a + n ≤ length l → window l a n ≡ slice a (a + n) l
-unfolding window
-window-slice l zero a h = let e : a + 0 ≡ a = omega arith in sym (ap (λ (t : ℕ). slice a t l) e ∙ slice-empty a l)
-window-slice l (suc n) a h =
-    let e : a + suc n ≡ a + 1 + n = omega arith in
-    let f : suc a ≡ a + 1 = omega arith in
-    ap (λ (r : List ℕ). getD l a 0 ∷ r) (window-slice l n (a + 1) (omega arith))
-    ∙ ap₂ (λ (t u : ℕ). getD l a 0 ∷ slice u t l) (sym e) (sym f)
-    ∙ sym (slice-cons a (a + suc n) l 0 (omega arith) (omega arith))
-
-pub spelled-window : (line : List ℕ) (n : Name) → n .start ≤ n .end → n .end ≤ length line → spelled line n ≡ window line (n .start) (n .end - n .start)
-spelled-window line n h k =
-    let e : n .start + (n .end - n .start) ≡ n .end = omega arith in
-    sym (window-slice line (n .end - n .start) (n .start) (omega arith) ∙ ap (λ (t : ℕ). slice (n .start) t line) e)
 
 -- a statement that names no label
 pub none-named : (us : List Use) (k at : ℕ) (line : List ℕ) {x y : Statement} → x ≡ y → usesBy k line at y ≡ [] → us ≡ us ++ usesBy k line at x

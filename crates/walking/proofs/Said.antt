@@ -33,7 +33,8 @@ use Rattle.statements.proofs.Labelling.{never}
 use Rattle.statements.proofs.Passing.{instruction-from, words-claimed, operand-labels-within}
 use Rattle.labels.specs.Labels.{Part}
 use Rattle.walking.specs.Noting.{Placeable, notedBy, noted, LabelHas}
-use Rattle.walking.proofs.Notes.{few-words, spelled-window}
+use Rattle.placing.proofs.LabelLaws.{spelled-window}
+use Rattle.walking.proofs.Notes.{few-words}
 
 -- an instruction with its operands as they stand
 abbrev pub standing : Opcode → Given → Given → Instruction
