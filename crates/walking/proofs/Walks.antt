@@ -11,15 +11,21 @@ use Rattle.tokens.proofs.Top.{line-within}
 use Rattle.statements.specs.Reading.{lineRead}
 use Rattle.statements.specs.declared.LineRead.{LineRead}
 use Rattle.statements.specs.declared.StatementRead.{StatementRead}
-use Rattle.sources.specs.Placing.{Place, start, after}
+use Rattle.statements.proofs.Labelling.{never}
+use Rattle.sources.specs.Placing.{Place, doesRead, start, labelled, Judged, after}
 use Rattle.sources.specs.Uses.{Use, usesRead}
-use Rattle.sources.specs.Order.{_on_}
-use Rattle.sources.specs.Assembling.{Verdict, passes, refused, andThen, readLine, endsIt, lineVerdict, walkLines, rawRead, Work, startWork, worked, workAfter}
+use Rattle.sources.specs.Order.{Refusal, _on_}
+use Rattle.sources.specs.Assembling.{Verdict, passes, refused, firstOf, andThen, readLine, endsIt, labelVerdict, ownVerdict, labelOut, reservesTooFar}
+use Rattle.sources.specs.Assembling.{pastEnd, actVerdict, lineVerdict, walkLines, rawRead, Work, startWork, worked, workAfter}
+use Rattle.sources.specs.declared.Act.{Act}
 use Rattle.labels.specs.Labels.{words, zipped, Part}
 use Rattle.labels.proofs.Laws.{window-part}
 use Rattle.uses.specs.Held.{usesHeld}
-use Rattle.placing.specs.State.{placeIn, Fair}
+use Rattle.placing.specs.State.{placeIn, Fair, FairDid, Tells}
 use Rattle.placing.specs.declared.Counters.{Counters}
+use Rattle.placing.specs.declared.Did.{Did}
+use Rattle.placing.specs.declared.Did.the-variants.{Go, No}
+use Rattle.placing.proofs.TestLaws.{not-past}
 use Rattle.walking.specs.Walking.{workIn}
 use Rattle.walking.proofs.Loop.{lineAt, linesFrom, goesOn, lines-over, lines-on}
 
@@ -47,20 +53,31 @@ further st from total next h k = go (endsIt st)
     go true = k
     go false = h
 
+-- behind END there is no turn
+uses-below : (st : StatementRead) (total next : ℕ) {uses to : ℕ} → to ≡ cond (endsIt st) total next → uses ≤ next → to < total → uses ≤ to
+uses-below st total next {uses} {to} e h = go (endsIt st) e
+  where
+    go : (b : Bool) → to ≡ cond b total next → to < total → uses ≤ to
+    go true q l = absurd (omega (arith, q, l))
+    go false q l = omega (arith, q, h)
+
 -- ---- one turn
+
+of-parts : {p q : Place} {m n : List ℕ} {us vs : List Use} → p ≡ q → m ≡ n → us ≡ vs
+    → _≡_ {A = Work} (record { place = p; cells = m; uses = us }) (record { place = q; cells = n; uses = vs })
+of-parts {q = q} {m = m} {n = n} {us = us} e f g =
+    ap (λ (x : Place). record { place = x; cells = m; uses = us }) e
+    ∙ ap₂ (λ (x : List ℕ) (y : List Use). record { place = q; cells = x; uses = y }) f g
 
 -- the work after a line, by its parts
 pub worked-on : (k : ℕ) (w : Work) (line : List ℕ) {read : StatementRead} {p : Place} {m : List ℕ} {us : List Use} → lineRead line .statement ≡ read
     → p ≡ after (w .place) (readLine line)
     → m ≡ sets (w .cells) (w .place .at) (rawRead line read)
     → us ≡ w .uses ++ usesRead k line (w .place .at) read
-    → record { place = p; cells = m; uses = us } ≡ worked k w (readLine line)
+    → _≡_ {A = Work} (record { place = p; cells = m; uses = us }) (worked k w (readLine line))
 unfolding worked
 worked-on k w line e p m u =
-    ap (λ (q : Place). record { place = q; cells = _; uses = _ }) p
-    ∙ ap (λ (n : List ℕ). record { place = after (w .place) (readLine line); cells = n; uses = _ })
-    (m ∙ ap (λ (r : StatementRead). sets (w .cells) (w .place .at) (rawRead line r)) (sym e))
-    ∙ ap (λ (l : List Use). record { place = after (w .place) (readLine line); cells = _; uses = l })
+    of-parts p (m ∙ ap (λ (r : StatementRead). sets (w .cells) (w .place .at) (rawRead line r)) (sym e))
     (u ∙ ap (λ (r : StatementRead). w .uses ++ usesRead k line (w .place .at) r) (sym e))
 
 -- what is left of the walk: its verdict, its work and its number of lines
@@ -68,6 +85,14 @@ pub record Same (M : ℕ) (k : ℕ) (w : Work) (ls : List (List ℕ)) (k′ : �
   pub verdict : walkLines M k (w .place) ls ≡ walkLines M k′ (w′ .place) ls′
   pub work : workAfter k w (map readLine ls) ≡ workAfter k′ w′ (map readLine ls′)
   pub lines : k + length ls ≡ k′ + length ls′
+
+module _ {M k k′ : ℕ} {w w′ : Work} {ls ls′ : List (List ℕ)} (h : Same M k w ls k′ w′ ls′) where
+  pub same-then : {k″ : ℕ} {w″ : Work} {ls″ : List (List ℕ)} → Same M k′ w′ ls′ k″ w″ ls″ → Same M k w ls k″ w″ ls″
+  same-then g = record { verdict = h .verdict ∙ g .verdict; work = h .work ∙ g .work; lines = h .lines ∙ g .lines }
+
+same-work : (M k : ℕ) {w w′ : Work} (ls : List (List ℕ)) → w ≡ w′ → Same M k w ls k w′ ls
+same-work M k ls e =
+    record { verdict = ap (λ (x : Work). walkLines M k (x .place) ls) e; work = ap (λ (x : Work). workAfter k x (map readLine ls)) e; lines = refl }
 
 module _ (M : ℕ) (s : List ℕ) (from k : ℕ) (w : Work) where
   -- no line is left
@@ -133,3 +158,149 @@ pub record Left (M : ℕ) (s starts lengths values marks cells row aways : List 
   pub few-uses : from < length s → uses ≤ from
   pub uses-fit : uses ≤ 32769
   pub left : Same M 1 (startWork M) (linesFrom s 0) (number + 1) (workIn s starts lengths values marks cells row aways c uses) (linesFrom s from)
+
+-- before the first line
+start-work : (s starts lengths values marks cells row aways : List ℕ) → marks ≡ replicate (length marks) 0 → cells ≡ replicate (length marks) 0
+    → startWork (length marks)
+    ≡ workIn s starts lengths values marks cells row aways (record { at = record { 0 = 0 }; bound = 0; waiting = 0 }) 0
+unfolding startWork start words zipped usesHeld
+start-work s starts lengths values marks cells row aways e f =
+    of-parts (ap (λ (m : List ℕ). record { at = 0; bound = []; waiting = []; marks = m }) (sym e)) (sym f) refl
+
+pub left-at-start : (s starts lengths values marks cells row aways : List ℕ) → length starts ≡ 512 → length lengths ≡ 512 → length values ≡ 512
+    → marks ≡ replicate (length marks) 0
+    → cells ≡ replicate (length marks) 0
+    → Left (length marks) s starts lengths values marks cells row aways (length cells) (length row) (length aways)
+    (record { at = record { 0 = 0 }; bound = 0; waiting = 0 }) 0 0 0
+left-at-start s starts lengths values marks cells row aways a b d e f =
+    record {
+      fair = record { low = omega arith; few = omega arith };
+      starts-long = a;
+      lengths-long = b;
+      values-long = d;
+      marks-long = refl;
+      cells-long = refl;
+      row-long = refl;
+      aways-long = refl;
+      few-lines = omega arith;
+      few-uses = λ h. omega arith;
+      uses-fit = omega arith;
+      left = same-work (length marks) 1 (linesFrom s 0) (start-work s starts lengths values marks cells row aways e f);
+    }
+
+-- ---- a line that passes has room for its cells
+
+then-passes : (u v : Verdict) → andThen u v ≡ passes → v ≡ passes
+then-passes passes v e = e
+then-passes (refused r) v e = never (cc)
+
+not-failing : (b : Bool) (r : Refusal) (v : Verdict) → cond b (refused r) v ≡ passes → (b ≡ false) × (v ≡ passes)
+not-failing true r v e = never (cc)
+not-failing false r v e = (refl, e)
+
+act-room : (M k : ℕ) (p : Place) (a : Act) → actVerdict M k p a ≡ passes → pastEnd M (p .at) a ≡ false
+unfolding actVerdict firstOf
+act-room M k p a e =
+    let r₁ = not-failing (labelOut p a) (6 on k) _ e in
+    let r₂ = not-failing (reservesTooFar (a .moves) (p .at)) (6 on k) _ (r₁ .1) in
+    not-failing (pastEnd M (p .at) a) (11 on k) _ (r₂ .1) .0
+
+pub room-there : (M k : ℕ) (p : Place) (x : Judged) → lineVerdict M k p x ≡ passes → 0 < doesRead (x .read .statement) .claims
+    → p .at + doesRead (x .read .statement) .claims ≤ M
+unfolding lineVerdict
+room-there M k p x e =
+    let q = labelled p (x .bytes) (x .read .label) in
+    let a = doesRead (x .read .statement) in
+    let f = then-passes (ownVerdict k (x .read .statement)) (actVerdict M k q a) (then-passes (labelVerdict k p (x .bytes) (x .read .label)) _ e) in
+    not-past M (p .at) (a .claims) (act-room M k q a f)
+
+-- ---- a turn of the code's loop: `place_line`, `keep_line`, `next_line` on what `Left` says
+
+module _ (M : ℕ) (s starts lengths values marks cells row aways : List ℕ) (long few far : ℕ) (c : Counters) (from number uses : ℕ)
+    (inv : Left M s starts lengths values marks cells row aways long few far c from number uses) where
+  abbrev now : Work
+  now = workIn s starts lengths values marks cells row aways c uses
+
+  -- no line is left
+  pub turns-over : length s ≤ from
+      → (walkLines M 1 (start M) (linesFrom s 0) ≡ passes)
+      × (now ≡ workAfter 1 (startWork M) (map readLine (linesFrom s 0)))
+      × (number ≡ length (linesFrom s 0))
+  unfolding startWork
+  turns-over h =
+      let o = walk-over M s from (number + 1) now h in
+      let n = inv .left .lines in
+      (inv .left .verdict ∙ o .0, sym (inv .left .work ∙ o .1), omega (arith, n, o .2))
+
+  module _ (h : from < length s) {end : ℕ} (e : end ≡ from + lineLength (drop from s)) where
+    abbrev line : List ℕ
+    line = take (end - from) (drop from s)
+
+    -- what `place_line` tells of the line
+    abbrev Told : (Counters → Place) → Did → Type 0
+    Told of r =
+        Tells (number + 1) (lineVerdict (length marks) (number + 1) (now .place) (readLine line)) (after (now .place) (readLine line)) of r
+
+    pub line-fits : length s ≤ 32768 → from + length line ≤ 32768
+    line-fits k = let g = end-within s from e h in omega (arith, line-long s from end (omega (arith, e)) g, g, k)
+
+    -- the line fails
+    pub turn-stops : (of : Counters → Place) {r : Did} {f : ℕ} → r ≡ No f → Told of r → walkLines M 1 (start M) (linesFrom s 0) ≡ refused (f on (number + 1))
+    unfolding startWork
+    turn-stops of {f = f} q t =
+        inv .left .verdict
+        ∙ walk-stops M s from (number + 1) now line h (part-line s from e)
+        (subst (λ (m : ℕ). lineVerdict m (number + 1) (now .place) (readLine line) ≡ refused (f on (number + 1))) (inv .marks-long) (subst (Told of) q t))
+
+    -- the line passes
+    module _ (of : Counters → Place) {r : Did} {d : Counters} (q : r ≡ Go d) (t : Told of r) where
+      line-passes : lineVerdict M (number + 1) (now .place) (readLine line) ≡ passes
+      line-passes = subst (λ (m : ℕ). lineVerdict m (number + 1) (now .place) (readLine line) ≡ passes) (inv .marks-long) (subst (Told of) q t .0)
+
+      -- its cells are there
+      pub turn-room : {read : LineRead} → read ≡ lineRead line → M ≤ 65536 → 0 < doesRead (read .statement) .claims
+          → c .at .0 + doesRead (read .statement) .claims ≤ 65536
+      turn-room a m =
+          subst (λ (x : LineRead). 0 < doesRead (x .statement) .claims → c .at .0 + doesRead (x .statement) .claims ≤ 65536) (sym a)
+          (λ z. let g = room-there M (number + 1) (now .place) (readLine line) line-passes z in omega (arith, g, m))
+
+      -- and the loop goes on
+      pub turn-goes : (starts′ lengths′ values′ marks′ cells′ row′ aways′ : List ℕ) {uses′ next : ℕ} {read : LineRead} → read ≡ lineRead line
+          → ((x : Counters) → of x ≡ placeIn s starts′ lengths′ values′ marks′ x)
+          → FairDid r
+          → length starts′ ≡ length starts
+          → length lengths′ ≡ length lengths
+          → length values′ ≡ length values
+          → length marks′ ≡ length marks
+          → length cells′ ≡ length cells
+          → length row′ ≡ length row
+          → length aways′ ≡ length aways
+          → length s ≤ 32768
+          → cells′ ≡ sets cells (c .at .0) (rawRead line (read .statement))
+          → usesHeld s row′ aways′ uses′ ≡ usesHeld s row aways uses ++ usesRead (number + 1) line (c .at .0) (read .statement)
+          → uses′ ≤ uses + length line + 1
+          → next ≡ cond (endsIt (read .statement)) (length s) (end + 1)
+          → Left M s starts′ lengths′ values′ marks′ cells′ row′ aways′ long few far d next (number + 1) uses′
+      turn-goes starts′ lengths′ values′ marks′ cells′ row′ aways′ {uses′} {next} {read} a is fair l₁ l₂ l₃ l₄ l₅ l₆ l₇ short m u n o =
+          let g = end-within s from e h in
+          let long-line = line-long s from end (omega (arith, e)) g in
+          let f = further (read .statement) from (length s) (end + 1) (omega (arith, e)) h in
+          let few-now = inv .few-uses h in
+          let w′ = workIn s starts′ lengths′ values′ marks′ cells′ row′ aways′ d uses′ in
+          let st : lineRead line .statement ≡ read .statement = ap (λ (x : LineRead). x .statement) (sym a) in
+          let w : w′ ≡ worked (number + 1) now (readLine line) =
+          worked-on (number + 1) now line st (sym (is d) ∙ subst (Told of) q t .1) m u in
+          record {
+            fair = subst FairDid q fair;
+            starts-long = l₁ ∙ inv .starts-long;
+            lengths-long = l₂ ∙ inv .lengths-long;
+            values-long = l₃ ∙ inv .values-long;
+            marks-long = l₄ ∙ inv .marks-long;
+            cells-long = l₅ ∙ inv .cells-long;
+            row-long = l₆ ∙ inv .row-long;
+            aways-long = l₇ ∙ inv .aways-long;
+            few-lines = omega (arith, f, o, inv .few-lines);
+            few-uses = uses-below (read .statement) (length s) (end + 1) o (omega (arith, n, few-now, long-line));
+            uses-fit = omega (arith, n, few-now, long-line, g, short);
+            left = same-then (inv .left) (walk-goes M s from (number + 1) now line w′ h (part-line s from e) line-passes w st e o);
+          }
