@@ -5,3 +5,4 @@ pub mod Words
 pub mod Kept
 pub mod Loop
 pub mod Walks
+pub mod Ends
