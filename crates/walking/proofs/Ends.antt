@@ -1,13 +1,13 @@
 -- The source's end: the labels that still wait get the address there.
-use Prim.Native.Nat.{ℕ, _+_, _≤_}
+use Prim.Native.Nat.{ℕ, _+_}
 use mathlib.Core.Bool.{Bool, true, false, cond, _&&_}
 use mathlib.Core.List.{List, _++_}
 use mathlib.Core.Path.{_≡_, refl, sym, ap, ap₂, subst, _∙_}
 use native.Mathlib.Omega.{arith}
 use lib.Dec.{ltb, leb}
-use lib.ListN.{length, take, drop, length-drop}
+use lib.ListN.{length, drop, length-drop}
 use lib.Seq.{take-all}
-use Rattle.sources.specs.Placing.{Bound, Place, boundTo, boundAll, bindings}
+use Rattle.sources.specs.Placing.{Place, boundTo, boundAll, bindings}
 use Rattle.sources.specs.Order.{_on_}
 use Rattle.sources.specs.Assembling.{Verdict, passes, refused, firstOf, andThen, Work, endVerdict}
 use Rattle.sources.specs.declared.Gives.the-variants.{Start}

@@ -16,16 +16,14 @@ use Rattle.isa.proofs.Top as isa
 use Rattle.tokens.specs.Reading.{tokensWithin, tokensFrom}
 use Rattle.values.specs.declared.LabelIn.{LabelIn}
 use Rattle.values.specs.declared.LabelIn.the-variants.{Absent, Named}
-use Rattle.values.specs.declared.Name.{Name}
 use Rattle.values.proofs.Within.{LabelWithin}
-use Rattle.operands.specs.Checks.{operandWith, operandAt, labelIn, given}
+use Rattle.operands.specs.Checks.{operandAt, labelIn, given}
 use Rattle.operands.specs.Settling.{reworded, settledBy, settledInstruction}
 use Rattle.operands.specs.declared.Given.{Given}
 use Rattle.operands.specs.declared.Written.{Written}
 use Rattle.operands.specs.declared.Written.the-variants as W
 use Rattle.operands.proofs.Top as operands
 use Rattle.sources.specs.Uses.{Use, countedFor, useBy, secondCell, usesBy}
-use Rattle.statements.specs.Judging.{claimOf}
 use Rattle.statements.specs.Reading.{afterLabel, statementRead, lineRead}
 use Rattle.statements.specs.declared.Statement.the-variants.{Nothing, Instruction as Says}
 use Rattle.statements.specs.declared.StatementRead.the-variants.{Passes}
@@ -111,9 +109,11 @@ module _ (line : List ℕ) {op : Opcode} {a b : Given} (e : lineRead line .state
   words-counted : 1 + length (operandWords (a .operand)) + length (operandWords (b .operand)) ≡ suc (countOf op)
   unfolding wordsOf
   words-counted =
-      omega
-      (arith, length-append (operandWords (a .operand)) (operandWords (b .operand)),
-      sym (ap (λ (i : Instruction). length (wordsOf i)) (both-stand op a b)) ∙ words-claimed line e (wordOf (a .operand)) (wordOf (b .operand)))
+      omega (
+        arith,
+        length-append (operandWords (a .operand)) (operandWords (b .operand)),
+        sym (ap (λ (i : Instruction). length (wordsOf i)) (both-stand op a b)) ∙ words-claimed line e (wordOf (a .operand)) (wordOf (b .operand)),
+      )
 
   module _ (start at : ℕ) (fits : start + length line ≤ 32768) (room : at + suc (countOf op) ≤ 65536) {n : ℕ} (m : n ≡ countOf op) where
     -- the labels of both operands fit where they are kept
@@ -125,8 +125,7 @@ module _ (line : List ℕ) {op : Opcode} {a b : Given} (e : lineRead line .state
         go (Named x) q h =
             let w = labels-have .0 x q in
             let c = words-counted in
-            let f = few-words (b .operand) in
-            (
+            let f = few-words (b .operand) in (
               omega (arith, h .0),
               omega (arith, h .1, fits),
               omega (arith, w, c, m),
@@ -141,8 +140,7 @@ module _ (line : List ℕ) {op : Opcode} {a b : Given} (e : lineRead line .state
         go Absent q h = tt
         go (Named x) q h =
             let w = labels-have .1 x q in
-            let c = words-counted in
-            (
+            let c = words-counted in (
               omega (arith, h .0),
               omega (arith, h .1, fits),
               omega (arith, w, c, m),

@@ -8,7 +8,7 @@ use lib.ListN.{set}
 use lib.Seq.{sets}
 use Rattle.isa.specs.Encoding.{allowed, wordsOf, encodeOf, wordsIn}
 use Rattle.isa.specs.declared.Encoded.{Encoded}
-use Rattle.isa.specs.declared.Encoded.the-variants.{One, Two, Three, Refused}
+use Rattle.isa.specs.declared.Encoded.the-variants.{One, Two, Three}
 use Rattle.isa.specs.declared.Instruction.{Instruction}
 use Rattle.isa.proofs.Top.{encoder-words}
 use Rattle.statements.specs.declared.Statement.{Statement}

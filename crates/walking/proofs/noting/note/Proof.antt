@@ -1,31 +1,23 @@
+-- A label that is named is kept behind those that are, by its place in the source.
 use borrow.Author.Needs.{needs}
 use native.Mathlib.Omega.{arith}
-use Prim.Native.Nat.{_≤_}
 use Rattle.uses.specs.Held.{usesHeld}
 use Rattle.walking.proofs.Notes.{placeable, noted-none, noted-one}
 use Rattle.walking.proofs.noting.note.Statement.{statement}
 use Rattle.walking.proofs.noting.note.Tie as tie
-use Rattle.walking.proofs.noting.note.Reads as reads
-use Rattle.walking.proofs.noting.note.Lts as lts
-use Rattle.uses.proofs.keeping.keep.Reads as keep-reads
-use Rattle.walking.proofs.noting.away.Reads as away-reads
 
--- src/noting.rt:74:13
 enum-told : tie.Need-enum-told
 enum-told c = search needs
 
--- src/noting.rt:74:13
 returns : tie.Need-returns
 returns c =
     let k = c .before .before .before .before in
     let a = k .args in
     (λ s. noted-none s (a .from) (a .number) (a .cell) (a .next) (a .g) _ (c .enum-told .given .1), omega arith, omega arith)
 
--- src/noting.rt:76:24
 enum-known-label : tie.Need-enum-known-label
 enum-known-label c = search needs
 
--- src/noting.rt:78:24
 sub-size : tie.Need-sub-size
 sub-size c =
     let l = c .before .before in
@@ -33,7 +25,6 @@ sub-size c =
     let h = placeable (k .args .from) (k .args .cell) (k .args .next) (l .label .given .1) (k .pre .3) in
     omega (arith, h .0, h .1, h .2, h .3, h .4)
 
--- src/noting.rt:79:27
 sub-behind : tie.Need-sub-behind
 sub-behind c =
     let l = c .before .before in
@@ -41,7 +32,6 @@ sub-behind c =
     let h = placeable (k .args .from) (k .args .cell) (k .args .next) (l .label .given .1) (k .pre .3) in
     omega (arith, h .0, h .1, h .2, h .3, h .4)
 
--- src/noting.rt:79:26
 cast-behind : tie.Need-cast-behind
 cast-behind c =
     let l = c .before .before in
@@ -49,11 +39,9 @@ cast-behind c =
     let h = placeable (k .args .from) (k .args .cell) (k .args .next) (l .label .given .1) (k .pre .3) in
     omega (arith, h .0, h .1, h .2, h .3, h .4)
 
--- src/noting.rt:80:17
 away-requires : tie.Need-away-requires
 away-requires c κs = search needs
 
--- src/noting.rt:81:26
 add-place : tie.Need-add-place
 add-place c =
     let l = c .before .before .before in
@@ -61,7 +49,6 @@ add-place c =
     let h = placeable (k .args .from) (k .args .cell) (k .args .next) (l .label .given .1) (k .pre .3) in
     omega (arith, h .0, h .1, h .2, h .3, h .4)
 
--- src/noting.rt:81:25
 cast-place : tie.Need-cast-place
 cast-place c =
     let l = c .before .before .before in
@@ -69,7 +56,6 @@ cast-place c =
     let h = placeable (k .args .from) (k .args .cell) (k .args .next) (l .label .given .1) (k .pre .3) in
     omega (arith, h .0, h .1, h .2, h .3, h .4)
 
--- src/noting.rt:82:24
 cast-long : tie.Need-cast-long
 cast-long c =
     let l = c .before .before .before in
@@ -77,7 +63,6 @@ cast-long c =
     let h = placeable (k .args .from) (k .args .cell) (k .args .next) (l .label .given .1) (k .pre .3) in
     omega (arith, h .0, h .1, h .2, h .3, h .4)
 
--- src/noting.rt:89:17
 cast-keep : tie.Need-cast-keep
 cast-keep c =
     let l = c .before .before .before .before .before in
@@ -85,27 +70,21 @@ cast-keep c =
     let h = placeable (k .args .from) (k .args .cell) (k .args .next) (l .label .given .1) (k .pre .3) in
     omega (arith, h .0, h .1, h .2, h .3, h .4)
 
--- src/noting.rt:90:17
 cast-keep-2 : tie.Need-cast-keep-2
 cast-keep-2 c = search needs
 
--- src/noting.rt:83:13
 keep-requires : tie.Need-keep-requires
 keep-requires c κs = search needs
 
--- src/noting.rt:93:20
 add-result : tie.Need-add-result
 add-result c = search needs
 
--- src/noting.rt:93:13
 same-length : tie.Need-same-length
 same-length c = search needs
 
--- src/noting.rt:93:13
 same-length-2 : tie.Need-same-length-2
 same-length-2 c = search needs
 
--- src/noting.rt:93:13
 returns-2 : tie.Need-returns-2
 returns-2 c =
     let p = c .before .before .before .before in
@@ -113,9 +92,12 @@ returns-2 c =
     let l = w .before .before .before in
     let k = l .before .before .before .before in
     let a = k .args in
-    let h = placeable (a .from) (a .cell) (a .next) (l .label .given .1) (k .pre .3) in
-    (λ s. noted-one s (a .from) (a .number) (a .cell) (a .next) (a .g)
-    (usesHeld s (a .row .now) (a .aways .now) (a .count)) (l .label .given .1) (h .2) (w .away .ensures) (p .keep .ensures s), omega arith, omega arith)
+    let h = placeable (a .from) (a .cell) (a .next) (l .label .given .1) (k .pre .3) in (
+      λ s. noted-one s (a .from) (a .number) (a .cell) (a .next) (a .g)
+          (usesHeld s (a .row .now) (a .aways .now) (a .count)) (l .label .given .1) (h .2) (w .away .ensures) (p .keep .ensures s),
+      omega arith,
+      omega arith,
+    )
 
 pub note-spec : {M : Type 1} → statement M
 note-spec =

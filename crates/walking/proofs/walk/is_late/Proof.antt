@@ -1,16 +1,13 @@
+-- As 6 of a statement that gives its start.
 use mathlib.Core.Path.{refl}
 use Rattle.sources.specs.declared.Gives.the-variants.{Start}
 use Rattle.placing.proofs.TestLaws.{label-none, label-some}
 use Rattle.walking.proofs.walk.is_late.Statement.{statement}
 use Rattle.walking.proofs.walk.is_late.Tie as tie
-use Rattle.walking.proofs.walk.is_late.Reads as reads
-use Rattle.walking.proofs.walk.is_late.Lts as lts
 
--- src/walk.rt:123:9
 returns : tie.Need-returns
 returns c = label-none Start (c .before .args .waiting) (c .before .args .at) (c .if1 .taken)
 
--- src/walk.rt:119:1
 returns-2 : tie.Need-returns-2
 returns-2 c = label-some Start (c .before .args .waiting) (c .before .args .at) refl (c .if1 .left)
 

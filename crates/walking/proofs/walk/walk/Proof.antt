@@ -1,3 +1,4 @@
+-- A refusal of a line, then that of the source's end; else every label is bound.
 use borrow.Author.Needs.{needs}
 use mathlib.Core.Path.{_∙_}
 use lib.ListN.{length}
@@ -8,57 +9,40 @@ use Rattle.walking.specs.Walking.{workIn}
 use Rattle.walking.proofs.Ends.{refused-early, still-fair, refused-late, passes-end, binds-at-end, all-held}
 use Rattle.walking.proofs.walk.walk.Statement.{statement}
 use Rattle.walking.proofs.walk.walk.Tie as tie
-use Rattle.walking.proofs.walk.walk.Reads as reads
-use Rattle.walking.proofs.walk.walk.Lts as lts
-use Rattle.placing.proofs.naming.bind_here.Reads as bind-here-reads
-use Rattle.walking.proofs.walk.is_late.Reads as is-late-reads
-use Rattle.walking.proofs.walk.walk_lines.Reads as walk-lines-reads
 
--- src/walk.rt:142:11
 walk-lines-requires : tie.Need-walk-lines-requires
 walk-lines-requires c κs = search needs
 
--- src/walk.rt:143:24
 enum-known-f : tie.Need-enum-known-f
 enum-known-f c = search needs
 
--- src/walk.rt:144:23
 enum-known-c : tie.Need-enum-known-c
 enum-known-c c = search needs
 
--- src/walk.rt:146:16
 is-late-requires : tie.Need-is-late-requires
 is-late-requires c κs = search needs
 
--- src/walk.rt:147:17
 same-length : tie.Need-same-length
 same-length c = search needs
 
--- src/walk.rt:147:17
 same-length-2 : tie.Need-same-length-2
 same-length-2 c = search needs
 
--- src/walk.rt:147:17
 same-length-3 : tie.Need-same-length-3
 same-length-3 c = search needs
 
--- src/walk.rt:147:17
 same-length-4 : tie.Need-same-length-4
 same-length-4 c = search needs
 
--- src/walk.rt:147:17
 same-length-5 : tie.Need-same-length-5
 same-length-5 c = search needs
 
--- src/walk.rt:147:17
 same-length-6 : tie.Need-same-length-6
 same-length-6 c = search needs
 
--- src/walk.rt:147:17
 same-length-7 : tie.Need-same-length-7
 same-length-7 c = search needs
 
--- src/walk.rt:147:17
 returns : tie.Need-returns
 returns c =
     let late = c .before .is-late in
@@ -74,7 +58,6 @@ returns c =
     refused-late s (l .last .1 .0) (l .last .1 .1 .0) (l .last .1 .1 .1 .0) (l .last .1 .1 .1 .1 .0) (l .last .1 .1 .1 .1 .1 .0) (l .last .1 .1 .1 .1 .1 .1 .0) (l .last .1 .1 .1 .1 .1 .1 .1 .0)
     v w n (d .1) (l .ensures) (l .kept .1 .0 ∙ pre .1) (l .kept .1 .1 .0 ∙ pre .2) (late .ensures) (c .if1 .taken)
 
--- src/walk.rt:149:17
 bind-here-requires : tie.Need-bind-here-requires
 bind-here-requires c κs =
     let late = c .before .before .is-late in
@@ -86,44 +69,35 @@ bind-here-requires c κs =
     let m = length (a .marks .now) in
     let v = walkLines m 1 (start m) (upToEnd (linesOf s)) in
     let w = workOf m s in
-    let n = length (upToEnd (linesOf s)) in
-    (
+    let n = length (upToEnd (linesOf s)) in (
       still-fair s (l .last .1 .0) (l .last .1 .1 .0) (l .last .1 .1 .1 .0) (l .last .1 .1 .1 .1 .0) (l .last .1 .1 .1 .1 .1 .0) (l .last .1 .1 .1 .1 .1 .1 .0) (l .last .1 .1 .1 .1 .1 .1 .1 .0)
-    v w n (d .1) (l .ensures) (l .kept .1 .0 ∙ pre .1) (l .kept .1 .1 .0 ∙ pre .2),
+          v w n (d .1) (l .ensures) (l .kept .1 .0 ∙ pre .1) (l .kept .1 .1 .0 ∙ pre .2),
       l .kept .1 .1 .1 .0 ∙ pre .3,
       binds-at-end s (l .last .1 .0) (l .last .1 .1 .0) (l .last .1 .1 .1 .0) (l .last .1 .1 .1 .1 .0) (l .last .1 .1 .1 .1 .1 .0) (l .last .1 .1 .1 .1 .1 .1 .0) (l .last .1 .1 .1 .1 .1 .1 .1 .0)
-    v w n (d .1) (l .ensures) (l .kept .1 .0 ∙ pre .1) (l .kept .1 .1 .0 ∙ pre .2) (late .ensures) (c .before .if1 .left),
+          v w n (d .1) (l .ensures) (l .kept .1 .0 ∙ pre .1) (l .kept .1 .1 .0 ∙ pre .2) (late .ensures) (c .before .if1 .left),
     )
 
--- src/walk.rt:129:1
 same-length-8 : tie.Need-same-length-8
 same-length-8 c = search needs
 
--- src/walk.rt:129:1
 same-length-9 : tie.Need-same-length-9
 same-length-9 c = search needs
 
--- src/walk.rt:129:1
 same-length-10 : tie.Need-same-length-10
 same-length-10 c = search needs
 
--- src/walk.rt:129:1
 same-length-11 : tie.Need-same-length-11
 same-length-11 c = search needs
 
--- src/walk.rt:129:1
 same-length-12 : tie.Need-same-length-12
 same-length-12 c = search needs
 
--- src/walk.rt:129:1
 same-length-13 : tie.Need-same-length-13
 same-length-13 c = search needs
 
--- src/walk.rt:129:1
 same-length-14 : tie.Need-same-length-14
 same-length-14 c = search needs
 
--- src/walk.rt:129:1
 returns-2 : tie.Need-returns-2
 returns-2 c =
     let f = c .before .f .given in
@@ -136,35 +110,27 @@ returns-2 c =
     let n = length (upToEnd (linesOf s)) in
     refused-early v w n (workIn s (l .last .1 .0) (l .last .1 .1 .0) (l .last .1 .1 .1 .0) (l .last .1 .1 .1 .1 .0) (l .last .1 .1 .1 .1 .1 .0) (l .last .1 .1 .1 .1 .1 .1 .0) (l .last .1 .1 .1 .1 .1 .1 .1 .0)) (endVerdict n (w .place)) (f .1) (l .ensures)
 
--- src/walk.rt:129:1
 same-length-15 : tie.Need-same-length-15
 same-length-15 c = search needs
 
--- src/walk.rt:129:1
 same-length-16 : tie.Need-same-length-16
 same-length-16 c = search needs
 
--- src/walk.rt:129:1
 same-length-17 : tie.Need-same-length-17
 same-length-17 c = search needs
 
--- src/walk.rt:129:1
 same-length-18 : tie.Need-same-length-18
 same-length-18 c = search needs
 
--- src/walk.rt:129:1
 same-length-19 : tie.Need-same-length-19
 same-length-19 c = search needs
 
--- src/walk.rt:129:1
 same-length-20 : tie.Need-same-length-20
 same-length-20 c = search needs
 
--- src/walk.rt:129:1
 same-length-21 : tie.Need-same-length-21
 same-length-21 c = search needs
 
--- src/walk.rt:129:1
 returns-3 : tie.Need-returns-3
 returns-3 c =
     let q = c .before .before .bind-here in
@@ -177,12 +143,11 @@ returns-3 c =
     let m = length (a .marks .now) in
     let v = walkLines m 1 (start m) (upToEnd (linesOf s)) in
     let w = workOf m s in
-    let n = length (upToEnd (linesOf s)) in
-    (
+    let n = length (upToEnd (linesOf s)) in (
       passes-end s (l .last .1 .0) (l .last .1 .1 .0) (l .last .1 .1 .1 .0) (l .last .1 .1 .1 .1 .0) (l .last .1 .1 .1 .1 .1 .0) (l .last .1 .1 .1 .1 .1 .1 .0) (l .last .1 .1 .1 .1 .1 .1 .1 .0)
-    v w n (d .1) (l .ensures) (l .kept .1 .0 ∙ pre .1) (l .kept .1 .1 .0 ∙ pre .2) (late .ensures) (c .before .before .before .before .if1 .left),
+          v w n (d .1) (l .ensures) (l .kept .1 .0 ∙ pre .1) (l .kept .1 .1 .0 ∙ pre .2) (late .ensures) (c .before .before .before .before .if1 .left),
       all-held s (l .last .1 .0) (l .last .1 .1 .0) (l .last .1 .1 .1 .0) (l .last .1 .1 .1 .1 .0) (l .last .1 .1 .1 .1 .1 .0) (l .last .1 .1 .1 .1 .1 .1 .0) (l .last .1 .1 .1 .1 .1 .1 .1 .0)
-    v w n (d .1) (l .ensures) (l .kept .1 .0 ∙ pre .1) (l .kept .1 .1 .0 ∙ pre .2) (q .last .0) (q .result) (q .ensures .2) (q .ensures .3),
+          v w n (d .1) (l .ensures) (l .kept .1 .0 ∙ pre .1) (l .kept .1 .1 .0 ∙ pre .2) (q .last .0) (q .result) (q .ensures .2) (q .ensures .3),
     )
 
 pub walk-spec : {M : Type 1} → statement M

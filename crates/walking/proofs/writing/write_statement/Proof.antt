@@ -1,3 +1,4 @@
+-- An instruction that a line says is allowed as it stands.
 use borrow.Author.Needs.{needs}
 use mathlib.Core.Path.{ap, _∙_}
 use Rattle.statements.specs.declared.StatementRead.the-variants.{Passes}
@@ -5,27 +6,19 @@ use Rattle.walking.proofs.Said.{allowed-said}
 use Rattle.walking.proofs.Words.{as-said}
 use Rattle.walking.proofs.writing.write_statement.Statement.{statement}
 use Rattle.walking.proofs.writing.write_statement.Tie as tie
-use Rattle.walking.proofs.writing.write_statement.Reads as reads
-use Rattle.walking.proofs.writing.write_statement.Lts as lts
-use Rattle.statements.proofs.cells.write_cells.Reads as write-cells-reads
-use Rattle.walking.proofs.writing.write_words.Reads as write-words-reads
 
--- src/writing.rt:48:32
 enum-known-says : tie.Need-enum-known-says
 enum-known-says c = search needs
 
--- src/writing.rt:51:13
 write-words-requires : tie.Need-write-words-requires
 write-words-requires c κs =
     let d = c .before .before in
     let k = d .before .before .before .before in
     (allowed-said (k .args .line .now) (k .pre .0 ∙ ap Passes (d .says .given .1)), k .pre .1)
 
--- src/writing.rt:60:13
 same-length : tie.Need-same-length
 same-length c = search needs
 
--- src/writing.rt:60:13
 returns : tie.Need-returns
 returns c =
     let p = c .before .before in
@@ -33,19 +26,15 @@ returns c =
     let a = d .before .before .before .before .args in
     as-said (a .line .now) (a .cells .now) (a .at) (d .says .given .1) (p .write-words .ensures)
 
--- src/writing.rt:63:31
 enum-told : tie.Need-enum-told
 enum-told c = search needs
 
--- src/writing.rt:63:13
 write-cells-requires : tie.Need-write-cells-requires
 write-cells-requires c κs = search needs
 
--- src/writing.rt:64:13
 same-length-2 : tie.Need-same-length-2
 same-length-2 c = search needs
 
--- src/writing.rt:64:13
 returns-2 : tie.Need-returns-2
 returns-2 c =
     let p = c .before .before in
@@ -53,43 +42,33 @@ returns-2 c =
     let a = d .before .before .before .before .args in
     as-said (a .line .now) (a .cells .now) (a .at) (d .enum-told .given .1) (p .write-cells .ensures)
 
--- src/writing.rt:67:13
 enum-told-2 : tie.Need-enum-told-2
 enum-told-2 c = search needs
 
--- src/writing.rt:67:13
 returns-3 : tie.Need-returns-3
 returns-3 c = search needs
 
--- src/writing.rt:70:13
 enum-told-3 : tie.Need-enum-told-3
 enum-told-3 c = search needs
 
--- src/writing.rt:70:13
 returns-4 : tie.Need-returns-4
 returns-4 c = search needs
 
--- src/writing.rt:73:13
 enum-told-4 : tie.Need-enum-told-4
 enum-told-4 c = search needs
 
--- src/writing.rt:73:13
 returns-5 : tie.Need-returns-5
 returns-5 c = search needs
 
--- src/writing.rt:76:13
 enum-told-5 : tie.Need-enum-told-5
 enum-told-5 c = search needs
 
--- src/writing.rt:76:13
 returns-6 : tie.Need-returns-6
 returns-6 c = search needs
 
--- src/writing.rt:79:13
 enum-told-6 : tie.Need-enum-told-6
 enum-told-6 c = search needs
 
--- src/writing.rt:79:13
 returns-7 : tie.Need-returns-7
 returns-7 c = search needs
 

@@ -1,40 +1,30 @@
+-- Word after word, as the encoder hands them back.
 use borrow.Author.Needs.{needs}
 use Rattle.walking.proofs.Words.{as-encoded, one-written, two-written, three-written}
 use Rattle.walking.proofs.writing.write_words.Statement.{statement}
 use Rattle.walking.proofs.writing.write_words.Tie as tie
-use Rattle.walking.proofs.writing.write_words.Reads as reads
-use Rattle.walking.proofs.writing.write_words.Lts as lts
-use Rattle.isa.proofs.encoding.encode.Reads as encode-reads
-use Rattle.uses.proofs.cells.put.Reads as put-reads
 
--- src/writing.rt:21:11
 encode-requires : tie.Need-encode-requires
 encode-requires c κs = search needs
 
--- src/writing.rt:23:13
 enum-told : tie.Need-enum-told
 enum-told c = search needs
 
--- src/writing.rt:23:13
 returns : tie.Need-returns
 returns c =
     let k = c .before .before in
     let a = k .before .before .args in
     as-encoded (a .i) (k .before .before .pre .0) (k .encode .ensures) (a .cells .now) (a .at) (c .enum-told .given .1)
 
--- src/writing.rt:25:22
 enum-known-x : tie.Need-enum-known-x
 enum-known-x c = search needs
 
--- src/writing.rt:26:13
 put-requires : tie.Need-put-requires
 put-requires c κs = search needs
 
--- src/writing.rt:27:13
 same-length : tie.Need-same-length
 same-length c = search needs
 
--- src/writing.rt:27:13
 returns-2 : tie.Need-returns-2
 returns-2 c =
     let p = c .before .before in
@@ -43,27 +33,21 @@ returns-2 c =
     let a = k .before .before .args in
     one-written (a .i) (k .before .before .pre .0) (k .encode .ensures) (a .cells .now) (a .at) (d .x .given .1) (p .put .ensures)
 
--- src/writing.rt:29:22
 enum-known-x-2 : tie.Need-enum-known-x-2
 enum-known-x-2 c = search needs
 
--- src/writing.rt:30:13
 put-requires-2 : tie.Need-put-requires-2
 put-requires-2 c κs = search needs
 
--- src/writing.rt:31:24
 add-put : tie.Need-add-put
 add-put c = search needs
 
--- src/writing.rt:31:13
 put-requires-3 : tie.Need-put-requires-3
 put-requires-3 c κs = search needs
 
--- src/writing.rt:32:13
 same-length-2 : tie.Need-same-length-2
 same-length-2 c = search needs
 
--- src/writing.rt:32:13
 returns-3 : tie.Need-returns-3
 returns-3 c =
     let q = c .before .before in
@@ -73,35 +57,27 @@ returns-3 c =
     let a = k .before .before .args in
     two-written (a .i) (k .before .before .pre .0) (k .encode .ensures) (a .cells .now) (a .at) (d .x2 .given .1) (p .put2 .ensures) (q .put3 .ensures)
 
--- src/writing.rt:34:24
 enum-known-x-3 : tie.Need-enum-known-x-3
 enum-known-x-3 c = search needs
 
--- src/writing.rt:35:13
 put-requires-4 : tie.Need-put-requires-4
 put-requires-4 c κs = search needs
 
--- src/writing.rt:36:24
 add-put-2 : tie.Need-add-put-2
 add-put-2 c = search needs
 
--- src/writing.rt:36:13
 put-requires-5 : tie.Need-put-requires-5
 put-requires-5 c κs = search needs
 
--- src/writing.rt:37:24
 add-put-3 : tie.Need-add-put-3
 add-put-3 c = search needs
 
--- src/writing.rt:37:13
 put-requires-6 : tie.Need-put-requires-6
 put-requires-6 c κs = search needs
 
--- src/writing.rt:38:13
 same-length-3 : tie.Need-same-length-3
 same-length-3 c = search needs
 
--- src/writing.rt:38:13
 returns-4 : tie.Need-returns-4
 returns-4 c =
     let r = c .before .before in
