@@ -67,10 +67,10 @@ module _ (M : ℕ) (s : List ℕ) where
           let w = workOf M s in
           let a : outcomeBy (usesVerdict (zipped (words s starts lengths labels) vs) (usesHeld s row aways uses)) (filled (zipped (words s starts lengths labels) vs) (usesHeld s row aways uses) cells) ms memory map
           ≡ outcomeBy (usesVerdict (bindings (w .place)) (w .uses)) (filled (bindings (w .place)) (w .uses) cells) ms memory map =
-          ap₂ (λ (bs : List Bound) (us : List Use). outcomeBy (usesVerdict bs us) (filled bs us cells) ms memory map) (h .labels-bound) (h .uses-kept) in
+          ap₂ (λ (bs : List Bound) (us : List Use). outcomeBy (usesVerdict bs us) (filled bs us cells) ms memory map) (h .bound) (h .uses) in
           let b : outcomeBy (usesVerdict (bindings (w .place)) (w .uses)) (filled (bindings (w .place)) (w .uses) cells) ms memory map
           ≡ outcomeBy (usesVerdict (bindings (w .place)) (w .uses)) (filled (bindings (w .place)) (w .uses) (w .cells)) (w .place .marks) memory map =
-          ap₂ (λ (c k : List ℕ). outcomeBy (usesVerdict (bindings (w .place)) (w .uses)) (filled (bindings (w .place)) (w .uses) c) k memory map) (h .cells-made) (h .map-made) in
+          ap₂ (λ (c k : List ℕ). outcomeBy (usesVerdict (bindings (w .place)) (w .uses)) (filled (bindings (w .place)) (w .uses) c) k memory map) (h .cells) (h .marks) in
           g ∙ a ∙ b ∙ ap (λ (v : Verdict). outcomeBy v (memoryOf w) (w .place .marks) memory map) (sym (late-whole e))
 
 -- where the walk passes

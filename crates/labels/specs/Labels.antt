@@ -1,8 +1,9 @@
 -- The labels that are held, as words, and a word's place among them.
-use Prim.Native.Nat.{ℕ, zero, suc, _+_}
+use Prim.Native.Nat.{ℕ, zero, suc, _+_, _≤_}
 use mathlib.Core.Bool.{cond}
 use mathlib.Core.List.{List, [], _∷_}
-use lib.ListN.{getD}
+use mathlib.Core.Path.{_≡_}
+use lib.ListN.{length, getD}
 use Rattle.sources.specs.Placing.{Bound}
 use Rattle.sources.specs.Uses.{same}
 
@@ -10,6 +11,10 @@ use Rattle.sources.specs.Uses.{same}
 unfoldable pub window : List ℕ → ℕ → ℕ → List ℕ
 window s a zero = []
 window s a (suc n) = getD s a 0 ∷ window s (a + 1) n
+
+-- a line is the part of the source from a place on
+abbrev pub Part : List ℕ → ℕ → List ℕ → Type 0
+Part s from line = (a n : ℕ) → a + n ≤ length line → window line a n ≡ window s (from + a) n
 
 -- the words at n places, given by their starts and lengths
 unfoldable pub words : List ℕ → List ℕ → List ℕ → ℕ → List (List ℕ)

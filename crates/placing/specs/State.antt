@@ -1,15 +1,15 @@
 -- What counters and lent rows stand for, as a place (sources/specs/Placing.antt); and what an answer says.
 use Prim.Native.Nat.{ℕ, _+_, _≤_, _<_}
 use mathlib.Core.Bool.{Bool, _&&_}
-use mathlib.Core.List.{List}
+use mathlib.Core.List.{List, [], _∷_}
 use mathlib.Core.Path.{_≡_}
-use lib.Dec.{ltb}
-use lib.ListN.{length, take, drop}
-use Rattle.labels.specs.Labels.{window, words, zipped}
+use lib.Dec.{leb, ltb}
+use lib.ListN.{take, drop}
+use Rattle.labels.specs.Labels.{words, zipped}
 use Rattle.sources.specs.Limits.{mostCells, mostLabels}
 use Rattle.sources.specs.Placing.{Place}
 use Rattle.sources.specs.Order.{_on_}
-use Rattle.sources.specs.Assembling.{Verdict, passes, refused}
+use Rattle.sources.specs.Assembling.{Verdict, passes, refused, givesStart}
 use Rattle.sources.specs.declared.Gives.{Gives}
 use Rattle.sources.specs.declared.Gives.the-variants.{Waits, Number, Start}
 use Rattle.sources.specs.declared.Moves.{Moves}
@@ -59,7 +59,3 @@ abbrev pub BindsFine : Counters → Gives → Type 0
 BindsFine c Waits = Unit {0}
 BindsFine c (Number v) = Unit {0}
 BindsFine c Start = 0 < c .waiting → c .at .0 < mostCells
-
--- a line is the part of the source from a place on
-abbrev pub Part : List ℕ → ℕ → List ℕ → Type 0
-Part s from line = (a n : ℕ) → a + n ≤ length line → window line a n ≡ window s (from + a) n

@@ -28,13 +28,13 @@ Says v w n of (L.Passes c uses l) = (v ≡ passes) × (of c uses ≡ w) × (l .0
 Says v w n of (L.Refused f l) = v ≡ refused (f on l .0)
 
 -- every label is bound, and the rows hold what the work has come to
-pub record Holds (s starts lengths vs ms cells row aways : List ℕ) (w : Work) (labels uses : ℕ) : Type 0 where
+pub record Holds (s starts lengths vs ms memory row aways : List ℕ) (w : Work) (labels named : ℕ) : Type 0 where
   pub few : labels ≤ 512
-  pub enough : uses ≤ 32769
-  pub labels-bound : zipped (words s starts lengths labels) vs ≡ bindings (w .place)
-  pub map-made : ms ≡ w .place .marks
-  pub cells-made : cells ≡ w .cells
-  pub uses-kept : usesHeld s row aways uses ≡ w .uses
+  pub enough : named ≤ 32769
+  pub bound : zipped (words s starts lengths labels) vs ≡ bindings (w .place)
+  pub marks : ms ≡ w .place .marks
+  pub cells : memory ≡ w .cells
+  pub uses : usesHeld s row aways named ≡ w .uses
 
 -- the same at the source's end
 abbrev pub Ends : Verdict → (ℕ → ℕ → Type 0) → Walked → Type 0

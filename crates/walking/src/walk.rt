@@ -1,8 +1,9 @@
 // All lines of a source up to END, and the source's end.
-ghost use mathlib.Core.Bool.{cond};
+ghost use mathlib.Core.Bool.{cond, _&&_};
 ghost use mathlib.Core.List.{List, _++_};
 ghost use mathlib.Core.Path.{_≡_};
 ghost use Prim.Native.Nat.{ℕ, _+_, _*_, _≤_, _<_};
+ghost use lib.Dec.{ltb, leb};
 ghost use lib.ListN.{length, replicate};
 ghost use lib.Seq.{sets};
 ghost use Rattle.tokens.specs.Reading.{linesOf};
@@ -11,7 +12,7 @@ ghost use Rattle.sources.specs.Placing.{doesRead, start};
 ghost use Rattle.sources.specs.Uses.{usesRead};
 ghost use Rattle.sources.specs.Assembling.{endsIt, upToEnd, andThen, walkLines, rawRead, workOf, endVerdict};
 ghost use Rattle.uses.specs.Held.{usesHeld};
-ghost use Rattle.placing.specs.State.{Part};
+ghost use Rattle.labels.specs.Labels.{Part};
 ghost use Rattle.walking.specs.Walking.{workIn, Says, Holds, Ends};
 use super::Lines;
 use super::Walked;
@@ -114,6 +115,16 @@ fn walk_lines(
     Lines::Passes(c, uses, Line(number))
 }
 
+// A label that waits at the source's end would get 65,536.
+fn is_late(waiting: usize, at: usize) -> bool
+    ensures { λ r. ⌜ r ≡ (ltb 0 waiting && leb 65536 at) ⌝ }
+{
+    if waiting == 0 {
+        return false;
+    }
+    at >= 65536
+}
+
 // All lines pass and every label is bound, or the first refusal: "65,536 is 6 .., or the last line for labels bound at the source's end".
 pub fn walk(
     s: &[u8],
@@ -132,10 +143,8 @@ pub fn walk(
         Lines::Refused(f, l) => Walked::Refused(f, l),
         Lines::Passes(c, uses, last) => {
             let at = c.at.0;
-            if 0 < c.waiting {
-                if at >= 65536 {
-                    return Walked::Refused(6, last);
-                }
+            if is_late(c.waiting, at) {
+                return Walked::Refused(6, last);
             }
             let d = bind_here(values, c);
             let labels = d.bound;

@@ -46,12 +46,17 @@ pub(crate) fn write_statement(line: &[u8], says: Statement, cells: &mut [u16], a
 {
     match says {
         Statement::Instruction(op, a, b) => {
-            let i = Instruction {
-                op: op,
-                first: a.operand,
-                second: b.operand,
-            };
-            write_words(i, cells, at);
+            let x = a.operand;
+            let y = b.operand;
+            write_words(
+                Instruction {
+                    op: op,
+                    first: x,
+                    second: y,
+                },
+                cells,
+                at,
+            );
             return;
         }
         Statement::Data(_) => {

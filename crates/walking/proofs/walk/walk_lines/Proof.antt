@@ -1,0 +1,274 @@
+-- The loop over the lines: `Left` holds at each turn, and each turn is a law of Walks.antt.
+use borrow.Author.Needs.{needs}
+use native.Mathlib.Omega.{arith}
+use Prim.Native.Nat.{_+_, _-_, _≤_}
+use mathlib.Core.Path.{refl, sym, ap, _∙_}
+use lib.ListN.{length}
+use Rattle.statements.specs.declared.LineRead.{LineRead}
+use Rattle.placing.specs.State.{placeIn}
+use Rattle.walking.proofs.Walks.{Left, left-at-start, end-within, line-part, further, line-fits, turns-over, turn-stops, turn-room, turn-goes}
+use Rattle.walking.proofs.walk.walk_lines.Statement.{statement}
+use Rattle.walking.proofs.walk.walk_lines.Tie as tie
+
+abbrev Inv-loop : tie.InvT-loop
+Inv-loop s starts₀ lengths₀ values₀ marks₀ cells₀ row₀ aways₀ c₀ from₀ number₀ uses₀ starts lengths values marks cells row aways c from number uses =
+    Left (length marks₀) s starts lengths values marks cells row aways (length cells₀) (length row₀) (length aways₀) c from number uses
+
+abbrev μ-loop : tie.MeasureT-loop
+μ-loop s starts₀ lengths₀ values₀ marks₀ cells₀ row₀ aways₀ c₀ from₀ number₀ uses₀ starts lengths values marks cells row aways c from number uses =
+    length s - from
+
+loop-holds : tie.Need-loop-holds Inv-loop μ-loop
+loop-holds c =
+    let a = c .before .before .before .before .before .before .before .before .args in
+    let pre = c .before .before .before .before .before .before .before .before .pre in
+    left-at-start (a .s .now) (a .starts .now) (a .lengths .now) (a .values .now) (a .marks .now) (a .cells .now) (a .row .now) (a .aways .now) (pre .1) (pre .2)
+    (pre .3) (pre .5) (pre .6)
+
+line-end-requires : tie.Need-line-end-requires Inv-loop μ-loop
+line-end-requires c κs =
+    search needs
+
+sub-line : tie.Need-sub-line Inv-loop μ-loop
+sub-line c =
+    omega arith
+
+part-line-start : tie.Need-part-line-start Inv-loop μ-loop
+part-line-start c =
+    search needs
+
+part-line-end : tie.Need-part-line-end Inv-loop μ-loop
+part-line-end c =
+    let s = c .before .before .before .before .before .before .before .before .before .before .before .args .s .now in
+    let h : c .line-end .result ≤ length s = end-within s (c .before .before .loop .from) (c .line-end .ensures) (c .before .loop-test .taken) in
+    search needs
+
+read-line-requires : tie.Need-read-line-requires Inv-loop μ-loop
+read-line-requires c κs =
+    search needs
+
+add-number : tie.Need-add-number Inv-loop μ-loop
+add-number c =
+    omega (arith, c .before .before .before .before .loop .inv .few-lines, c .before .before .before .loop-test .taken, c .before .before .before .before .before .before .before .before .before .before .before .before .before .pre .0)
+
+place-line-requires : tie.Need-place-line-requires Inv-loop μ-loop
+place-line-requires c κs =
+    let r = c .before .before .before .before in
+    let e = c .before .before .before .before .before .before in
+    let test = c .before .before .before .before .before .before .before .loop-test .taken in
+    let p = c .before .before .before .before .before .before .before .before .loop in
+    let pre = c .before .before .before .before .before .before .before .before .before .before .before .before .before .before .before .before .before .pre in
+    let a = c .before .before .before .before .before .before .before .before .before .before .before .before .before .before .before .before .before .args in
+    let s = a .s .now in
+    let i = p .inv in (
+      i .fair,
+      i .starts-long,
+      i .lengths-long,
+      i .values-long,
+      omega (arith, i .marks-long, pre .4),
+      r .read-line .ensures,
+      line-fits (length (a .marks .now)) s (p .starts) (p .lengths) (p .values) (p .marks) (p .cells) (p .row) (p .aways) (length (a .cells .now)) (length (a .row .now))
+          (length (a .aways .now)) (p .c) (p .from) (p .number) (p .uses) (p .inv) test (e .line-end .ensures) (pre .0),
+      line-part s (p .from) (e .line-end .result),
+    )
+
+enum-known-f : tie.Need-enum-known-f Inv-loop μ-loop
+enum-known-f c =
+    search needs
+
+same-length : tie.Need-same-length Inv-loop μ-loop
+same-length c =
+    c .before .before .before .before .before .before .before .before .before .before .before .place-line .kept .1 .1 .1 .1 .0
+    ∙ c .before .before .before .before .before .before .before .before .before .before .before .before .before .before .before .before .before .before .before .before .loop .inv .starts-long
+    ∙ sym (c .before .before .before .before .before .before .before .before .before .before .before .before .before .before .before .before .before .before .before .before .before .before .before .before .before .before .before .before .before .pre .1)
+
+same-length-2 : tie.Need-same-length-2 Inv-loop μ-loop
+same-length-2 c =
+    c .before .before .before .before .before .before .before .before .before .before .before .place-line .kept .1 .1 .1 .1 .1 .0
+    ∙ c .before .before .before .before .before .before .before .before .before .before .before .before .before .before .before .before .before .before .before .before .loop .inv .lengths-long
+    ∙ sym (c .before .before .before .before .before .before .before .before .before .before .before .before .before .before .before .before .before .before .before .before .before .before .before .before .before .before .before .before .before .pre .2)
+
+same-length-3 : tie.Need-same-length-3 Inv-loop μ-loop
+same-length-3 c =
+    c .before .before .before .before .before .before .before .before .before .before .before .place-line .kept .1 .1 .1 .1 .1 .1 .0
+    ∙ c .before .before .before .before .before .before .before .before .before .before .before .before .before .before .before .before .before .before .before .before .loop .inv .values-long
+    ∙ sym (c .before .before .before .before .before .before .before .before .before .before .before .before .before .before .before .before .before .before .before .before .before .before .before .before .before .before .before .before .before .pre .3)
+
+same-length-4 : tie.Need-same-length-4 Inv-loop μ-loop
+same-length-4 c =
+    c .before .before .before .before .before .before .before .before .before .before .before .place-line .kept .1 .1 .1 .1 .1 .1 .1 .0
+    ∙ c .before .before .before .before .before .before .before .before .before .before .before .before .before .before .before .before .before .before .before .before .loop .inv .marks-long
+
+same-length-5 : tie.Need-same-length-5 Inv-loop μ-loop
+same-length-5 c =
+    c .before .before .before .before .before .before .before .before .before .before .before .before .before .before .before .before .before .before .before .before .loop .inv .cells-long
+
+same-length-6 : tie.Need-same-length-6 Inv-loop μ-loop
+same-length-6 c =
+    c .before .before .before .before .before .before .before .before .before .before .before .before .before .before .before .before .before .before .before .before .loop .inv .row-long
+
+same-length-7 : tie.Need-same-length-7 Inv-loop μ-loop
+same-length-7 c =
+    c .before .before .before .before .before .before .before .before .before .before .before .before .before .before .before .before .before .before .before .before .loop .inv .aways-long
+
+returns : tie.Need-returns Inv-loop μ-loop
+returns c =
+    let f = c .before .f .given in
+    let l = c .before .before .before .before .before .before .before .before .before .before .before .place-line in
+    let e = c .before .before .before .before .before .before .before .before .before .before .before .before .before .before .before .before .before .before .line-end .ensures in
+    let test = c .before .before .before .before .before .before .before .before .before .before .before .before .before .before .before .before .before .before .before .loop-test .taken in
+    let p = c .before .before .before .before .before .before .before .before .before .before .before .before .before .before .before .before .before .before .before .before .loop in
+    let a = c .before .before .before .before .before .before .before .before .before .before .before .before .before .before .before .before .before .before .before .before .before .before .before .before .before .before .before .before .before .args in
+    let s = a .s .now in
+    turn-stops (length (a .marks .now)) s (p .starts) (p .lengths) (p .values) (p .marks) (p .cells) (p .row) (p .aways) (length (a .cells .now)) (length (a .row .now))
+    (length (a .aways .now)) (p .c) (p .from) (p .number) (p .uses) (p .inv) test e
+    (placeIn s (l .last .1 .1 .1 .1 .0) (l .last .1 .1 .1 .1 .1 .0) (l .last .1 .1 .1 .1 .1 .1 .0) (l .last .1 .1 .1 .1 .1 .1 .1 .0))
+    (f .1) (l .ensures .1 (p .number + 1))
+
+enum-known-d : tie.Need-enum-known-d Inv-loop μ-loop
+enum-known-d c =
+    search needs
+
+keep-line-requires : tie.Need-keep-line-requires Inv-loop μ-loop
+keep-line-requires c κs =
+    let d = c .before .before .before .before .d .given in
+    let l = c .before .before .before .before .before .before .before .before .before .before .before .before .before .before .place-line in
+    let r = c .before .before .before .before .before .before .before .before .before .before .before .before .before .before .before .before .before .before .before .read-line .ensures in
+    let e = c .before .before .before .before .before .before .before .before .before .before .before .before .before .before .before .before .before .before .before .before .before .line-end .ensures in
+    let test = c .before .before .before .before .before .before .before .before .before .before .before .before .before .before .before .before .before .before .before .before .before .before .loop-test .taken in
+    let p = c .before .before .before .before .before .before .before .before .before .before .before .before .before .before .before .before .before .before .before .before .before .before .before .loop in
+    let a = c .before .before .before .before .before .before .before .before .before .before .before .before .before .before .before .before .before .before .before .before .before .before .before .before .before .before .before .before .before .before .before .before .args in
+    let pre = c .before .before .before .before .before .before .before .before .before .before .before .before .before .before .before .before .before .before .before .before .before .before .before .before .before .before .before .before .before .before .before .before .pre in
+    let s = a .s .now in
+    let i = p .inv in
+    let u = i .few-uses test in (
+      ap (λ (x : LineRead). x .statement) (sym r),
+      line-fits (length (a .marks .now)) s (p .starts) (p .lengths) (p .values) (p .marks) (p .cells) (p .row) (p .aways) (length (a .cells .now)) (length (a .row .now))
+          (length (a .aways .now)) (p .c) (p .from) (p .number) (p .uses) (p .inv) test e (pre .0),
+      omega (arith, i .few-lines, test, pre .0),
+      i .fair .low,
+      turn-room (length (a .marks .now)) s (p .starts) (p .lengths) (p .values) (p .marks) (p .cells) (p .row) (p .aways) (length (a .cells .now)) (length (a .row .now))
+          (length (a .aways .now)) (p .c) (p .from) (p .number) (p .uses) (p .inv) test e
+          (placeIn s (l .last .1 .1 .1 .1 .0) (l .last .1 .1 .1 .1 .1 .0) (l .last .1 .1 .1 .1 .1 .1 .0) (l .last .1 .1 .1 .1 .1 .1 .1 .0))
+          (d .1) (l .ensures .1 (p .number + 1)) r (pre .4),
+      omega (arith, u, test, pre .0, pre .7, i .row-long),
+      omega (arith, u, test, pre .0, pre .8, i .aways-long),
+    )
+
+add-next-line : tie.Need-add-next-line Inv-loop μ-loop
+add-next-line c =
+    let e = c .before .before .before .before .before .before .before .before .before .before .before .before .before .before .before .before .before .before .before .before .before .before .before .before .before .before .before .before .line-end .ensures in
+    let test = c .before .before .before .before .before .before .before .before .before .before .before .before .before .before .before .before .before .before .before .before .before .before .before .before .before .before .before .before .before .loop-test .taken in
+    let p = c .before .before .before .before .before .before .before .before .before .before .before .before .before .before .before .before .before .before .before .before .before .before .before .before .before .before .before .before .before .before .loop in
+    let pre = c .before .before .before .before .before .before .before .before .before .before .before .before .before .before .before .before .before .before .before .before .before .before .before .before .before .before .before .before .before .before .before .before .before .before .before .before .before .before .before .pre in
+    let s = c .before .before .before .before .before .before .before .before .before .before .before .before .before .before .before .before .before .before .before .before .before .before .before .before .before .before .before .before .before .before .before .before .before .before .before .before .before .before .before .args .s .now in
+    omega (arith, end-within s (p .from) e test, pre .0)
+
+next-line-requires : tie.Need-next-line-requires Inv-loop μ-loop
+next-line-requires c κs =
+    search needs
+
+loop-less : tie.Need-loop-less Inv-loop μ-loop
+loop-less c =
+    let r = c .before .before .before .before .before .before .before .before .before .before .before .before .before .before .before .before .before .before .before .before .before .before .before .before .before .before .before .read-line .result in
+    let e = c .before .before .before .before .before .before .before .before .before .before .before .before .before .before .before .before .before .before .before .before .before .before .before .before .before .before .before .before .before in
+    let test = c .before .before .before .before .before .before .before .before .before .before .before .before .before .before .before .before .before .before .before .before .before .before .before .before .before .before .before .before .before .before .loop-test .taken in
+    let p = c .before .before .before .before .before .before .before .before .before .before .before .before .before .before .before .before .before .before .before .before .before .before .before .before .before .before .before .before .before .before .before .loop in
+    let s = c .before .before .before .before .before .before .before .before .before .before .before .before .before .before .before .before .before .before .before .before .before .before .before .before .before .before .before .before .before .before .before .before .before .before .before .before .before .before .before .before .args .s .now in
+    let u = further (r .statement) (p .from) (length s) (e .line-end .result + 1) (omega (arith, e .line-end .ensures)) test in
+    omega (arith, u, c .next-line .ensures)
+
+loop-again : tie.Need-loop-again Inv-loop μ-loop
+loop-again c =
+    let k = c .before .before .before .before .before .before .before .keep-line in
+    let d = c .before .before .before .before .before .before .before .before .before .before .before .before .d .given in
+    let l = c .before .before .before .before .before .before .before .before .before .before .before .before .before .before .before .before .before .before .before .before .before .before .place-line in
+    let r = c .before .before .before .before .before .before .before .before .before .before .before .before .before .before .before .before .before .before .before .before .before .before .before .before .before .before .before .read-line .ensures in
+    let e = c .before .before .before .before .before .before .before .before .before .before .before .before .before .before .before .before .before .before .before .before .before .before .before .before .before .before .before .before .before in
+    let test = c .before .before .before .before .before .before .before .before .before .before .before .before .before .before .before .before .before .before .before .before .before .before .before .before .before .before .before .before .before .before .loop-test .taken in
+    let p = c .before .before .before .before .before .before .before .before .before .before .before .before .before .before .before .before .before .before .before .before .before .before .before .before .before .before .before .before .before .before .before .loop in
+    let a = c .before .before .before .before .before .before .before .before .before .before .before .before .before .before .before .before .before .before .before .before .before .before .before .before .before .before .before .before .before .before .before .before .before .before .before .before .before .before .before .before .args in
+    let pre = c .before .before .before .before .before .before .before .before .before .before .before .before .before .before .before .before .before .before .before .before .before .before .before .before .before .before .before .before .before .before .before .before .before .before .before .before .before .before .before .before .pre in
+    let s = a .s .now in
+    turn-goes (length (a .marks .now)) s (p .starts) (p .lengths) (p .values) (p .marks) (p .cells) (p .row) (p .aways) (length (a .cells .now)) (length (a .row .now))
+    (length (a .aways .now)) (p .c) (p .from) (p .number) (p .uses) (p .inv) test (e .line-end .ensures)
+    (placeIn s (l .last .1 .1 .1 .1 .0) (l .last .1 .1 .1 .1 .1 .0) (l .last .1 .1 .1 .1 .1 .1 .0) (l .last .1 .1 .1 .1 .1 .1 .1 .0))
+    (d .1) (l .ensures .1 (p .number + 1)) (l .last .1 .1 .1 .1 .0) (l .last .1 .1 .1 .1 .1 .0) (l .last .1 .1 .1 .1 .1 .1 .0) (l .last .1 .1 .1 .1 .1 .1 .1 .0)
+    (k .last .1 .1 .1 .1 .1 .0) (k .last .1 .1 .1 .1 .1 .1 .0) (k .last .1 .1 .1 .1 .1 .1 .1 .0) r (λ x. refl) (l .ensures .0) (l .kept .1 .1 .1 .1 .0) (l .kept .1 .1 .1 .1 .1 .0)
+    (l .kept .1 .1 .1 .1 .1 .1 .0) (l .kept .1 .1 .1 .1 .1 .1 .1 .0) (k .kept .1 .1 .1 .1 .1 .0) (k .kept .1 .1 .1 .1 .1 .1 .0) (k .kept .1 .1 .1 .1 .1 .1 .1 .0) (pre .0) (k .ensures .0)
+    (k .ensures .1 s (line-part s (p .from) (e .line-end .result))) (k .ensures .3) (c .next-line .ensures)
+
+same-length-8 : tie.Need-same-length-8 Inv-loop μ-loop
+same-length-8 c =
+    c .before .loop .inv .starts-long ∙ sym (c .before .before .before .before .before .before .before .before .before .before .pre .1)
+
+same-length-9 : tie.Need-same-length-9 Inv-loop μ-loop
+same-length-9 c =
+    c .before .loop .inv .lengths-long ∙ sym (c .before .before .before .before .before .before .before .before .before .before .pre .2)
+
+same-length-10 : tie.Need-same-length-10 Inv-loop μ-loop
+same-length-10 c =
+    c .before .loop .inv .values-long ∙ sym (c .before .before .before .before .before .before .before .before .before .before .pre .3)
+
+same-length-11 : tie.Need-same-length-11 Inv-loop μ-loop
+same-length-11 c =
+    c .before .loop .inv .marks-long
+
+same-length-12 : tie.Need-same-length-12 Inv-loop μ-loop
+same-length-12 c =
+    c .before .loop .inv .cells-long
+
+same-length-13 : tie.Need-same-length-13 Inv-loop μ-loop
+same-length-13 c =
+    c .before .loop .inv .row-long
+
+same-length-14 : tie.Need-same-length-14 Inv-loop μ-loop
+same-length-14 c =
+    c .before .loop .inv .aways-long
+
+returns-2 : tie.Need-returns-2 Inv-loop μ-loop
+returns-2 c =
+    let p = c .before .loop in
+    let a = c .before .before .before .before .before .before .before .before .before .before .args in
+    let s = a .s .now in
+    let o = turns-over (length (a .marks .now)) s (p .starts) (p .lengths) (p .values) (p .marks) (p .cells) (p .row) (p .aways) (length (a .cells .now)) (length (a .row .now))
+    (length (a .aways .now)) (p .c) (p .from) (p .number) (p .uses) (p .inv) (c .loop-test .left) in
+    (o .0, o .1, o .2, p .inv .fair, p .inv .uses-fit)
+
+pub walk-lines-spec : {M : Type 1} → statement M
+walk-lines-spec =
+    tie.close
+    (tie.spec
+    Inv-loop
+    μ-loop
+    loop-holds
+    line-end-requires
+    sub-line
+    part-line-start
+    part-line-end
+    read-line-requires
+    add-number
+    place-line-requires
+    enum-known-f
+    same-length
+    same-length-2
+    same-length-3
+    same-length-4
+    same-length-5
+    same-length-6
+    same-length-7
+    returns
+    enum-known-d
+    keep-line-requires
+    add-next-line
+    next-line-requires
+    loop-less
+    loop-again
+    same-length-8
+    same-length-9
+    same-length-10
+    same-length-11
+    same-length-12
+    same-length-13
+    same-length-14
+    returns-2)
