@@ -16,7 +16,7 @@ use Rattle.walking.proofs.walk.walk.Reads as walk-reads
 
 -- src/assemble.rt:100:11
 walk-requires : tie.Need-walk-requires
-walk-requires c κs = ?
+walk-requires c κs = search needs
 
 -- src/assemble.rt:101:25
 enum-known-f : tie.Need-enum-known-f
