@@ -11,5 +11,6 @@ pub mod Parted
 pub mod Meanings
 pub mod Rows
 pub mod EveryRow
+pub mod Spacing
 pub mod Examples
 pub mod Top
