@@ -62,7 +62,7 @@ abbrev pub matters : Kind → Kind → Bool
 matters before End = false
 matters before Stray = false
 matters before Word = false
-matters before (Number v k) = isMinus before && isDecimal k
+matters before (Number v k) = isDecimal k && isMinus before
 matters before Text = false
 matters before (Mark b) = isWord before && eqb b (code ":")
 
