@@ -1,5 +1,6 @@
 -- An expression is read from the kinds of its tokens alone, so that two lines with the same tokens (tokens' Spacing.antt) have the same.
 use Prim.Native.Nat.{ℕ}
+use mathlib.Core.Bool.{Bool}
 use mathlib.Core.List.{List, [], _∷_}
 use mathlib.Core.Path.{_≡_, refl, ap}
 use Rattle.tokens.specs.declared.Kind.{Kind}
@@ -16,7 +17,7 @@ pub data SameKinds : List Token → List Token → Type 0 where
   none : SameKinds [] []
   some : {t t′ : Token} {ts ts′ : List Token} → t .kind ≡ t′ .kind → SameKinds ts ts′ → SameKinds (t ∷ ts) (t′ ∷ ts′)
 
-pub alike-kinds : (line line′ : List ℕ) {before : Kind} {ts ts′ : List Token} → AlikeRow line line′ before ts ts′ → SameKinds ts ts′
+pub alike-kinds : (line line′ : List ℕ) {signs : Bool} {before : Kind} {ts ts′ : List Token} → AlikeRow line line′ signs before ts ts′ → SameKinds ts ts′
 alike-kinds line line′ over = none
 alike-kinds line line′ (next k m s r) = some refl (alike-kinds line line′ r)
 

@@ -34,7 +34,7 @@ ends k st st′ (digits t) = wrong
 ends k st st′ (done i) = reads (some refl none)
 
 module _ (line line′ : List ℕ) where
-  steps : (before k : Kind) (st st′ : State) (at end at′ end′ : ℕ) (d d′ : Bool) → AsDirectly before k d d′ → SameBytes line line′ k at end at′ end′
+  steps : (before k : Kind) (st st′ : State) (at end at′ end′ : ℕ) (d d′ : Bool) → AsDirectly true before k d d′ → SameBytes line line′ k at end at′ end′
       → Near before st st′
       → AlikeStep (Near k) Same (step line st (token k at d end)) (step line′ st′ (token k at′ d′ end′))
   steps before K.End st st′ at end at′ end′ d d′ m s item = halt
@@ -61,14 +61,14 @@ module _ (line line′ : List ℕ) where
       mark-alike (Near k) Same k (λ b. pick-alike (Near k) Same (eqb b (code ",")) (emit refl) halt)
 
   -- the same items
-  walk-same : {before : Kind} {ts ts′ : List Token} → AlikeRow line line′ before ts ts′ → walk line R.item ts ≡ walk line′ R.item ts′
+  walk-same : {before : Kind} {ts ts′ : List Token} → AlikeRow line line′ true before ts ts′ → walk line R.item ts ≡ walk line′ R.item ts′
   unfolding walk
   walk-same r = result-same (walk-alike line line′ R.item (step line) (step line′) finish Near Same (λ k. item) ends steps r R.item R.item item)
 
-  pub items-same : {before : Kind} {ts ts′ : List Token} → AlikeRow line line′ before ts ts′ → itemsRead line ts ≡ itemsRead line′ ts′
+  pub items-same : {before : Kind} {ts ts′ : List Token} → AlikeRow line line′ true before ts ts′ → itemsRead line ts ≡ itemsRead line′ ts′
   unfolding itemsRead
   items-same r = ap judged (walk-same r)
 
-  pub cells-same : {before : Kind} {ts ts′ : List Token} → AlikeRow line line′ before ts ts′ → cellsFrom line ts ≡ cellsFrom line′ ts′
+  pub cells-same : {before : Kind} {ts ts′ : List Token} → AlikeRow line line′ true before ts ts′ → cellsFrom line ts ≡ cellsFrom line′ ts′
   unfolding cellsFrom
   cells-same r = ap acceptedCells (walk-same r)

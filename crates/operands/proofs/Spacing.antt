@@ -141,7 +141,7 @@ module _ (line line′ : List ℕ) where
       go true q = to (digits {k = K.Mark b} s (rw q tt))
       go false q = halt
 
-  digits-step : (before k : Kind) (s : Shape) (at end at′ end′ : ℕ) (d d′ : Bool) → AsDirectly before k d d′ → T (isMinus before)
+  digits-step : (before k : Kind) (s : Shape) (at end at′ end′ : ℕ) (d d′ : Bool) → AsDirectly true before k d d′ → T (isMinus before)
       → Steps k (step line (W.digits s) (token k at d end)) (step line′ (W.digits s) (token k at′ d′ end′))
   digits-step before K.End s at end at′ end′ d d′ m t = halt
   digits-step before K.Stray s at end at′ end′ d d′ m t = halt
@@ -152,7 +152,7 @@ module _ (line line′ : List ℕ) where
   digits-step before K.Text s at end at′ end′ d d′ m t = halt
   digits-step before (K.Mark b) s at end at′ end′ d d′ m t = halt
 
-  steps : (before k : Kind) (st st′ : State) (at end at′ end′ : ℕ) (d d′ : Bool) → AsDirectly before k d d′ → SameBytes line line′ k at end at′ end′
+  steps : (before k : Kind) (st st′ : State) (at end at′ end′ : ℕ) (d d′ : Bool) → AsDirectly true before k d d′ → SameBytes line line′ k at end at′ end′
       → Near before st st′
       → Steps k (step line st (token k at d end)) (step line′ st′ (token k at′ d′ end′))
   steps before k st st′ at end at′ end′ d d′ m s operand = mark-alike (Near k) AlikeWritten k (starts-alike k)
@@ -176,7 +176,7 @@ module _ (line line′ : List ℕ) where
   steps before k st st′ at end at′ end′ d d′ m s (closing h) = marked k (code "]") (to (done h))
   steps before k st st′ at end at′ end′ d d′ m s (done h) = marked k (code ",") (emit h)
 
-  operands-alike : {before : Kind} {ts ts′ : List Token} → AlikeRow line line′ before ts ts′
+  operands-alike : {before : Kind} {ts ts′ : List Token} → AlikeRow line line′ true before ts ts′
       → AlikeResult AlikeWritten (operandsOf line ts) (operandsOf line′ ts′)
   unfolding operandsOf walk
   operands-alike over = reads none
@@ -260,7 +260,7 @@ module _ (line line′ : List ℕ) where
   form-alike op wrong = wrong-form
 
   -- what an opcode's operands come to
-  pub instruction-alike : (op : Opcode) {before : Kind} {ts ts′ : List Token} → AlikeRow line line′ before ts ts′
+  pub instruction-alike : (op : Opcode) {before : Kind} {ts ts′ : List Token} → AlikeRow line line′ true before ts ts′
       → AlikeRead (instructionRead line op ts) (instructionRead line′ op ts′)
   unfolding instructionRead
   instruction-alike op r = form-alike op (operands-alike r)

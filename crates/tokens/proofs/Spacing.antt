@@ -4,7 +4,7 @@
 --
 -- What is true: a comment added where a line's last token is whole, and blanks added before, after and between tokens, leave the tokens,
 -- and so everything that is read from them. Two places are exceptions, where a rule says "directly": a label's `:`, and a decimal
--- number after `-`.
+-- number after `-` in DATA or an operand (in an expression a `-` is the operation, whatever stands between).
 --
 -- What is false: a comment after a string that is not closed (`DATA "a` is refused, `DATA "a; "` has a string of four characters); a
 -- blank inside a token (`HALT` and `HA LT`, `"a"` and `"a "`); a blank between a label and its `:` (`x: HALT` and `x : HALT`); a blank
@@ -57,17 +57,17 @@ isDecimal Decimal = true
 isDecimal Hexadecimal = false
 
 -- whether a rule may ask if a token of the second kind follows one of the first directly: "a word directly followed by `:`", "decimal
--- digits, optionally with `-` directly before"
-abbrev pub matters : Kind → Kind → Bool
-matters before End = false
-matters before Stray = false
-matters before Word = false
-matters before (Number v k) = isDecimal k && isMinus before
-matters before Text = false
-matters before (Mark b) = isWord before && eqb b (code ":")
+-- digits, optionally with `-` directly before", the latter where a `-` may be a number's sign
+abbrev pub matters : Bool → Kind → Kind → Bool
+matters signs before End = false
+matters signs before Stray = false
+matters signs before Word = false
+matters signs before (Number v k) = isDecimal k && (signs && isMinus before)
+matters signs before Text = false
+matters signs before (Mark b) = isWord before && eqb b (code ":")
 
-abbrev pub AsDirectly : Kind → Kind → Bool → Bool → Type 0
-AsDirectly before k d d′ = T (matters before k) → d ≡ d′
+abbrev pub AsDirectly : Bool → Kind → Kind → Bool → Bool → Type 0
+AsDirectly signs before k d d′ = T (matters signs before k) → d ≡ d′
 
 -- ---- rows
 
@@ -83,20 +83,20 @@ module _ (line line′ : List ℕ) where
   SameBytes (Mark b) at end at′ end′ = Unit {0}
 
   -- tokens of two lines, after one of a kind: the same in number and kind, each with the same bytes, and as directly where that matters
-  pub data AlikeRow : Kind → List Token → List Token → Type 0 where
-    over : {before : Kind} → AlikeRow before [] []
-    next : {before : Kind} {at end at′ end′ : ℕ} {d d′ : Bool} {ts ts′ : List Token} (k : Kind) → AsDirectly before k d d′
+  pub data AlikeRow (signs : Bool) : Kind → List Token → List Token → Type 0 where
+    over : {before : Kind} → AlikeRow signs before [] []
+    next : {before : Kind} {at end at′ end′ : ℕ} {d d′ : Bool} {ts ts′ : List Token} (k : Kind) → AsDirectly signs before k d d′
         → SameBytes k at end at′ end′
-        → AlikeRow k ts ts′
-        → AlikeRow before (token k at d end ∷ ts) (token k at′ d′ end′ ∷ ts′)
+        → AlikeRow signs k ts ts′
+        → AlikeRow signs before (token k at d end ∷ ts) (token k at′ d′ end′ ∷ ts′)
 
 -- two lines with rows that are alike; no token stands before the first
-pub record Alike (line line′ : List ℕ) : Type 0 where
+pub record Alike (signs : Bool) (line line′ : List ℕ) : Type 0 where
   pub row : List Token
   pub row′ : List Token
   pub has : RowOf line row
   pub has′ : RowOf line′ row′
-  pub alike : AlikeRow line line′ End row row′
+  pub alike : AlikeRow line line′ signs End row row′
 
 -- ---- the same in bytes, without rows
 
@@ -107,24 +107,24 @@ pub data Over : List ℕ → Type 0 where
   blank : {b : ℕ} {s : List ℕ} → T (isBlank b) → Over s → Over (b ∷ s)
 
 -- two texts with the same tokens, after one of a kind; with whether what stands before each is no blank
-pub data Respaced : Kind → Bool → Bool → List ℕ → List ℕ → Type 0 where
-  over : {before : Kind} {d d′ : Bool} {s s′ : List ℕ} → Over s → Over s′ → Respaced before d d′ s s′
-  blank : {before : Kind} {b : ℕ} {d d′ : Bool} {s s′ : List ℕ} → T (isBlank b) → Respaced before false d′ s s′ → Respaced before d d′ (b ∷ s) s′
-  blank′ : {before : Kind} {b : ℕ} {d d′ : Bool} {s s′ : List ℕ} → T (isBlank b) → Respaced before d false s s′ → Respaced before d d′ s (b ∷ s′)
-  mark : {before : Kind} {b : ℕ} {d d′ : Bool} {s s′ : List ℕ} → T (isMark b) → AsDirectly before (Mark b) d d′ → Respaced (Mark b) true true s s′
-      → Respaced before d d′ (b ∷ s) (b ∷ s′)
+pub data Respaced (signs : Bool) : Kind → Bool → Bool → List ℕ → List ℕ → Type 0 where
+  over : {before : Kind} {d d′ : Bool} {s s′ : List ℕ} → Over s → Over s′ → Respaced signs before d d′ s s′
+  blank : {before : Kind} {b : ℕ} {d d′ : Bool} {s s′ : List ℕ} → T (isBlank b) → Respaced signs before false d′ s s′ → Respaced signs before d d′ (b ∷ s) s′
+  blank′ : {before : Kind} {b : ℕ} {d d′ : Bool} {s s′ : List ℕ} → T (isBlank b) → Respaced signs before d false s s′ → Respaced signs before d d′ s (b ∷ s′)
+  mark : {before : Kind} {b : ℕ} {d d′ : Bool} {s s′ : List ℕ} → T (isMark b) → AsDirectly signs before (Mark b) d d′ → Respaced signs (Mark b) true true s s′
+      → Respaced signs before d d′ (b ∷ s) (b ∷ s′)
   word : {before : Kind} {d d′ : Bool} {s s′ : List ℕ} (w : List ℕ) → T (beginsWord w) → T (allBelow anyWordByte w) → T (endsWord s)
       → T (endsWord s′)
-      → Respaced Word true true s s′
-      → Respaced before d d′ (w ++ s) (w ++ s′)
+      → Respaced signs Word true true s s′
+      → Respaced signs before d d′ (w ++ s) (w ++ s′)
   number : {before : Kind} {v : ℕ} {d d′ : Bool} {s s′ : List ℕ} (w : List ℕ) (k : Radix) → Unsigned (w ++ s) k v s → Unsigned (w ++ s′) k v s′
-      → AsDirectly before (Number (cut v) k) d d′
-      → Respaced (Number (cut v) k) true true s s′
-      → Respaced before d d′ (w ++ s) (w ++ s′)
+      → AsDirectly signs before (Number (cut v) k) d d′
+      → Respaced signs (Number (cut v) k) true true s s′
+      → Respaced signs before d d′ (w ++ s) (w ++ s′)
   string : {before : Kind} {d d′ : Bool} {s s′ cs : List ℕ} (w : List ℕ) → Characters (w ++ s) cs s → Characters (w ++ s′) cs s′
-      → Respaced Text true true s s′
-      → Respaced before d d′ (code "\"" ∷ w ++ s) (code "\"" ∷ w ++ s′)
-  broken : {before : Kind} {d d′ : Bool} {s s′ : List ℕ} → Broken s → Broken s′ → Respaced before d d′ s s′
+      → Respaced signs Text true true s s′
+      → Respaced signs before d d′ (code "\"" ∷ w ++ s) (code "\"" ∷ w ++ s′)
+  broken : {before : Kind} {d d′ : Bool} {s s′ : List ℕ} → Broken s → Broken s′ → Respaced signs before d d′ s s′
 
 -- ---- such texts have rows that are alike
 
@@ -150,16 +150,17 @@ begins-some [] t = absurd t
 begins-some (b ∷ w) t = omega arith
 
 -- two rows from places on that are alike
-record Rows (line line′ : List ℕ) (before : Kind) (at at′ : ℕ) (d d′ : Bool) (s s′ : List ℕ) : Type 0 where
+record Rows (signs : Bool) (line line′ : List ℕ) (before : Kind) (at at′ : ℕ) (d d′ : Bool) (s s′ : List ℕ) : Type 0 where
   ts : List Token
   ts′ : List Token
   has : Row at d s ts
   has′ : Row at′ d′ s′ ts′
-  alike : AlikeRow line line′ before ts ts′
+  alike : AlikeRow line line′ signs before ts ts′
 
-module _ (line line′ : List ℕ) where
-  rows-alike : {before : Kind} {d d′ : Bool} {s s′ : List ℕ} → Respaced before d d′ s s′ → (at at′ : ℕ) → drop at line ≡ s → drop at′ line′ ≡ s′
-      → Rows line line′ before at at′ d d′ s s′
+module _ (signs : Bool) (line line′ : List ℕ) where
+  rows-alike : {before : Kind} {d d′ : Bool} {s s′ : List ℕ} → Respaced signs before d d′ s s′ → (at at′ : ℕ) → drop at line ≡ s
+      → drop at′ line′ ≡ s′
+      → Rows signs line line′ before at at′ d d′ s s′
   rows-alike {d = d} {d′} (over o o′) at at′ e e′ =
       record { ts = []; ts′ = []; has = over-row at d o; has′ = over-row at′ d′ o′; alike = over }
   rows-alike (blank t r) at at′ e e′ =
@@ -221,7 +222,7 @@ module _ (line line′ : List ℕ) where
       }
 
 -- lines that differ in blanks and comments alone are alike
-pub respaced-alike : {line line′ : List ℕ} → Respaced End true true line line′ → Alike line line′
-respaced-alike {line} {line′} r =
-    let h = rows-alike line line′ r 0 0 refl refl in
+pub respaced-alike : {signs : Bool} {line line′ : List ℕ} → Respaced signs End true true line line′ → Alike signs line line′
+respaced-alike {signs} {line} {line′} r =
+    let h = rows-alike signs line line′ r 0 0 refl refl in
     record { row = h .ts; row′ = h .ts′; has = h .has; has′ = h .has′; alike = h .alike }
