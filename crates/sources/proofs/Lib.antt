@@ -1,2 +1,3 @@
 -- Laws of the definitions, by topic; Top.antt restates what the crate promises.
+pub mod Spacing
 pub mod Examples

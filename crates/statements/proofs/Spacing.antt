@@ -22,6 +22,7 @@ use Rattle.names.specs.Names.{wordOf}
 use Rattle.names.specs.declared.Word.{Word}
 use Rattle.names.specs.declared.Word.the-variants as W
 use Rattle.values.specs.Values.{nameAt}
+use Rattle.values.specs.declared.LabelIn.{LabelIn}
 use Rattle.values.specs.declared.LabelIn.the-variants.{Absent, Named}
 use Rattle.values.specs.declared.Name.{Name}
 use Rattle.values.proofs.Spacing.{SameName, AlikeLabel, absent, named}
@@ -31,6 +32,7 @@ use Rattle.expressions.specs.declared.ExpressionRead.the-variants as E
 use Rattle.expressions.specs.declared.Worth.{Worth}
 use Rattle.expressions.specs.declared.Worth.the-variants as V′
 use Rattle.expressions.proofs.Spacing.{SameKinds, alike-kinds, expression-same}
+use Rattle.operands.specs.Operands.{wordAt}
 use Rattle.operands.specs.declared.Given.{Given}
 use Rattle.operands.specs.declared.InstructionRead.{InstructionRead}
 use Rattle.operands.specs.declared.InstructionRead.the-variants as O
@@ -40,9 +42,10 @@ use Rattle.items.specs.Writing.{cellsFrom}
 use Rattle.items.specs.declared.ItemsRead.{ItemsRead}
 use Rattle.items.specs.declared.ItemsRead.the-variants as I
 use Rattle.items.proofs.Spacing.{items-same, cells-same}
-use Rattle.statements.specs.Statements.{HasWord}
+use Rattle.statements.specs.Statements.{StatementWord, WordIn, behind, first, Says, HasWord}
+use Rattle.statements.specs.Statements as R
 use Rattle.statements.specs.Checks.{leastUnsigned, leastSigned, resultIn}
-use Rattle.statements.specs.Judging.{resultOf, worthResult, instructionResult}
+use Rattle.statements.specs.Judging.{resultOf, judged, worthResult, instructionResult}
 use Rattle.statements.specs.Reading.{isWord, isColon, labelled, labelRead, behindTwo, afterLabel, expressionResult, itemsResult, byWord, statementRead, lineRead}
 use Rattle.statements.specs.Cells.{isData, bodyCells, cellsIn}
 use Rattle.statements.specs.declared.Failure.{Failure}
@@ -52,6 +55,9 @@ use Rattle.statements.specs.declared.Statement.{Statement}
 use Rattle.statements.specs.declared.Statement.the-variants as S
 use Rattle.statements.specs.declared.StatementRead.{StatementRead}
 use Rattle.statements.specs.declared.StatementRead.the-variants.{Passes, Fails}
+use Rattle.statements.proofs.Labelling.{never, Labels, label-is, none-is, labels, label-after}
+use Rattle.statements.proofs.Lines.{read-judged, one-reading}
+use Rattle.statements.proofs.CellsGiven.{no-cells}
 
 -- no operand, so no label's place
 abbrev pub placeless : Statement → Bool
@@ -219,3 +225,101 @@ unfolding lineRead cellsIn
 alike-read {line} {line′} a =
     let h = parted line line′ (row-alike a) in
     record { label = h .label; statement = statement-alike line line′ (h .rest); cells = body-same line line′ (h .rest) }
+
+-- ---- where no `-` is a sign
+
+-- the words of statements with no operand and no item, whose tokens are looked at by their kinds alone, or not at all
+abbrev pub signless : Word → Bool
+signless (W.Instructs op) = false
+signless W.Org = true
+signless W.Equ = true
+signless W.Res = true
+signless W.Data = false
+signless W.End = true
+signless W.Unknown = true
+
+-- what a line's tokens begin with after any label
+record Headed (line : List ℕ) (x : Word) (ts : List Token) : Type 0 where
+  word : Token
+  rest : List Token
+  split : ts ≡ word ∷ rest
+  is : StatementWord line word x
+
+headed : (line : List ℕ) {x : Word} {ts : List Token} → WordIn line x ts → Headed line x (afterLabel ts)
+headed line (behind {us = us} {w = w} l h) = record { word = w; rest = us; split = label-after l; is = h }
+headed line {x} (first {us} {w} n h) = go (labels (w ∷ us))
+  where
+    go : Labels (w ∷ us) → Headed line x (afterLabel (w ∷ us))
+    go (label-is m vs l) = absurd (n m vs l)
+    go (none-is m e f) = record { word = w; rest = us; split = f; is = h }
+
+module _ (line line′ : List ℕ) (x : Word) (signs : T (signless x)) where
+  signless-says : (y : Word) → T (signless y) → {ts ts′ : List Token} → SameKinds ts ts′
+      → AlikeStatement line line′ (byWord line y ts) (byWord line′ y ts′)
+  signless-says (W.Instructs op) t r = absurd t
+  signless-says W.Org t r = of-expression line line′ r leastUnsigned S.Org (λ v. tt)
+  signless-says W.Equ t r = of-expression line line′ r leastSigned S.Equ (λ v. tt)
+  signless-says W.Res t r = of-expression line line′ r leastUnsigned S.Res (λ v. tt)
+  signless-says W.Data t r = absurd t
+  signless-says W.End t r = other S.End tt
+  signless-says W.Unknown t r = fails _
+
+  signless-cells : (y : Word) → T (signless y) → isData y ≡ false
+  signless-cells (W.Instructs op) t = refl
+  signless-cells W.Org t = refl
+  signless-cells W.Equ t = refl
+  signless-cells W.Res t = refl
+  signless-cells W.Data t = absurd t
+  signless-cells W.End t = refl
+  signless-cells W.Unknown t = refl
+
+  -- both begin with the same word
+  words-are : (at end at′ end′ : ℕ) → slice at end line ≡ slice at′ end′ line′ → {d : Bool} {us : List Token}
+      → Headed line x (token K.Word at d end ∷ us)
+      → (wordOf (slice at end line) ≡ x) × (wordOf (slice at′ end′ line′) ≡ x)
+  words-are at end at′ end′ e {d} h =
+      let w : token K.Word at d end ≡ h .word = cc (h .split) in
+      let f : wordOf (slice at end line) ≡ x = ap (λ (t : Token). wordOf (wordAt line t)) w ∙ h .is .means in
+      (f, ap wordOf (sym e) ∙ f)
+
+  -- no other kind begins it
+  not-word : {X : Type 0} {k : Kind} {at end : ℕ} {d : Bool} {us : List Token} → (k ≡ K.Word → ⊥) → Headed line x (token k at d end ∷ us) → X
+  not-word {k = k} {at} {end} {d} n h =
+      let w : token k at d end ≡ h .word = cc (h .split) in
+      absurd (n (ap (λ (t : Token). t .kind) w ∙ h .is .word))
+
+  signless-alike : {before : Kind} {ts ts′ : List Token} → AlikeRow line line′ false before ts ts′ → Headed line x ts
+      → AlikeStatement line line′ (statementRead line ts) (statementRead line′ ts′) × (bodyCells line ts ≡ bodyCells line′ ts′)
+  unfolding statementRead bodyCells
+  signless-alike over h = never (cc (h .split))
+  signless-alike (next K.End m s r) h = not-word (λ e. never (cc)) h
+  signless-alike (next K.Stray m s r) h = not-word (λ e. never (cc)) h
+  signless-alike (next {at = at} {end} {at′} {end′} K.Word m s r) h =
+      let w = words-are at end at′ end′ s h in
+      (rw (w .0, w .1) (signless-says x signs (alike-kinds line line′ r)), rw (w .0, w .1, signless-cells x signs))
+  signless-alike (next (K.Number v k) m s r) h = not-word (λ e. never (cc)) h
+  signless-alike (next K.Text m s r) h = not-word (λ e. never (cc)) h
+  signless-alike (next (K.Mark b) m s r) h = not-word (λ e. never (cc)) h
+
+-- lines with the same tokens whose statement has no operand and no item read alike, as directly after a `-` or not
+pub signless-read : {line line′ : List ℕ} {x : Word} → Alike false line line′ → HasWord line x → T (signless x) → ReadAlike line line′
+unfolding lineRead cellsIn
+signless-read {line} {line′} {x} a w t =
+    let h = parted line line′ (row-alike a) in
+    let g : Headed line x (afterLabel (tokensFrom line 0)) = headed line (subst (WordIn line x) (tokens-are (w .row)) (w .word)) in
+    let r = signless-alike line line′ x t (h .rest) g in
+    record { label = h .label; statement = r .0; cells = r .1 }
+
+-- ---- END
+
+-- "All bytes after END as a statement's word are ignored": two lines that say END read alike, whatever follows, if their labels do
+pub end-read : {line line′ : List ℕ} {l l′ : LabelIn} → Says line l R.end → Says line′ l′ R.end → AlikeLabel line line′ l l′ → ReadAlike line line′
+unfolding judged
+end-read {line} {line′} {l} {l′} e e′ h =
+    let r = read-judged line e in
+    let r′ = read-judged line′ e′ in
+    record {
+      label = rw (r, r′) h;
+      statement = rw (r, r′) (other S.End tt);
+      cells = no-cells line (λ m is s a. never (cc (one-reading line e s .1))) ∙ sym (no-cells line′ (λ m is s a. never (cc (one-reading line′ e′ s .1))));
+    }

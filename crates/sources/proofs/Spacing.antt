@@ -1,0 +1,118 @@
+-- Adding a comment, or blanks between tokens, changes no image: two sources whose lines up to END have the same tokens are assembled alike,
+-- to the same memory and map or to the same refusal on the same line.
+--
+-- What "the same tokens" allows and what not is in tokens' Spacing.antt, with examples; tokens' Respacing.antt has it in bytes: a comment
+-- or blanks at a line's end, blanks at its start, and blanks between two of its tokens, give a line with the same tokens.
+use Prim.Native.Nat.{ℕ, suc, _+_, _≤_}
+use mathlib.Core.Bool.{Bool, true, false, cond}
+use mathlib.Core.List.{List, [], _∷_, _++_, map}
+use mathlib.Core.Path.{_≡_, refl, sym, ap, subst₂, _∙_}
+use lib.Dec.{T, ltb}
+use lib.ListN.{length}
+use lib.Seq.{sets}
+use borrow.Author.Tests.{le-ltb}
+use Rattle.tokens.specs.Lines.{Lines}
+use Rattle.tokens.specs.Reading.{linesOf}
+use Rattle.tokens.proofs.Top.{source-lines, one-list}
+use Rattle.tokens.proofs.Spacing.{Alike}
+use Rattle.names.specs.declared.Word.{Word}
+use Rattle.values.specs.declared.LabelIn.{LabelIn}
+use Rattle.values.proofs.Spacing.{AlikeLabel, absent, named, AlikeList, none, some}
+use Rattle.isa.specs.Encoding.{wordsOf}
+use Rattle.isa.specs.declared.Operand.{Operand}
+use Rattle.operands.specs.declared.Given.{Given}
+use Rattle.operands.proofs.Spacing.{AlikeGiven}
+use Rattle.statements.specs.Statements.{end, Says, HasWord}
+use Rattle.statements.specs.Cells.{cellsIn}
+use Rattle.statements.specs.Reading.{lineRead}
+use Rattle.statements.specs.declared.Statement.{Statement}
+use Rattle.statements.specs.declared.Statement.the-variants as S
+use Rattle.statements.specs.declared.StatementRead.{StatementRead}
+use Rattle.statements.specs.declared.StatementRead.the-variants.{Passes, Fails}
+use Rattle.statements.proofs.Spacing.{placeless, AlikeStatement, instruction, other, fails, ReadAlike, signless, alike-read, signless-read, end-read}
+use Rattle.statements.proofs.Top.{read-judged}
+use Rattle.sources.specs.Limits.{longestSource}
+use Rattle.sources.specs.Placing.{does, doesRead, Place, start, labelIn, labelled, after}
+use Rattle.sources.specs.Uses.{Use, useBy, useOf, usesBy, usesRead}
+use Rattle.sources.specs.Assembling.{Verdict, andThen, readLine, endsIt, upToEnd, loanVerdict, labelVerdict, ownVerdict, lineVerdict, walkLines, rawRead, Work, startWork, worked, workAfter, lateVerdict, verdictOf, assembledBy, Assembled, assembleOf}
+
+-- ---- what is the same of two lines that read alike
+
+module _ (b b′ : List ℕ) where
+  label-in-same : {l l′ : LabelIn} → AlikeLabel b b′ l l′ → labelIn b l ≡ labelIn b′ l′
+  label-in-same absent = refl
+  label-in-same (named e) = ap (λ (w : List ℕ). w ∷ []) e
+
+  label-verdict-same : (k : ℕ) (p : Place) {l l′ : LabelIn} → AlikeLabel b b′ l l′ → labelVerdict k p b l ≡ labelVerdict k p b′ l′
+  label-verdict-same k p absent = refl
+  label-verdict-same k p (named e) = rw e
+
+  does-same : {r r′ : StatementRead} → AlikeStatement b b′ r r′ → doesRead r ≡ doesRead r′
+  unfolding does
+  does-same (instruction h g) = refl
+  does-same (other s t) = refl
+  does-same (fails why) = refl
+
+  own-same : (k : ℕ) {r r′ : StatementRead} → AlikeStatement b b′ r r′ → ownVerdict k r ≡ ownVerdict k r′
+  own-same k (instruction h g) = refl
+  own-same k (other s t) = refl
+  own-same k (fails why) = refl
+
+  ends-same : {r r′ : StatementRead} → AlikeStatement b b′ r r′ → endsIt r ≡ endsIt r′
+  ends-same (instruction h g) = refl
+  ends-same (other s t) = refl
+  ends-same (fails why) = refl
+
+  raw-by-same : (s : Statement) → T (placeless s) → cellsIn b ≡ cellsIn b′ → rawRead b (Passes s) ≡ rawRead b′ (Passes s)
+  raw-by-same S.Nothing t e = refl
+  raw-by-same (S.Instruction op x y) t e = absurd t
+  raw-by-same (S.Org v) t e = refl
+  raw-by-same (S.Equ v) t e = refl
+  raw-by-same (S.Res v) t e = refl
+  raw-by-same (S.Data n) t e = e
+  raw-by-same S.End t e = refl
+
+  raw-same : {r r′ : StatementRead} → AlikeStatement b b′ r r′ → cellsIn b ≡ cellsIn b′ → rawRead b r ≡ rawRead b′ r′
+  raw-same (instruction {op} h g) e = rw (h .operand, g .operand)
+  raw-same (other s t) e = raw-by-same s t e
+  raw-same (fails why) e = refl
+
+  use-same : (k cell next : ℕ) {g g′ : Given} → AlikeGiven b b′ g g′ → useOf k b cell next g ≡ useOf k b′ cell next g′
+  use-same k cell next {g} {g′} h = go (g .operand) (g′ .operand) (h .operand) (h .label)
+    where
+      go : (o o′ : Operand) → o ≡ o′ → {l l′ : LabelIn} → AlikeLabel b b′ l l′
+          → useBy k b cell next o l ≡ useBy k b′ cell next o′ l′
+      go o o′ e absent = refl
+      go o o′ e (named w) = rw (e, w)
+
+  uses-by-same : (k at : ℕ) (s : Statement) → T (placeless s) → usesRead k b at (Passes s) ≡ usesRead k b′ at (Passes s)
+  unfolding usesBy
+  uses-by-same k at S.Nothing t = refl
+  uses-by-same k at (S.Instruction op x y) t = absurd t
+  uses-by-same k at (S.Org v) t = refl
+  uses-by-same k at (S.Equ v) t = refl
+  uses-by-same k at (S.Res v) t = refl
+  uses-by-same k at (S.Data n) t = refl
+  uses-by-same k at S.End t = refl
+
+  uses-same : (k at : ℕ) {r r′ : StatementRead} → AlikeStatement b b′ r r′ → usesRead k b at r ≡ usesRead k b′ at r′
+  unfolding usesBy
+  uses-same k at (instruction h g) = rw (use-same k (at + 1) _ h, h .operand, use-same k _ _ g)
+  uses-same k at (other s t) = uses-by-same k at s t
+  uses-same k at (fails why) = refl
+
+  module _ (h : ReadAlike b b′) where
+    labelled-same : (p : Place) → labelled p b (lineRead b .label) ≡ labelled p b′ (lineRead b′ .label)
+    labelled-same p = rw (label-in-same (h .label))
+
+    after-same : (p : Place) → after p (readLine b) ≡ after p (readLine b′)
+    unfolding after
+    after-same p = rw (labelled-same p, does-same (h .statement))
+
+    verdict-same : (M k : ℕ) (p : Place) → lineVerdict M k p (readLine b) ≡ lineVerdict M k p (readLine b′)
+    unfolding lineVerdict
+    verdict-same M k p = rw (label-verdict-same k p (h .label), own-same k (h .statement), labelled-same p, does-same (h .statement))
+
+    worked-same : (k : ℕ) (w : Work) → worked k w (readLine b) ≡ worked k w (readLine b′)
+    unfolding worked
+    worked-same k w = rw (after-same (w .place), raw-same (h .statement) (h .cells), uses-same k (w .place .at) (h .statement))
