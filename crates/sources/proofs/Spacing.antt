@@ -4,7 +4,7 @@
 -- What "the same tokens" allows and what not is in tokens' Spacing.antt, with examples; tokens' Respacing.antt has it in bytes: a comment
 -- or blanks at a line's end, blanks at its start, and blanks between two of its tokens, give a line with the same tokens.
 use Prim.Native.Nat.{ℕ, suc, _+_, _≤_}
-use mathlib.Core.Bool.{Bool, true, false, cond}
+use mathlib.Core.Bool.{Bool, true, false, cond, false≢true}
 use mathlib.Core.List.{List, [], _∷_, _++_, map}
 use mathlib.Core.Path.{_≡_, refl, sym, ap, subst₂, _∙_}
 use lib.Dec.{T, ltb}
@@ -23,6 +23,7 @@ use Rattle.isa.specs.declared.Operand.{Operand}
 use Rattle.operands.specs.declared.Given.{Given}
 use Rattle.operands.proofs.Spacing.{AlikeGiven}
 use Rattle.statements.specs.Statements.{end, Says, HasWord}
+use Rattle.statements.specs.Judging.{judged}
 use Rattle.statements.specs.Cells.{cellsIn}
 use Rattle.statements.specs.Reading.{lineRead}
 use Rattle.statements.specs.declared.Statement.{Statement}
@@ -116,3 +117,83 @@ module _ (b b′ : List ℕ) where
     worked-same : (k : ℕ) (w : Work) → worked k w (readLine b) ≡ worked k w (readLine b′)
     unfolding worked
     worked-same k w = rw (after-same (w .place), raw-same (h .statement) (h .cells), uses-same k (w .place .at) (h .statement))
+
+-- ---- lines one by one
+
+abbrev Lists : List (List ℕ) → List (List ℕ) → Type 0
+Lists bs bs′ = AlikeList ReadAlike bs bs′
+
+walk-same : (M k : ℕ) (p : Place) {bs bs′ : List (List ℕ)} → Lists bs bs′ → walkLines M k p bs ≡ walkLines M k p bs′
+unfolding walkLines
+walk-same M k p none = refl
+walk-same M k p (some {a = b} {a′ = b′} h l) = rw (verdict-same b b′ h M k p, after-same b b′ h p, walk-same M (k + 1) (after p (readLine b′)) l)
+
+work-same : (k : ℕ) (w : Work) {bs bs′ : List (List ℕ)} → Lists bs bs′ → workAfter k w (map readLine bs) ≡ workAfter k w (map readLine bs′)
+unfolding workAfter
+work-same k w none = refl
+work-same k w (some {a = b} {a′ = b′} {xs = bs} h l) =
+    ap (λ (v : Work). workAfter (k + 1) v (map readLine bs)) (worked-same b b′ h k w) ∙ work-same (k + 1) (worked k w (readLine b′)) l
+
+length-same : {bs bs′ : List (List ℕ)} → Lists bs bs′ → length bs ≡ length bs′
+length-same none = refl
+length-same (some h l) = ap suc (length-same l)
+
+-- ---- sources
+
+-- two lines with the same tokens; whether a number follows a `-` directly may differ where the statement has no operand and no item
+pub data SameTokens : List ℕ → List ℕ → Type 0 where
+  tokens : {b b′ : List ℕ} → Alike true b b′ → SameTokens b b′
+  signless-tokens : {b b′ : List ℕ} {x : Word} → Alike false b b′ → HasWord b x → T (signless x) → SameTokens b b′
+
+-- the lines of two sources, one by one with the same tokens, up to END; "All bytes after END as a statement's word are ignored"
+pub data SameLines : List (List ℕ) → List (List ℕ) → Type 0 where
+  over : SameLines [] []
+  line : {b b′ : List ℕ} {bs bs′ : List (List ℕ)} → SameTokens b b′ → SameLines bs bs′ → SameLines (b ∷ bs) (b′ ∷ bs′)
+  ends : {b b′ : List ℕ} {bs bs′ : List (List ℕ)} {l l′ : LabelIn} → Says b l end → Says b′ l′ end → AlikeLabel b b′ l l′
+      → SameLines (b ∷ bs) (b′ ∷ bs′)
+
+read-alike : {b b′ : List ℕ} → SameTokens b b′ → ReadAlike b b′
+read-alike (tokens a) = alike-read a
+read-alike (signless-tokens a w t) = signless-read a w t
+
+says-ends : {b : List ℕ} {l : LabelIn} → Says b l end → endsIt (lineRead b .statement) ≡ true
+unfolding judged
+says-ends {b} e = rw (read-judged b e)
+
+cut-alike : (y y′ : Bool) → y ≡ y′ → {bs bs′ : List (List ℕ)} → Lists bs bs′ → Lists (cond y [] bs) (cond y′ [] bs′)
+cut-alike true true e l = none
+cut-alike true false e l = absurd (false≢true (sym e))
+cut-alike false true e l = absurd (false≢true e)
+cut-alike false false e l = l
+
+lists-alike : {bs bs′ : List (List ℕ)} → SameLines bs bs′ → Lists (upToEnd bs) (upToEnd bs′)
+unfolding upToEnd
+lists-alike over = none
+lists-alike (line {b} {b′} h r) =
+    let g = read-alike h in
+    some g (cut-alike (endsIt (lineRead b .statement)) (endsIt (lineRead b′ .statement)) (ends-same b b′ (g .statement)) (lists-alike r))
+lists-alike (ends {b} {b′} e e′ h) = rw (says-ends e, says-ends e′) (some (end-read e e′ h) none)
+
+loans-same : (M N : ℕ) (source source′ : List ℕ) → length source ≤ longestSource → length source′ ≤ longestSource
+    → loanVerdict M N source ≡ loanVerdict M N source′
+unfolding loanVerdict
+loans-same M N source source′ n n′ = rw (le-ltb longestSource (length source) n, le-ltb longestSource (length source′) n′)
+
+-- the assembler reads a source's lines up to END alone
+parts-same : (M N : ℕ) (source source′ : List ℕ) → loanVerdict M N source ≡ loanVerdict M N source′
+    → Lists (upToEnd (linesOf source)) (upToEnd (linesOf source′))
+    → assembleOf M N source ≡ assembleOf M N source′
+unfolding assembleOf verdictOf
+parts-same M N source source′ e l = rw (e, walk-same M 1 (start M) l, work-same 1 (startWork M) l, length-same l)
+
+-- Sources with the same tokens in each line up to END, none of them longer than a source may be, are assembled alike: the same memory and
+-- map, or the same refusal on the same line.
+pub spacing-same : (M N : ℕ) {source source′ : List ℕ} {lines lines′ : List (List ℕ)} → Lines source lines → Lines source′ lines′
+    → SameLines lines lines′
+    → length source ≤ longestSource
+    → length source′ ≤ longestSource
+    → assembleOf M N source ≡ assembleOf M N source′
+spacing-same M N {source} {source′} has has′ same n n′ =
+    parts-same M N source source′ (loans-same M N source source′ n n′)
+    (subst₂ (λ (bs bs′ : List (List ℕ)). Lists (upToEnd bs) (upToEnd bs′)) (one-list has (source-lines source)) (one-list has′ (source-lines source′))
+    (lists-alike same))
