@@ -14,7 +14,12 @@ use borrow.Author.Tests.{le-ltb}
 use Rattle.tokens.specs.Lines.{Lines}
 use Rattle.tokens.specs.Reading.{linesOf}
 use Rattle.tokens.proofs.Top.{source-lines, one-list}
-use Rattle.tokens.proofs.Spacing.{Alike}
+use Rattle.tokens.specs.Bytes.{isBlank}
+use Rattle.tokens.specs.Rows.{Row, RowOf}
+use Rattle.tokens.specs.declared.Kind.the-variants.{End}
+use Rattle.tokens.specs.declared.Token.{Token}
+use Rattle.tokens.proofs.Spacing.{Alike, Over}
+use Rattle.tokens.proofs.Respacing.{NoStray, lastKind, apart, AllBlank, Loose, line-itself, comment-added, blanks-first, blanks-widened, blanks-between}
 use Rattle.names.specs.declared.Word.{Word}
 use Rattle.values.specs.declared.LabelIn.{LabelIn}
 use Rattle.values.proofs.Spacing.{AlikeLabel, absent, named, AlikeList, none, some}
@@ -197,3 +202,66 @@ spacing-same M N {source} {source′} has has′ same n n′ =
     parts-same M N source source′ (loans-same M N source source′ n n′)
     (subst₂ (λ (bs bs′ : List (List ℕ)). Lists (upToEnd bs) (upToEnd bs′)) (one-list has (source-lines source)) (one-list has′ (source-lines source′))
     (lists-alike same))
+
+-- ---- one line of a source
+
+itself : (bs : List (List ℕ)) → SameLines bs bs
+itself [] = over
+itself (b ∷ bs) = line (tokens (line-itself true b)) (itself bs)
+
+-- one line for another with the same tokens
+pub one-line : (xs ys : List (List ℕ)) {b b′ : List ℕ} → SameTokens b b′ → SameLines (xs ++ (b ∷ ys)) (xs ++ (b′ ∷ ys))
+one-line [] ys h = line h (itself ys)
+one-line (x ∷ xs) ys h = line (tokens (line-itself true x)) (one-line xs ys h)
+
+module _ (M N : ℕ) {source source′ : List ℕ} (n : length source ≤ longestSource) (n′ : length source′ ≤ longestSource) (xs ys : List (List ℕ)) where
+  -- Adding a comment changes no image: at the end of a line of whole tokens, with blanks before it or not; nor do blanks there.
+  pub comment-same : (b tail : List ℕ) {ts : List Token} → Lines source (xs ++ (b ∷ ys)) → Lines source′ (xs ++ ((b ++ tail) ∷ ys)) → RowOf b ts
+      → NoStray ts
+      → Over tail
+      → assembleOf M N source ≡ assembleOf M N source′
+  comment-same b tail has has′ r w o = spacing-same M N has has′ (one-line xs ys (tokens (comment-added true tail r w o))) n n′
+
+  -- Adding blanks changes no image: at the start of a line,
+  pub blanks-first-same : (b bs : List ℕ) → Lines source (xs ++ (b ∷ ys)) → Lines source′ (xs ++ ((bs ++ b) ∷ ys)) → AllBlank bs
+      → assembleOf M N source ≡ assembleOf M N source′
+  blanks-first-same b bs has has′ t = spacing-same M N has has′ (one-line xs ys (tokens (blanks-first true b bs t))) n n′
+
+  -- where a blank stands already, after whole tokens,
+  pub blanks-widened-same : (p bs s : List ℕ) (c : ℕ) {ps : List Token} → Lines source (xs ++ ((p ++ (c ∷ s)) ∷ ys))
+      → Lines source′ (xs ++ ((p ++ (c ∷ bs ++ s)) ∷ ys))
+      → RowOf p ps
+      → NoStray ps
+      → T (isBlank c)
+      → AllBlank bs
+      → assembleOf M N source ≡ assembleOf M N source′
+  blanks-widened-same p bs s c has has′ r w t ts =
+      spacing-same M N has has′ (one-line xs ys (tokens (blanks-widened true c bs s r w t ts))) n n′
+
+  -- and between tokens that follow directly, but not before a label's `:`, nor between `-` and a decimal number,
+  pub blanks-between-same : (p bs s : List ℕ) {at : ℕ} {ps ss : List Token} → Lines source (xs ++ ((p ++ s) ∷ ys))
+      → Lines source′ (xs ++ ((p ++ (bs ++ s)) ∷ ys))
+      → RowOf p ps
+      → NoStray ps
+      → T (apart p s)
+      → Row at true s ss
+      → Loose true (lastKind End ps) ss
+      → AllBlank bs
+      → assembleOf M N source ≡ assembleOf M N source′
+  blanks-between-same p bs s has has′ r w a q l t =
+      spacing-same M N has has′ (one-line xs ys (tokens (blanks-between true bs r w a q l t))) n n′
+
+  -- which may be in an expression.
+  pub blanks-in-expression-same : (p bs s : List ℕ) {at : ℕ} {ps ss : List Token} {x : Word} → Lines source (xs ++ ((p ++ s) ∷ ys))
+      → Lines source′ (xs ++ ((p ++ (bs ++ s)) ∷ ys))
+      → HasWord (p ++ s) x
+      → T (signless x)
+      → RowOf p ps
+      → NoStray ps
+      → T (apart p s)
+      → Row at true s ss
+      → Loose false (lastKind End ps) ss
+      → AllBlank bs
+      → assembleOf M N source ≡ assembleOf M N source′
+  blanks-in-expression-same p bs s has has′ h x r w a q l t =
+      spacing-same M N has has′ (one-line xs ys (signless-tokens (blanks-between false bs r w a q l t) h x)) n n′

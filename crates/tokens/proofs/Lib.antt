@@ -12,5 +12,6 @@ pub mod Meanings
 pub mod Rows
 pub mod EveryRow
 pub mod Spacing
+pub mod Respacing
 pub mod Examples
 pub mod Top

@@ -6,7 +6,7 @@
 -- and so everything that is read from them. Two places are exceptions, where a rule says "directly": a label's `:`, and a decimal
 -- number after `-` in DATA or an operand (in an expression a `-` is the operation, whatever stands between).
 --
--- What is false: a comment after a string that is not closed (`DATA "a` is refused, `DATA "a; "` has a string of four characters); a
+-- What is false: a comment after a string that is not closed (`DATA "a` is refused, `DATA "a; "` has a string of three characters); a
 -- blank inside a token (`HALT` and `HA LT`, `"a"` and `"a "`); a blank between a label and its `:` (`x: HALT` and `x : HALT`); a blank
 -- between `-` and a number in DATA or an operand (`DATA -1` and `DATA - 1`).
 use Prim.Native.Nat.{ℕ, _+_, _≤_, _<_}

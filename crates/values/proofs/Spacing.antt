@@ -82,8 +82,8 @@ module _ {S A : Type 0} (line line′ : List ℕ) (begin : S) (step step′ : S 
     (Near : Kind → S → S → Type 0) (Same : A → A → Type 0) (begins : (k : Kind) → Near k begin begin)
     (ends : (k : Kind) (st st′ : S) → Near k st st′ → AlikeResult Same (finish st) (finish st′))
     (steps : (before k : Kind) (st st′ : S) (at end at′ end′ : ℕ) (d d′ : Bool) → AsDirectly true before k d d′ → SameBytes line line′ k at end at′ end′
-        → Near before st st′
-        → AlikeStep (Near k) Same (step st (token k at d end)) (step′ st′ (token k at′ d′ end′))) where
+    → Near before st st′
+    → AlikeStep (Near k) Same (step st (token k at d end)) (step′ st′ (token k at′ d′ end′))) where
   pub walk-alike : {before : Kind} {ts ts′ : List Token} → AlikeRow line line′ true before ts ts′ → (st st′ : S) → Near before st st′
       → AlikeResult Same (walk begin step finish st ts) (walk begin step′ finish st′ ts′)
   walk-alike {before} over st st′ h = ends before st st′ h
