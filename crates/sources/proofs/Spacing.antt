@@ -64,7 +64,7 @@ module _ (b b′ : List ℕ) where
   own-same k (other s t) = refl
   own-same k (fails why) = refl
 
-  ends-same : {r r′ : StatementRead} → AlikeStatement b b′ r r′ → endsIt r ≡ endsIt r′
+  pub ends-same : {r r′ : StatementRead} → AlikeStatement b b′ r r′ → endsIt r ≡ endsIt r′
   ends-same (instruction h g) = refl
   ends-same (other s t) = refl
   ends-same (fails why) = refl
@@ -111,15 +111,15 @@ module _ (b b′ : List ℕ) where
     labelled-same : (p : Place) → labelled p b (lineRead b .label) ≡ labelled p b′ (lineRead b′ .label)
     labelled-same p = rw (label-in-same (h .label))
 
-    after-same : (p : Place) → after p (readLine b) ≡ after p (readLine b′)
+    pub after-same : (p : Place) → after p (readLine b) ≡ after p (readLine b′)
     unfolding after
     after-same p = rw (labelled-same p, does-same (h .statement))
 
-    verdict-same : (M k : ℕ) (p : Place) → lineVerdict M k p (readLine b) ≡ lineVerdict M k p (readLine b′)
+    pub verdict-same : (M k : ℕ) (p : Place) → lineVerdict M k p (readLine b) ≡ lineVerdict M k p (readLine b′)
     unfolding lineVerdict
     verdict-same M k p = rw (label-verdict-same k p (h .label), own-same k (h .statement), labelled-same p, does-same (h .statement))
 
-    worked-same : (k : ℕ) (w : Work) → worked k w (readLine b) ≡ worked k w (readLine b′)
+    pub worked-same : (k : ℕ) (w : Work) → worked k w (readLine b) ≡ worked k w (readLine b′)
     unfolding worked
     worked-same k w = rw (after-same (w .place), raw-same (h .statement) (h .cells), uses-same k (w .place .at) (h .statement))
 
@@ -157,11 +157,11 @@ pub data SameLines : List (List ℕ) → List (List ℕ) → Type 0 where
   ends : {b b′ : List ℕ} {bs bs′ : List (List ℕ)} {l l′ : LabelIn} → Says b l end → Says b′ l′ end → AlikeLabel b b′ l l′
       → SameLines (b ∷ bs) (b′ ∷ bs′)
 
-read-alike : {b b′ : List ℕ} → SameTokens b b′ → ReadAlike b b′
+pub read-alike : {b b′ : List ℕ} → SameTokens b b′ → ReadAlike b b′
 read-alike (tokens a) = alike-read a
 read-alike (signless-tokens a w t) = signless-read a w t
 
-says-ends : {b : List ℕ} {l : LabelIn} → Says b l end → endsIt (lineRead b .statement) ≡ true
+pub says-ends : {b : List ℕ} {l : LabelIn} → Says b l end → endsIt (lineRead b .statement) ≡ true
 unfolding judged
 says-ends {b} e = rw (read-judged b e)
 
@@ -179,7 +179,7 @@ lists-alike (line {b} {b′} h r) =
     some g (cut-alike (endsIt (lineRead b .statement)) (endsIt (lineRead b′ .statement)) (ends-same b b′ (g .statement)) (lists-alike r))
 lists-alike (ends {b} {b′} e e′ h) = rw (says-ends e, says-ends e′) (some (end-read e e′ h) none)
 
-loans-same : (M N : ℕ) (source source′ : List ℕ) → length source ≤ longestSource → length source′ ≤ longestSource
+pub loans-same : (M N : ℕ) (source source′ : List ℕ) → length source ≤ longestSource → length source′ ≤ longestSource
     → loanVerdict M N source ≡ loanVerdict M N source′
 unfolding loanVerdict
 loans-same M N source source′ n n′ = rw (le-ltb longestSource (length source) n, le-ltb longestSource (length source′) n′)
