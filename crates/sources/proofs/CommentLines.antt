@@ -15,7 +15,8 @@ use Rattle.tokens.proofs.Top.{source-lines, one-list, line-row, one-row}
 use Rattle.tokens.proofs.Spacing.{Over, ended, comment, blank}
 use Rattle.values.specs.declared.LabelIn.{LabelIn}
 use Rattle.values.specs.declared.LabelIn.the-variants.{Absent, Named}
-use Rattle.values.proofs.Spacing.{AlikeLabel, AlikeList, none, some}
+use Rattle.values.proofs.Spacing as L
+use Rattle.values.proofs.Spacing.{AlikeLabel, AlikeList, some}
 use Rattle.operands.specs.declared.Given.{Given}
 use Rattle.statements.specs.Judging.{numberOf}
 use Rattle.statements.specs.Reading.{labelRead, afterLabel, statementRead, lineRead}
@@ -31,7 +32,7 @@ use Rattle.sources.specs.Limits.{longestSource}
 use Rattle.sources.specs.Placing.{does, Bound, Place, start, Judged, acted, after, bindings}
 use Rattle.sources.specs.Uses.{Use, useBy, useOf, usesBy, usesRead, valueOf}
 use Rattle.sources.specs.Order.{Refusal, _on_}
-use Rattle.sources.specs.Assembling.{test, Verdict, passes, refused, firstOf, andThen, readLine, endsIt, upToEnd, loanVerdict, taken, nameVerdict, labelVerdict, ownVerdict, actVerdict, lineVerdict, walkLines, Work, workOf, startWork, worked, workAfter, endVerdict, useVerdict, usesVerdict, filled, lateVerdict, verdictOf, memoryOf, assembledBy, Assembled, accepted, refuses, assembleOf}
+use Rattle.sources.specs.Assembling.{Test, test, Verdict, passes, refused, firstOf, andThen, readLine, endsIt, upToEnd, loanVerdict, taken, nameVerdict, labelVerdict, ownVerdict, actVerdict, lineVerdict, walkLines, Work, workOf, startWork, worked, workAfter, endVerdict, useVerdict, usesVerdict, filled, lateVerdict, verdictOf, memoryOf, assembledBy, Assembled, accepted, refuses, assembleOf}
 use Rattle.sources.specs.declared.Act.{Act}
 use Rattle.sources.proofs.Spacing as Spacing
 use Rattle.sources.proofs.Spacing.{SameTokens, read-alike, says-ends, ends-same, verdict-same, after-same, worked-same, loans-same}
@@ -54,38 +55,44 @@ verdict-itself : (v : Verdict) → SameVerdict v v
 verdict-itself passes = pass
 verdict-itself (refused why) = refuse (why .number) (why .line) (why .line)
 
--- a check, and those after it
-test-same : (n k k′ : ℕ) (y : Bool) {v v′ : Verdict} → SameVerdict v v′ → SameVerdict (cond y (refused (n on k)) v) (cond y (refused (n on k′)) v′)
-test-same n k k′ true g = refuse n k k′
-test-same n k k′ false g = g
+-- the same checks, with other lines
+data SameTests : List Test → List Test → Type 0 where
+  none : SameTests [] []
+  one : (n k k′ : ℕ) (y : Bool) {ts ts′ : List Test} → SameTests ts ts′ → SameTests (test (n on k) y ∷ ts) (test (n on k′) y ∷ ts′)
 
-answer-same : {v v′ : Verdict} (memory marks : List ℕ) → SameVerdict v v′ → SameAnswer (assembledBy v memory marks) (assembledBy v′ memory marks)
-answer-same memory marks pass = image memory marks
-answer-same memory marks (refuse n k k′) = refusal n k k′
+first-same : {ts ts′ : List Test} → SameTests ts ts′ → SameVerdict (firstOf ts) (firstOf ts′)
+unfolding firstOf
+first-same none = pass
+first-same (one n k k′ true h) = refuse n k k′
+first-same (one n k k′ false h) = first-same h
+
+answer-same : {v v′ : Verdict} (m m′ k k′ : List ℕ) → SameVerdict v v′ → m ≡ m′ → k ≡ k′ → SameAnswer (assembledBy v m k) (assembledBy v′ m′ k′)
+answer-same m m′ k k′ pass e f = rw (e, f) (image m′ k′)
+answer-same m m′ k k′ (refuse n x x′) e f = refusal n x x′
 
 -- ---- a line as another line's number would have it
 
 module _ (k k′ : ℕ) where
   label-near : (p : Place) (bytes : List ℕ) (l : LabelIn) → SameVerdict (labelVerdict k p bytes l) (labelVerdict k′ p bytes l)
-  unfolding nameVerdict firstOf
+  unfolding nameVerdict
   label-near p bytes Absent = pass
-  label-near p bytes (Named n) = test-same 10 k k′ _ (test-same 9 k k′ _ pass)
+  label-near p bytes (Named n) = first-same (one 10 k k′ _ (one 9 k k′ _ none))
 
   own-near : (r : StatementRead) → SameVerdict (ownVerdict k r) (ownVerdict k′ r)
   own-near (Passes s) = pass
   own-near (Fails why) = refuse (numberOf why) k k′
 
   act-near : (M : ℕ) (p : Place) (a : Act) → SameVerdict (actVerdict M k p a) (actVerdict M k′ p a)
-  unfolding actVerdict firstOf
-  act-near M p a = test-same 6 k k′ _ (test-same 6 k k′ _ (test-same 11 k k′ _ (test-same 12 k k′ _ pass)))
+  unfolding actVerdict
+  act-near M p a = first-same (one 6 k k′ _ (one 6 k k′ _ (one 11 k k′ _ (one 12 k k′ _ none))))
 
   line-near : (M : ℕ) (p : Place) (x : Judged) → SameVerdict (lineVerdict M k p x) (lineVerdict M k′ p x)
   unfolding lineVerdict
   line-near M p x = then-same (label-near p (x .bytes) (x .read .label)) (then-same (own-near (x .read .statement)) (act-near M _ _))
 
   end-near : (p : Place) → SameVerdict (endVerdict k p) (endVerdict k′ p)
-  unfolding endVerdict firstOf
-  end-near p = test-same 6 k k′ _ pass
+  unfolding endVerdict
+  end-near p = first-same (one 6 k k′ _ none)
 
 -- ---- labels that operands name, each with its line
 
@@ -98,7 +105,7 @@ abbrev SameUses : List Use → List Use → Type 0
 SameUses us us′ = AlikeList SameUse us us′
 
 uses-join : {us us′ vs vs′ : List Use} → SameUses us us′ → SameUses vs vs′ → SameUses (us ++ vs) (us′ ++ vs′)
-uses-join none h = h
+uses-join L.none h = h
 uses-join (some e g) h = some e (uses-join g h)
 
 use-near : (k k′ cell next : ℕ) (bytes : List ℕ) (g : Given) → SameUses (useOf k bytes cell next g) (useOf k′ bytes cell next g)
@@ -106,32 +113,32 @@ use-near k k′ cell next bytes g = go (g .label)
   where
     go : (l : LabelIn)
         → SameUses (useBy k bytes cell next (g .operand) l) (useBy k′ bytes cell next (g .operand) l)
-    go Absent = none
-    go (Named n) = some (record { name = refl; cell = refl; counted = refl }) none
+    go Absent = L.none
+    go (Named n) = some (record { name = refl; cell = refl; counted = refl }) L.none
 
 uses-near : (k k′ at : ℕ) (bytes : List ℕ) (r : StatementRead) → SameUses (usesRead k bytes at r) (usesRead k′ bytes at r)
 unfolding usesBy
-uses-near k k′ at bytes (Passes S.Nothing) = none
+uses-near k k′ at bytes (Passes S.Nothing) = L.none
 uses-near k k′ at bytes (Passes (S.Instruction op a b)) = uses-join (use-near k k′ _ _ bytes a) (use-near k k′ _ _ bytes b)
-uses-near k k′ at bytes (Passes (S.Org v)) = none
-uses-near k k′ at bytes (Passes (S.Equ v)) = none
-uses-near k k′ at bytes (Passes (S.Res v)) = none
-uses-near k k′ at bytes (Passes (S.Data n)) = none
-uses-near k k′ at bytes (Passes S.End) = none
-uses-near k k′ at bytes (Fails why) = none
+uses-near k k′ at bytes (Passes (S.Org v)) = L.none
+uses-near k k′ at bytes (Passes (S.Equ v)) = L.none
+uses-near k k′ at bytes (Passes (S.Res v)) = L.none
+uses-near k k′ at bytes (Passes (S.Data n)) = L.none
+uses-near k k′ at bytes (Passes S.End) = L.none
+uses-near k k′ at bytes (Fails why) = L.none
 
 use-verdict-near : (bs : List Bound) (u u′ : Use) → SameUse u u′ → SameVerdict (useVerdict bs u) (useVerdict bs u′)
-unfolding useVerdict firstOf
-use-verdict-near bs u u′ h = rw (h .name, h .counted) (test-same 13 (u .line) (u′ .line) _ (test-same 14 (u .line) (u′ .line) _ pass))
+unfolding useVerdict
+use-verdict-near bs u u′ h = rw (h .name, h .counted) (first-same (one 13 (u .line) (u′ .line) _ (one 14 (u .line) (u′ .line) _ none)))
 
 uses-verdict-near : (bs : List Bound) {us us′ : List Use} → SameUses us us′ → SameVerdict (usesVerdict bs us) (usesVerdict bs us′)
 unfolding usesVerdict
-uses-verdict-near bs none = pass
+uses-verdict-near bs L.none = pass
 uses-verdict-near bs (some {a = u} {a′ = u′} e h) = then-same (use-verdict-near bs u u′ e) (uses-verdict-near bs h)
 
 filled-same : (bs : List Bound) {us us′ : List Use} → SameUses us us′ → (m : List ℕ) → filled bs us m ≡ filled bs us′ m
 unfolding filled
-filled-same bs none m = refl
+filled-same bs L.none m = refl
 filled-same bs (some {a′ = u′} e h) m = rw (e .name, e .cell, e .counted) (filled-same bs h _)
 
 -- ---- what a walk has come to
@@ -142,7 +149,7 @@ record SameWork (w w′ : Work) : Type 0 where
   uses : SameUses (w .uses) (w′ .uses)
 
 uses-itself : (us : List Use) → SameUses us us
-uses-itself [] = none
+uses-itself [] = L.none
 uses-itself (u ∷ us) = some (record { name = refl; cell = refl; counted = refl }) (uses-itself us)
 
 worked-near : (k k′ : ℕ) (w w′ : Work) (x : Judged) → SameWork w w′ → SameWork (worked k w x) (worked k′ w′ x)
@@ -252,10 +259,12 @@ parts-near : (M N : ℕ) (source source′ : List ℕ) → loanVerdict M N sourc
 unfolding assembleOf verdictOf
 parts-near M N source source′ e t =
     let h = work-near 1 1 (startWork M) (startWork M) t (record { place = refl; cells = refl; uses = uses-itself (startWork M .uses) }) in
+    let l : SameVerdict (loanVerdict M N source) (loanVerdict M N source′) = rw e (verdict-itself (loanVerdict M N source′)) in
     let m = memory-same (workOf M source) (workOf M source′) h in
     let v : SameVerdict (verdictOf M N source) (verdictOf M N source′) =
-    then-same (rw e (verdict-itself (loanVerdict M N source′))) (then-same (walk-near M 1 1 (start M) t) (late-near _ _ (workOf M source) (workOf M source′) h)) in
-    rw (m, h .place) (answer-same (memoryOf (workOf M source′)) (workOf M source′ .place .marks) v)
+    then-same l (then-same (walk-near M 1 1 (start M) t) (late-near _ _ (workOf M source) (workOf M source′) h)) in
+    answer-same (memoryOf (workOf M source)) (memoryOf (workOf M source′)) (workOf M source .place .marks) (workOf M source′ .place .marks) v m
+    (ap (λ (p : Place). p .marks) (h .place))
 
 -- Sources that differ in lines of blanks and a comment, and else have the same tokens in each line up to END, none of them longer than a
 -- source may be, are accepted with the same memory and map, or refused with the same number.
