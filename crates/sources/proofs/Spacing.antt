@@ -125,7 +125,7 @@ module _ (b b′ : List ℕ) where
 
 -- ---- lines one by one
 
-abbrev Lists : List (List ℕ) → List (List ℕ) → Type 0
+abbrev pub Lists : List (List ℕ) → List (List ℕ) → Type 0
 Lists bs bs′ = AlikeList ReadAlike bs bs′
 
 walk-same : (M k : ℕ) (p : Place) {bs bs′ : List (List ℕ)} → Lists bs bs′ → walkLines M k p bs ≡ walkLines M k p bs′
@@ -165,7 +165,7 @@ pub says-ends : {b : List ℕ} {l : LabelIn} → Says b l end → endsIt (lineRe
 unfolding judged
 says-ends {b} e = rw (read-judged b e)
 
-cut-alike : (y y′ : Bool) → y ≡ y′ → {bs bs′ : List (List ℕ)} → Lists bs bs′ → Lists (cond y [] bs) (cond y′ [] bs′)
+pub cut-alike : (y y′ : Bool) → y ≡ y′ → {bs bs′ : List (List ℕ)} → Lists bs bs′ → Lists (cond y [] bs) (cond y′ [] bs′)
 cut-alike true true e l = none
 cut-alike true false e l = absurd (false≢true (sym e))
 cut-alike false true e l = absurd (false≢true e)
@@ -185,7 +185,7 @@ unfolding loanVerdict
 loans-same M N source source′ n n′ = rw (le-ltb longestSource (length source) n, le-ltb longestSource (length source′) n′)
 
 -- the assembler reads a source's lines up to END alone
-parts-same : (M N : ℕ) (source source′ : List ℕ) → loanVerdict M N source ≡ loanVerdict M N source′
+pub parts-same : (M N : ℕ) (source source′ : List ℕ) → loanVerdict M N source ≡ loanVerdict M N source′
     → Lists (upToEnd (linesOf source)) (upToEnd (linesOf source′))
     → assembleOf M N source ≡ assembleOf M N source′
 unfolding assembleOf verdictOf
