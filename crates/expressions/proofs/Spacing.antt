@@ -53,7 +53,10 @@ onward : {ts ts′ : List Token} → SameKinds ts ts′ → Onward ts ts′
 unfolding operand operator
 onward none = record { operands = λ l p k. refl; operators = λ l v k. refl }
 onward (some {t} {t′} {ts} {ts′} e r) =
-    record { operands = λ l p k. rw e (at-operand (kindSymbol (t′ .kind)) l p k (onward r)); operators = λ l v k. rw e (at-operator (kindSymbol (t′ .kind)) l v k (onward r)) }
+    record {
+      operands = λ l p k. rw e (at-operand (kindSymbol (t′ .kind)) l p k (onward r));
+      operators = λ l v k. rw e (at-operator (kindSymbol (t′ .kind)) l v k (onward r));
+    }
   where
     at-operand : (y : Symbol) (l p : Wait) (k : Stack) → Onward ts ts′
         → atOperand Tree literal node enclosed y (λ l v k. operatorT ts l v k) (λ l p k. operandT ts l p k) l p k

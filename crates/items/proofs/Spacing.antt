@@ -11,7 +11,6 @@ use Rattle.tokens.specs.declared.Kind.{Kind}
 use Rattle.tokens.specs.declared.Kind.the-variants as K
 use Rattle.tokens.specs.declared.Token.{Token}
 use Rattle.tokens.proofs.Spacing.{isMinus, AsDirectly, SameBytes, AlikeRow}
-use Rattle.values.proofs.Spacing as V′
 use Rattle.values.proofs.Spacing.{AlikeResult, AlikeStep, to, emit, halt, reads, wrong, some, none, result-same, pick-alike, mark-alike, walk-alike}
 use Rattle.items.specs.Items.{Item, string}
 use Rattle.items.specs.Reading as R

@@ -1,9 +1,9 @@
 -- Two lines with the same tokens (tokens' Spacing.antt) have the same operands, with labels of the same bytes.
 use Prim.Native.Nat.{ℕ, zero, suc}
 use Prim.Native.Char.{code}
-use mathlib.Core.Bool.{Bool, true, false, cond, _&&_}
-use mathlib.Core.List.{List, [], _∷_}
-use mathlib.Core.Path.{_≡_, refl, sym, ap, ap₂, subst, _∙_}
+use mathlib.Core.Bool.{Bool, true, false, cond}
+use mathlib.Core.List.{List, []}
+use mathlib.Core.Path.{_≡_, refl, ap, subst}
 use lib.Dec.{eqb, T}
 use lib.ListN.{length}
 use Rattle.numerals.specs.declared.Kept.{Kept}
@@ -24,7 +24,7 @@ use Rattle.values.specs.declared.Value.{Value}
 use Rattle.values.proofs.Spacing.{AlikeValue, number, label, AlikeLabel, absent, named, AlikeList, none, some, AlikeResult, reads, wrong, AlikeStep, to, emit, halt, pick-alike, mark-alike, walk-alike}
 use Rattle.operands.specs.Walk as W
 use Rattle.operands.specs.Walk.{Shape, hash, slash, dollar, State, put, starts, indexStep, finish, step, walk, operandsOf}
-use Rattle.operands.specs.Checks.{operandWith, operandAt, fits, cellOf, wordOf, labelOf, labelIn, given, ranged, judged, judgedForm, instructionRead}
+use Rattle.operands.specs.Checks.{operandWith, operandAt, fits, cellOf, wordOf, labelOf, labelIn, ranged, judged, judgedForm, instructionRead}
 use Rattle.operands.specs.declared.Given.{Given}
 use Rattle.operands.specs.declared.InstructionRead.{InstructionRead}
 use Rattle.operands.specs.declared.InstructionRead.the-variants as I
@@ -161,7 +161,8 @@ module _ (line line′ : List ℕ) where
   steps before k st st′ at end at′ end′ d d′ m s (afterHash h) =
       mark-alike (Near k) AlikeWritten k (λ b. pick k (eqb b (code "[")) (to (indexDot h)) (pick k (eqb b (code ",")) (emit (immediate h)) halt))
   steps before k st st′ at end at′ end′ d d′ m s (indexDot h) = marked k (code ".") (to (indexName h))
-  steps before k st st′ at end at′ end′ d d′ m s (indexName {v = v} {v′} h) = worded k at end at′ end′ (indexStep v) (indexStep v′) s (λ r. index-alike k r h) d d′
+  steps before k st st′ at end at′ end′ d d′ m s (indexName {v = v} {v′} h) =
+      worded k at end at′ end′ (indexStep v) (indexStep v′) s (λ r. index-alike k r h) d d′
   steps before k st st′ at end at′ end′ d d′ m s registerName =
       worded k at end at′ end′ named′ named′ s (λ r. pick k (isRegister r) (to (done (register r))) halt) d d′
     where

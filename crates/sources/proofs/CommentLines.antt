@@ -1,10 +1,10 @@
 -- Adding a line of blanks and a comment alone changes no image either, though it moves the lines after it: two sources that differ in such
 -- lines, and else have the same tokens in each line up to END (Spacing.antt), are accepted with the same memory and map, or refused with
 -- the same number.
-use Prim.Native.Nat.{ℕ, suc, _+_, _≤_}
+use Prim.Native.Nat.{ℕ, _+_, _≤_}
 use mathlib.Core.Bool.{Bool, true, false, cond, false≢true}
 use mathlib.Core.List.{List, [], _∷_, _++_, map, append-nil}
-use mathlib.Core.Path.{_≡_, refl, sym, ap, subst₂, _∙_}
+use mathlib.Core.Path.{_≡_, refl, sym, ap, subst₂}
 use native.Mathlib.Nat.{add-zero}
 use lib.ListN.{length}
 use Rattle.tokens.specs.Lines.{Lines}
@@ -13,6 +13,7 @@ use Rattle.tokens.specs.Rows as R
 use Rattle.tokens.specs.Reading.{linesOf, tokensFrom}
 use Rattle.tokens.proofs.Top.{source-lines, one-list, line-row, one-row}
 use Rattle.tokens.proofs.Spacing.{Over, ended, comment, blank}
+use Rattle.tokens.proofs.Respacing.{line-itself}
 use Rattle.values.specs.declared.LabelIn.{LabelIn}
 use Rattle.values.specs.declared.LabelIn.the-variants.{Absent, Named}
 use Rattle.values.proofs.Spacing as L
@@ -21,8 +22,6 @@ use Rattle.operands.specs.declared.Given.{Given}
 use Rattle.statements.specs.Judging.{numberOf}
 use Rattle.statements.specs.Reading.{labelRead, afterLabel, statementRead, lineRead}
 use Rattle.statements.specs.Statements.{end, Says}
-use Rattle.statements.specs.declared.LineRead.{LineRead}
-use Rattle.statements.specs.declared.Statement.{Statement}
 use Rattle.statements.specs.declared.Statement.the-variants as S
 use Rattle.statements.specs.declared.StatementRead.{StatementRead}
 use Rattle.statements.specs.declared.StatementRead.the-variants.{Passes, Fails}
@@ -30,12 +29,11 @@ use Rattle.statements.proofs.Labelling.{never}
 use Rattle.statements.proofs.Spacing.{ReadAlike, end-read}
 use Rattle.sources.specs.Limits.{longestSource}
 use Rattle.sources.specs.Placing.{does, Bound, Place, start, Judged, acted, after, bindings}
-use Rattle.sources.specs.Uses.{Use, useBy, useOf, usesBy, usesRead, valueOf}
-use Rattle.sources.specs.Order.{Refusal, _on_}
+use Rattle.sources.specs.Uses.{Use, useBy, useOf, usesBy, usesRead}
+use Rattle.sources.specs.Order.{_on_}
 use Rattle.sources.specs.Assembling.{Test, test, Verdict, passes, refused, firstOf, andThen, readLine, endsIt, upToEnd, loanVerdict, taken, nameVerdict, labelVerdict, ownVerdict, actVerdict, lineVerdict, walkLines, Work, workOf, startWork, worked, workAfter, endVerdict, useVerdict, usesVerdict, filled, lateVerdict, verdictOf, memoryOf, assembledBy, Assembled, accepted, refuses, assembleOf}
 use Rattle.sources.specs.declared.Act.{Act}
-use Rattle.sources.proofs.Spacing as Spacing
-use Rattle.sources.proofs.Spacing.{SameTokens, read-alike, says-ends, ends-same, verdict-same, after-same, worked-same, loans-same}
+use Rattle.sources.proofs.Spacing.{SameTokens, tokens, read-alike, says-ends, ends-same, verdict-same, after-same, worked-same, loans-same}
 
 -- ---- answers that differ in a refusal's line alone
 
@@ -291,3 +289,23 @@ pub image-same : (M N : ℕ) {source source′ : List ℕ} {lines lines′ : Lis
     → assembleOf M N source ≡ accepted memory marks
     → assembleOf M N source′ ≡ accepted memory marks
 image-same M N has has′ same n n′ e = accepted-image (text-same M N has has′ same n n′) e
+
+-- ---- one such line
+
+text-itself : (bs : List (List ℕ)) → SameText bs bs
+text-itself [] = over
+text-itself (b ∷ bs) = line (tokens (line-itself true b)) (text-itself bs)
+
+line-put : (xs ys : List (List ℕ)) (c : List ℕ) → Over c → SameText (xs ++ ys) (xs ++ (c ∷ ys))
+line-put [] ys c o = added o (text-itself ys)
+line-put (x ∷ xs) ys c o = line (tokens (line-itself true x)) (line-put xs ys c o)
+
+-- A line of blanks and a comment alone, put before, between or after the lines of an accepted source, changes no image.
+pub comment-line-same : (M N : ℕ) {source source′ : List ℕ} (xs ys : List (List ℕ)) (c : List ℕ) {memory marks : List ℕ} → Lines source (xs ++ ys)
+    → Lines source′ (xs ++ (c ∷ ys))
+    → Over c
+    → length source ≤ longestSource
+    → length source′ ≤ longestSource
+    → assembleOf M N source ≡ accepted memory marks
+    → assembleOf M N source′ ≡ accepted memory marks
+comment-line-same M N xs ys c has has′ o n n′ e = image-same M N has has′ (line-put xs ys c o) n n′ e

@@ -30,7 +30,6 @@ use Rattle.statements.specs.Checks.{resultIn, leastUnsigned, leastSigned}
 use Rattle.statements.specs.Judging.{resultOf, worthResult, treeResult, instructionResult, judged}
 use Rattle.statements.specs.Reading.{lineRead}
 use Rattle.statements.specs.Statements.{Reading, nothing, instruction, org, equ, res, cells, end, Says}
-use Rattle.statements.specs.declared.LineRead.{LineRead}
 use Rattle.statements.specs.declared.Failure.{Failure}
 use Rattle.statements.specs.declared.Failure.the-variants.{OutOfRange, TooDeep}
 use Rattle.statements.specs.declared.Statement.{Statement}
@@ -119,7 +118,7 @@ short-by false false a b e = refl
 
 loan-short : (M N : ℕ) (source : List ℕ) → loanVerdict M N source ≡ passes → length source ≤ longestSource
 unfolding loanVerdict firstOf
-loan-short M N source e = ltb-false longestSource (length source) 
+loan-short M N source e = ltb-false longestSource (length source)
     (short-by (eqb M 0 || (ltb mostCells M || not (eqb N M))) (ltb longestSource (length source)) (1 on 0) (2 on 0) e)
 
 -- ---- a whole line among others
@@ -178,7 +177,8 @@ unfolding assembleOf verdictOf
 verdict-passes M N source e =
     let walked = walkLines M 1 (start M) (upToEnd (linesOf source)) in
     let late = lateVerdict (workOf M source) (length (upToEnd (linesOf source))) in
-    let h = both-pass (loanVerdict M N source) (andThen walked late) (accepted-passes (verdictOf M N source) (memoryOf (workOf M source)) (workOf M source .place .marks) e) in
+    let v = accepted-passes (verdictOf M N source) (memoryOf (workOf M source)) (workOf M source .place .marks) e in
+    let h = both-pass (loanVerdict M N source) (andThen walked late) v in
     (h .0, both-pass walked late (h .1) .0)
 
 -- Adding a comment changes no image: a comment, or blanks, at the end of any line of an accepted source, if the source stays as short as

@@ -1,15 +1,18 @@
 -- Adding a comment, or blanks between tokens, changes no image: two sources whose lines up to END have the same tokens are assembled alike,
 -- to the same memory and map or to the same refusal on the same line.
 --
--- What "the same tokens" allows and what not is in tokens' Spacing.antt, with examples; tokens' Respacing.antt has it in bytes: a comment
--- or blanks at a line's end, blanks at its start, and blanks between two of its tokens, give a line with the same tokens.
+-- What "the same tokens" allows and what not is in tokens' Spacing.antt, and SpacingExamples.antt computes it for a few lines; tokens'
+-- Respacing.antt has it in bytes: a comment or blanks at a line's end, blanks at its start, and blanks between two of its tokens, give a line
+-- with the same tokens. `spacing-same` is the law for whole sources, and below it stands what it says of one line of a source.
+--
+-- CommentLines.antt adds lines of blanks and a comment alone: the image stays, a refusal's line moves. Comments.antt asks nothing of the line
+-- that a comment is added to where the source is accepted.
 use Prim.Native.Nat.{ℕ, suc, _+_, _≤_}
 use mathlib.Core.Bool.{Bool, true, false, cond, false≢true}
 use mathlib.Core.List.{List, [], _∷_, _++_, map}
 use mathlib.Core.Path.{_≡_, refl, sym, ap, subst₂, _∙_}
-use lib.Dec.{T, ltb}
+use lib.Dec.{T}
 use lib.ListN.{length}
-use lib.Seq.{sets}
 use borrow.Author.Tests.{le-ltb}
 use Rattle.tokens.specs.Lines.{Lines}
 use Rattle.tokens.specs.Reading.{linesOf}
@@ -23,7 +26,6 @@ use Rattle.tokens.proofs.Respacing.{NoStray, lastKind, apart, AllBlank, Loose, 
 use Rattle.names.specs.declared.Word.{Word}
 use Rattle.values.specs.declared.LabelIn.{LabelIn}
 use Rattle.values.proofs.Spacing.{AlikeLabel, absent, named, AlikeList, none, some}
-use Rattle.isa.specs.Encoding.{wordsOf}
 use Rattle.isa.specs.declared.Operand.{Operand}
 use Rattle.operands.specs.declared.Given.{Given}
 use Rattle.operands.proofs.Spacing.{AlikeGiven}
@@ -34,13 +36,13 @@ use Rattle.statements.specs.Reading.{lineRead}
 use Rattle.statements.specs.declared.Statement.{Statement}
 use Rattle.statements.specs.declared.Statement.the-variants as S
 use Rattle.statements.specs.declared.StatementRead.{StatementRead}
-use Rattle.statements.specs.declared.StatementRead.the-variants.{Passes, Fails}
+use Rattle.statements.specs.declared.StatementRead.the-variants.{Passes}
 use Rattle.statements.proofs.Spacing.{placeless, AlikeStatement, instruction, other, fails, ReadAlike, signless, alike-read, signless-read, end-read}
 use Rattle.statements.proofs.Top.{read-judged}
 use Rattle.sources.specs.Limits.{longestSource}
 use Rattle.sources.specs.Placing.{does, doesRead, Place, start, labelIn, labelled, after}
-use Rattle.sources.specs.Uses.{Use, useBy, useOf, usesBy, usesRead}
-use Rattle.sources.specs.Assembling.{Verdict, andThen, readLine, endsIt, upToEnd, loanVerdict, labelVerdict, ownVerdict, lineVerdict, walkLines, rawRead, Work, startWork, worked, workAfter, lateVerdict, verdictOf, assembledBy, Assembled, assembleOf}
+use Rattle.sources.specs.Uses.{useBy, useOf, usesBy, usesRead}
+use Rattle.sources.specs.Assembling.{readLine, endsIt, upToEnd, loanVerdict, labelVerdict, ownVerdict, lineVerdict, walkLines, rawRead, Work, startWork, worked, workAfter, verdictOf, assembleOf}
 
 -- ---- what is the same of two lines that read alike
 

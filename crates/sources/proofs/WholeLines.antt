@@ -1,11 +1,10 @@
 -- A line that passes its own checks has whole tokens, unless its word is END: so a comment may be added to any line of an accepted source.
-use Prim.Native.Nat.{ℕ, _+_, _≤_}
-use mathlib.Core.Bool.{Bool, true, false, cond, not, _&&_, false≢true}
-use mathlib.Core.List.{List, [], _∷_, _++_, map}
+use Prim.Native.Nat.{ℕ}
+use mathlib.Core.Bool.{cond, not}
+use mathlib.Core.List.{List, [], _∷_}
 use mathlib.Core.Path.{_≡_, refl, sym, ap, subst, _∙_}
 use lib.Dec.{T}
 use lib.IntN.{ℤ}
-use lib.ListN.{length}
 use Rattle.tokens.specs.Reading.{tokensFrom}
 use Rattle.tokens.specs.declared.Kind.{Kind}
 use Rattle.tokens.specs.declared.Kind.the-variants as K
@@ -14,7 +13,7 @@ use Rattle.tokens.proofs.Respacing.{isStray, NoStray}
 use Rattle.names.specs.Names.{wordOf}
 use Rattle.names.specs.declared.Word.{Word}
 use Rattle.names.specs.declared.Word.the-variants as W
-use Rattle.values.specs.Walks.{Step, to, emit, halt, Result, reads, wrong, cons, stepped}
+use Rattle.values.specs.Walks.{Step, to, emit, halt, Result, reads, wrong, stepped}
 use Rattle.values.specs.Walks as Walks
 use Rattle.values.proofs.Walks.{un-cons}
 use Rattle.expressions.specs.declared.ExpressionRead.{ExpressionRead}
@@ -26,14 +25,10 @@ use Rattle.operands.specs.Walk as O
 use Rattle.operands.specs.declared.Written.{Written}
 use Rattle.items.specs.Items.{Item}
 use Rattle.operands.specs.Checks.{judgedForm, instructionRead}
-use Rattle.operands.specs.declared.InstructionRead.{InstructionRead}
-use Rattle.operands.specs.declared.InstructionRead.the-variants as R
 use Rattle.items.specs.Reading as I
-use Rattle.items.specs.declared.ItemsRead.{ItemsRead}
-use Rattle.items.specs.declared.ItemsRead.the-variants as C
 use Rattle.isa.specs.declared.Opcode.{Opcode}
 use Rattle.statements.specs.Judging.{instructionResult}
-use Rattle.statements.specs.Reading.{isWord, isColon, labelled, afterLabel, expressionResult, itemsResult, byWord, statementRead, lineRead}
+use Rattle.statements.specs.Reading.{isWord, afterLabel, expressionResult, itemsResult, byWord, statementRead, lineRead}
 use Rattle.statements.specs.declared.Statement.{Statement}
 use Rattle.statements.specs.declared.Statement.the-variants as S
 use Rattle.statements.specs.declared.Failure.the-variants.{WrongForm}

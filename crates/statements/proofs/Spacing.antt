@@ -29,28 +29,24 @@ use Rattle.values.proofs.Spacing.{SameName, AlikeLabel, absent, named}
 use Rattle.expressions.specs.Reading.{expressionRead}
 use Rattle.expressions.specs.declared.ExpressionRead.{ExpressionRead}
 use Rattle.expressions.specs.declared.ExpressionRead.the-variants as E
-use Rattle.expressions.specs.declared.Worth.{Worth}
 use Rattle.expressions.specs.declared.Worth.the-variants as V′
 use Rattle.expressions.proofs.Spacing.{SameKinds, alike-kinds, expression-same}
 use Rattle.operands.specs.Operands.{wordAt}
 use Rattle.operands.specs.declared.Given.{Given}
 use Rattle.operands.specs.declared.InstructionRead.{InstructionRead}
-use Rattle.operands.specs.declared.InstructionRead.the-variants as O
 use Rattle.operands.proofs.Spacing.{AlikeGiven, AlikeRead, read, wrong-form, wrong-operands, out-of-range, instruction-alike}
 use Rattle.items.specs.Reading.{itemsRead}
-use Rattle.items.specs.Writing.{cellsFrom}
 use Rattle.items.specs.declared.ItemsRead.{ItemsRead}
 use Rattle.items.specs.declared.ItemsRead.the-variants as I
 use Rattle.items.proofs.Spacing.{items-same, cells-same}
 use Rattle.statements.specs.Statements.{StatementWord, WordIn, behind, first, Says, HasWord}
 use Rattle.statements.specs.Statements as R
 use Rattle.statements.specs.Checks.{leastUnsigned, leastSigned, resultIn}
-use Rattle.statements.specs.Judging.{resultOf, judged, worthResult, instructionResult}
-use Rattle.statements.specs.Reading.{isWord, isColon, labelled, labelRead, behindTwo, afterLabel, expressionResult, itemsResult, byWord, statementRead, lineRead}
+use Rattle.statements.specs.Judging.{resultOf, judged, instructionResult}
+use Rattle.statements.specs.Reading.{isWord, isColon, labelRead, afterLabel, expressionResult, itemsResult, byWord, statementRead, lineRead}
 use Rattle.statements.specs.Cells.{isData, bodyCells, cellsIn}
 use Rattle.statements.specs.declared.Failure.{Failure}
 use Rattle.statements.specs.declared.Failure.the-variants.{OutOfRange}
-use Rattle.statements.specs.declared.LineRead.{LineRead}
 use Rattle.statements.specs.declared.Statement.{Statement}
 use Rattle.statements.specs.declared.Statement.the-variants as S
 use Rattle.statements.specs.declared.StatementRead.{StatementRead}

@@ -1,25 +1,24 @@
 -- A comment, or blanks, added to a line, in bytes: where the line keeps its tokens (Spacing.antt, which also says where it does not).
-use Prim.Native.Nat.{ℕ, _+_, _≤_, _<_}
+use Prim.Native.Nat.{ℕ, _≤_, _<_}
 use Prim.Native.Char.{code}
 use mathlib.Core.Bool.{Bool, true, false, not, _&&_, _||_, false≢true}
 use mathlib.Core.List.{List, [], _∷_, _++_, append-assoc, append-nil}
-use mathlib.Core.Path.{_≡_, refl, sym, ap, subst, subst₂, _∙_}
+use mathlib.Core.Path.{_≡_, refl, sym, ap, _∙_}
 use native.Mathlib.Omega.{arith}
 use lib.Dec.{T, ltb}
 use lib.Ieee.Bits.{is-true}
 use lib.Ieee.Fits.{and-l, and-r}
 use lib.ListN.{length}
 use borrow.Author.Tests.{lt-ltb, ltb-true}
-use Rattle.numerals.specs.Bytes.{isWordByte, rank, anyWordByte}
+use Rattle.numerals.specs.Bytes.{isWordByte, rank}
 use Rattle.numerals.specs.Digits.{allBelow, endsWord}
 use Rattle.numerals.specs.Numbers.{base, prefix, Unsigned, cut}
 use Rattle.numerals.specs.declared.Radix.{Radix}
 use Rattle.numerals.specs.declared.Radix.the-variants.{Decimal, Hexadecimal}
 use Rattle.tokens.specs.Bytes.{isBlank}
 use Rattle.tokens.specs.Words.{beginsWord}
-use Rattle.tokens.specs.Words as Words
 use Rattle.tokens.specs.Strings.{backslash, Characters, closed, plain, newline}
-use Rattle.tokens.specs.Rows.{token, Row, RowOf}
+use Rattle.tokens.specs.Rows.{Row, RowOf}
 use Rattle.tokens.specs.Rows as R
 use Rattle.tokens.specs.Reading.{tokensFrom}
 use Rattle.tokens.specs.declared.Kind.{Kind}
@@ -231,6 +230,7 @@ blanks-add : (signs : Bool) (before : Kind) (d : Bool) (bs : List ℕ) {s s′ :
 blanks-add signs before d [] t r = r
 blanks-add signs before d (b ∷ bs) t r = S.blank′ (t .0) (blanks-add signs before d bs (t .1) r)
 
+-- no rule asks whether a row's first token follows one of a kind directly
 abbrev pub Loose : Bool → Kind → List Token → Type 0
 Loose signs before [] = Unit {0}
 Loose signs before (t ∷ ts) = T (not (matters signs before (t .kind)))

@@ -11,21 +11,20 @@
 -- between `-` and a number in DATA or an operand (`DATA -1` and `DATA - 1`).
 use Prim.Native.Nat.{ℕ, _+_, _≤_, _<_}
 use Prim.Native.Char.{code}
-use mathlib.Core.Bool.{Bool, true, false, not, _&&_, _||_}
-use mathlib.Core.List.{List, [], _∷_, _++_, append-assoc}
-use mathlib.Core.Path.{_≡_, refl, sym, ap, subst, subst₂, _∙_}
+use mathlib.Core.Bool.{Bool, true, false, _&&_}
+use mathlib.Core.List.{List, [], _∷_, _++_}
+use mathlib.Core.Path.{_≡_, refl, sym, ap, _∙_}
 use native.Mathlib.Omega.{arith}
 use lib.Dec.{eqb, T}
 use lib.ListN.{length, take, drop, length-append, length-drop}
 use lib.Seq.{slice, drop-drop, drop-at, take-add, take-append-seam, drop-append-seam, length-take-le}
 use Rattle.numerals.specs.Bytes.{anyWordByte}
 use Rattle.numerals.specs.Digits.{allBelow, endsWord}
-use Rattle.numerals.specs.Numbers.{prefix, Unsigned, cut}
+use Rattle.numerals.specs.Numbers.{Unsigned, cut}
 use Rattle.numerals.specs.declared.Radix.{Radix}
 use Rattle.numerals.specs.declared.Radix.the-variants.{Decimal, Hexadecimal}
 use Rattle.tokens.specs.Bytes.{isBlank, isMark}
 use Rattle.tokens.specs.Words.{beginsWord}
-use Rattle.tokens.specs.Words as Words
 use Rattle.tokens.specs.Strings.{Characters}
 use Rattle.tokens.specs.Rows.{token, Broken, Row, RowOf}
 use Rattle.tokens.specs.Rows as R
@@ -106,12 +105,16 @@ pub data Over : List ℕ → Type 0 where
   comment : {s : List ℕ} → Over (code ";" ∷ s)
   blank : {b : ℕ} {s : List ℕ} → T (isBlank b) → Over s → Over (b ∷ s)
 
--- two texts with the same tokens, after one of a kind; with whether what stands before each is no blank
+-- Two texts with the same tokens, after one of a kind; with whether what stands before each is no blank. A blank of either is passed over,
+-- a token is the same in both, and where no token is left anything may follow that is blanks and a comment.
 pub data Respaced (signs : Bool) : Kind → Bool → Bool → List ℕ → List ℕ → Type 0 where
   over : {before : Kind} {d d′ : Bool} {s s′ : List ℕ} → Over s → Over s′ → Respaced signs before d d′ s s′
-  blank : {before : Kind} {b : ℕ} {d d′ : Bool} {s s′ : List ℕ} → T (isBlank b) → Respaced signs before false d′ s s′ → Respaced signs before d d′ (b ∷ s) s′
-  blank′ : {before : Kind} {b : ℕ} {d d′ : Bool} {s s′ : List ℕ} → T (isBlank b) → Respaced signs before d false s s′ → Respaced signs before d d′ s (b ∷ s′)
-  mark : {before : Kind} {b : ℕ} {d d′ : Bool} {s s′ : List ℕ} → T (isMark b) → AsDirectly signs before (Mark b) d d′ → Respaced signs (Mark b) true true s s′
+  blank : {before : Kind} {b : ℕ} {d d′ : Bool} {s s′ : List ℕ} → T (isBlank b) → Respaced signs before false d′ s s′
+      → Respaced signs before d d′ (b ∷ s) s′
+  blank′ : {before : Kind} {b : ℕ} {d d′ : Bool} {s s′ : List ℕ} → T (isBlank b) → Respaced signs before d false s s′
+      → Respaced signs before d d′ s (b ∷ s′)
+  mark : {before : Kind} {b : ℕ} {d d′ : Bool} {s s′ : List ℕ} → T (isMark b) → AsDirectly signs before (Mark b) d d′
+      → Respaced signs (Mark b) true true s s′
       → Respaced signs before d d′ (b ∷ s) (b ∷ s′)
   word : {before : Kind} {d d′ : Bool} {s s′ : List ℕ} (w : List ℕ) → T (beginsWord w) → T (allBelow anyWordByte w) → T (endsWord s)
       → T (endsWord s′)

@@ -5,7 +5,7 @@ use mathlib.Core.List.{List, [], _∷_}
 use mathlib.Core.Path.{_≡_, refl, ap}
 use lib.Seq.{slice}
 use Rattle.numerals.specs.declared.Numeral.{Numeral}
-use Rattle.tokens.specs.Marks.{onMark, only}
+use Rattle.tokens.specs.Marks.{onMark}
 use Rattle.tokens.specs.Rows.{token}
 use Rattle.tokens.specs.declared.Kind.{Kind}
 use Rattle.tokens.specs.declared.Kind.the-variants as K
