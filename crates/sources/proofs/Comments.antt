@@ -1,5 +1,5 @@
--- A comment may be added to any line of an accepted source: its lines up to END have whole tokens, as they pass their checks, and what comes
--- after END is ignored. Of END's own line the rest is ignored too, so that its tokens need not be whole: there that is asked.
+-- A comment may be added to any line of an accepted source: its lines up to END have whole tokens, as they pass their checks; what comes
+-- after END, on its own line and below, is ignored.
 use Prim.Native.Nat.{ℕ, _+_, _≤_}
 use mathlib.Core.Bool.{Bool, true, false, cond, not, _||_}
 use mathlib.Core.List.{List, [], _∷_, _++_}
@@ -45,6 +45,7 @@ use Rattle.sources.specs.Order.{Refusal, _on_}
 use Rattle.sources.specs.Assembling.{Verdict, passes, refused, firstOf, andThen, readLine, endsIt, upToEnd, loanVerdict, labelVerdict, ownVerdict, actVerdict, lineVerdict, walkLines, workOf, verdictOf, lateVerdict, memoryOf, assembledBy, accepted, assembleOf}
 use Rattle.sources.proofs.Spacing.{Lists, cut-alike, ends-same, loans-same, parts-same}
 use Rattle.sources.proofs.WholeLines.{line-whole}
+use Rattle.sources.proofs.EndLines.{end-comment}
 
 -- ---- what comes to END says END
 
@@ -123,18 +124,21 @@ loan-short M N source e = ltb-false longestSource (length source)
 
 -- ---- a whole line among others
 
-whole-line : (b : List ℕ) {s : Statement} → ((l : LabelIn) → Says b l end → NoStray (tokensFrom b 0)) → lineRead b .statement ≡ Passes s
-    → NoStray (tokensFrom b 0)
-whole-line b {s} w e = go s e
+-- a line that passes reads alike with a comment or blanks at its end
+passing-alike : (b tail : List ℕ) → Over tail → (s : Statement) → lineRead b .statement ≡ Passes s → ReadAlike b (b ++ tail)
+passing-alike b tail o s e = go s e
   where
-    go : (s : Statement) → lineRead b .statement ≡ Passes s → NoStray (tokensFrom b 0)
-    go S.Nothing e = line-whole b e (λ q. never (cc q))
-    go (S.Instruction op x y) e = line-whole b e (λ q. never (cc q))
-    go (S.Org v) e = line-whole b e (λ q. never (cc q))
-    go (S.Equ v) e = line-whole b e (λ q. never (cc q))
-    go (S.Res v) e = line-whole b e (λ q. never (cc q))
-    go (S.Data n) e = line-whole b e (λ q. never (cc q))
-    go S.End e = let h = says-end b e in w (h .0) (h .1)
+    whole : NoStray (tokensFrom b 0) → ReadAlike b (b ++ tail)
+    whole n = alike-read (comment-added true tail (line-row b) n o)
+
+    go : (s : Statement) → lineRead b .statement ≡ Passes s → ReadAlike b (b ++ tail)
+    go S.Nothing e = whole (line-whole b e (λ q. never (cc q)))
+    go (S.Instruction op x y) e = whole (line-whole b e (λ q. never (cc q)))
+    go (S.Org v) e = whole (line-whole b e (λ q. never (cc q)))
+    go (S.Equ v) e = whole (line-whole b e (λ q. never (cc q)))
+    go (S.Res v) e = whole (line-whole b e (λ q. never (cc q)))
+    go (S.Data n) e = whole (line-whole b e (λ q. never (cc q)))
+    go S.End e = end-comment tail (says-end b e .1) o
 
 read-itself : (b : List ℕ) → ReadAlike b b
 read-itself b = alike-read (line-itself true b)
@@ -182,21 +186,20 @@ verdict-passes M N source e =
     (h .0, both-pass walked late (h .1) .0)
 
 -- Adding a comment changes no image: a comment, or blanks, at the end of any line of an accepted source, if the source stays as short as
--- sources must be. (Only of a line that says END it is asked that its tokens are whole.)
+-- sources must be.
 pub comment-accepted : (M N : ℕ) {source source′ : List ℕ} (xs ys : List (List ℕ)) (b tail : List ℕ) {memory marks : List ℕ}
     → Lines source (xs ++ (b ∷ ys))
     → Lines source′ (xs ++ ((b ++ tail) ∷ ys))
     → Over tail
-    → ((l : LabelIn) → Says b l end → NoStray (tokensFrom b 0))
     → length source′ ≤ longestSource
     → assembleOf M N source ≡ accepted memory marks
     → assembleOf M N source′ ≡ accepted memory marks
-comment-accepted M N {source} {source′} xs ys b tail has has′ o w n′ e =
+comment-accepted M N {source} {source′} xs ys b tail has has′ o n′ e =
     let p = verdict-passes M N source e in
     let q : xs ++ (b ∷ ys) ≡ linesOf source = one-list has (source-lines source) in
     let q′ : xs ++ ((b ++ tail) ∷ ys) ≡ linesOf source′ = one-list has′ (source-lines source′) in
     let walked : walkLines M 1 (start M) (upToEnd (xs ++ (b ∷ ys))) ≡ passes = rw q (p .1) in
-    let l = changed M b (b ++ tail) ys (λ s f. alike-read (comment-added true tail (line-row b) (whole-line b w f) o)) 1 (start M) xs walked in
+    let l = changed M b (b ++ tail) ys (passing-alike b tail o) 1 (start M) xs walked in
     let same = parts-same M N source source′ (loans-same M N source source′ (loan-short M N source (p .0)) n′)
     (subst₂ (λ (bs bs′ : List (List ℕ)). Lists (upToEnd bs) (upToEnd bs′)) q q′ l) in
     sym same ∙ e

@@ -2,6 +2,7 @@
 pub mod Spacing
 pub mod CommentLines
 pub mod WholeLines
+pub mod EndLines
 pub mod Comments
 pub mod SpacingExamples
 pub mod Examples
