@@ -44,6 +44,7 @@ use Rattle.sources.specs.Placing.{doesRead, Place, start, labelled, afte
 use Rattle.sources.specs.Order.{Refusal, _on_}
 use Rattle.sources.specs.Assembling.{Verdict, passes, refused, firstOf, andThen, readLine, endsIt, upToEnd, loanVerdict, labelVerdict, ownVerdict, actVerdict, lineVerdict, walkLines, workOf, verdictOf, lateVerdict, memoryOf, assembledBy, accepted, assembleOf}
 use Rattle.sources.proofs.Spacing.{Lists, cut-alike, ends-same, loans-same, parts-same}
+use Rattle.sources.proofs.CommentLines.{comment-line-same}
 use Rattle.sources.proofs.WholeLines.{line-whole}
 use Rattle.sources.proofs.EndLines.{end-comment}
 
@@ -203,3 +204,14 @@ comment-accepted M N {source} {source′} xs ys b tail has has′ o n′ e =
     let same = parts-same M N source source′ (loans-same M N source source′ (loan-short M N source (p .0)) n′)
     (subst₂ (λ (bs bs′ : List (List ℕ)). Lists (upToEnd bs) (upToEnd bs′)) q q′ l) in
     sym same ∙ e
+
+-- Nor does a line of blanks and a comment alone, put before, between or after the lines of an accepted source.
+pub comment-line-accepted : (M N : ℕ) {source source′ : List ℕ} (xs ys : List (List ℕ)) (c : List ℕ) {memory marks : List ℕ}
+    → Lines source (xs ++ ys)
+    → Lines source′ (xs ++ (c ∷ ys))
+    → Over c
+    → length source′ ≤ longestSource
+    → assembleOf M N source ≡ accepted memory marks
+    → assembleOf M N source′ ≡ accepted memory marks
+comment-line-accepted M N {source} xs ys c has has′ o n′ e =
+    comment-line-same M N xs ys c has has′ o (loan-short M N source (verdict-passes M N source e .0)) n′ e

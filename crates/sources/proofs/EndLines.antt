@@ -1,7 +1,6 @@
 -- "All bytes after END as a statement's word are ignored": a line that says END says so still, with the same label, once a comment or blanks
 -- are added at its end; even if its last token is broken, and so may come to be another.
 use Prim.Native.Nat.{ℕ, _+_, _≤_}
-use Prim.Native.Char.{code}
 use mathlib.Core.Bool.{Bool, true, false, not, false≢true}
 use mathlib.Core.List.{List, [], _∷_, _++_, append-assoc}
 use mathlib.Core.Path.{_≡_, refl, sym, ap, subst, _∙_}
@@ -16,9 +15,8 @@ use Rattle.numerals.specs.Numbers.{prefix, Unsigned}
 use Rattle.numerals.specs.declared.Radix.{Radix}
 use Rattle.tokens.specs.Bytes.{isBlank, isMark}
 use Rattle.tokens.specs.Bytes as B
-use Rattle.tokens.specs.Words as Words
 use Rattle.tokens.specs.Strings.{Characters, closed, plain, newline}
-use Rattle.tokens.specs.Rows.{Broken, Row, RowOf}
+use Rattle.tokens.specs.Rows.{Broken, Row}
 use Rattle.tokens.specs.Rows as R
 use Rattle.tokens.specs.declared.Kind.{Kind}
 use Rattle.tokens.specs.declared.Kind.the-variants as K

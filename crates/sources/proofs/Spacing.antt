@@ -6,7 +6,7 @@
 -- with the same tokens. `spacing-same` is the law for whole sources, and below it stands what it says of one line of a source.
 --
 -- CommentLines.antt adds lines of blanks and a comment alone: the image stays, a refusal's line moves. Comments.antt asks nothing of the line
--- that a comment is added to where the source is accepted.
+-- that a comment is added to, where the source is accepted.
 use Prim.Native.Nat.{ℕ, suc, _+_, _≤_}
 use mathlib.Core.Bool.{Bool, true, false, cond, false≢true}
 use mathlib.Core.List.{List, [], _∷_, _++_, map}
