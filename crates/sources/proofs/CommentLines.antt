@@ -8,11 +8,9 @@ use mathlib.Core.Path.{_≡_, refl, sym, ap, subst₂}
 use native.Mathlib.Nat.{add-zero}
 use lib.ListN.{length}
 use Rattle.tokens.specs.Lines.{Lines}
-use Rattle.tokens.specs.Rows.{Row}
-use Rattle.tokens.specs.Rows as R
 use Rattle.tokens.specs.Reading.{linesOf, tokensFrom}
 use Rattle.tokens.proofs.Top.{source-lines, one-list, line-row, one-row}
-use Rattle.tokens.proofs.Spacing.{Over, ended, comment, blank}
+use Rattle.tokens.proofs.Spacing.{Over, over-row}
 use Rattle.tokens.proofs.Respacing.{line-itself}
 use Rattle.values.specs.declared.LabelIn.{LabelIn}
 use Rattle.values.specs.declared.LabelIn.the-variants.{Absent, Named}
@@ -160,11 +158,6 @@ worked-near k k′ w w′ x h =
     }
 
 -- ---- a line of blanks and a comment alone
-
-over-row : {s : List ℕ} (at : ℕ) (d : Bool) → Over s → Row at d s []
-over-row at d ended = R.ended
-over-row at d comment = R.comment
-over-row at d (blank t o) = R.blank t (over-row (at + 1) false o)
 
 -- what it says: no label, and nothing
 abbrev Idle : List ℕ → Type 0

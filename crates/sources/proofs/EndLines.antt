@@ -9,7 +9,7 @@ use lib.Dec.{T}
 use lib.Ieee.Bits.{is-true}
 use lib.ListN.{length, drop, replicate, length-append, length-replicate}
 use lib.Seq.{slice, drop-at, take-append-le}
-use Rattle.numerals.specs.Bytes.{isDigit, isWordByte, rank}
+use Rattle.numerals.specs.Bytes.{isDigit, isWordByte}
 use Rattle.numerals.specs.Digits.{endsWord}
 use Rattle.numerals.specs.Numbers.{prefix, Unsigned}
 use Rattle.numerals.specs.declared.Radix.{Radix}
@@ -21,12 +21,13 @@ use Rattle.tokens.specs.Rows as R
 use Rattle.tokens.specs.declared.Kind.{Kind}
 use Rattle.tokens.specs.declared.Kind.the-variants as K
 use Rattle.tokens.specs.declared.Token.{Token}
-use Rattle.tokens.proofs.Classes.{word-ranks, word-no-blank, high-no-blank, mark-alone, stray-alone}
+use Rattle.tokens.proofs.Classes.{word-no-blank, high-no-blank, mark-alone, stray-alone}
 use Rattle.tokens.proofs.EveryRow.{row-found}
 use Rattle.tokens.proofs.Places.{EndsAt, Within}
 use Rattle.tokens.proofs.Rows.{rowFrom}
 use Rattle.tokens.proofs.Top.{row-within}
-use Rattle.tokens.proofs.Spacing.{Over, ended, comment, blank}
+use Rattle.tokens.proofs.Spacing.{Over, over-row}
+use Rattle.tokens.proofs.Respacing.{over-ends}
 use Rattle.names.specs.Names.{wordOf}
 use Rattle.names.specs.declared.Word.the-variants as W
 use Rattle.values.specs.declared.LabelIn.{LabelIn}
@@ -60,27 +61,9 @@ data Grown : List Token → List Token → Type 0 where
 
 -- ---- bytes
 
-blank-ends : (b : ℕ) (s : List ℕ) → T (isBlank b) → T (endsWord (b ∷ s))
-blank-ends b s t = go (isWordByte b) refl
-  where
-    go : (y : Bool) → isWordByte b ≡ y → T (endsWord (b ∷ s))
-    go true e = absurd (false≢true (sym (word-no-blank b e) ∙ is-true (isBlank b) t))
-    go false e = rw (sym (word-ranks b) ∙ e) tt
-
-over-ends : {s : List ℕ} → Over s → T (endsWord s)
-unfolding rank
-over-ends ended = tt
-over-ends comment = tt
-over-ends (blank {b} {s} t o) = blank-ends b s t
-
 ends-more : (rest tail : List ℕ) → T (endsWord rest) → T (endsWord tail) → T (endsWord (rest ++ tail))
 ends-more [] tail t u = u
 ends-more (b ∷ rest) tail t u = t
-
-over-row : {s : List ℕ} (at : ℕ) (d : Bool) → Over s → Row at d s []
-over-row at d ended = R.ended
-over-row at d comment = R.comment
-over-row at d (blank t o) = R.blank t (over-row (at + 1) false o)
 
 row-exists : (at : ℕ) (d : Bool) (l : List ℕ) → (ts : List Token) × Row at d l ts
 row-exists at d l =

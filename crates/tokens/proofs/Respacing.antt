@@ -16,7 +16,6 @@ use Rattle.numerals.specs.Numbers.{base, prefix, Unsigned, cut}
 use Rattle.numerals.specs.declared.Radix.{Radix}
 use Rattle.numerals.specs.declared.Radix.the-variants.{Decimal, Hexadecimal}
 use Rattle.tokens.specs.Bytes.{isBlank}
-use Rattle.tokens.specs.Words.{beginsWord}
 use Rattle.tokens.specs.Strings.{backslash, Characters, closed, plain, newline}
 use Rattle.tokens.specs.Rows.{Row, RowOf}
 use Rattle.tokens.specs.Rows as R
@@ -26,7 +25,7 @@ use Rattle.tokens.specs.declared.Kind.the-variants.{End, Stray, Word, Nu
 use Rattle.tokens.specs.declared.Token.{Token}
 use Rattle.tokens.proofs.Classes.{word-ranks, word-no-blank}
 use Rattle.tokens.proofs.EveryRow.{line-row}
-use Rattle.tokens.proofs.Spacing.{AsDirectly, matters, Alike, Over, ended, comment, Respaced, respaced-alike}
+use Rattle.tokens.proofs.Spacing.{AsDirectly, matters, Alike, Over, ended, comment, begins-some, Respaced, respaced-alike}
 use Rattle.tokens.proofs.Spacing as S
 
 -- ---- what the laws below ask
@@ -105,7 +104,7 @@ blank-ends b s t = go (isWordByte b) refl
     go true e = absurd (false≢true (sym (word-no-blank b e) ∙ is-true (isBlank b) t))
     go false e = rw (sym (word-ranks b) ∙ e) tt
 
-over-ends : {s : List ℕ} → Over s → T (endsWord s)
+pub over-ends : {s : List ℕ} → Over s → T (endsWord s)
 unfolding rank
 over-ends ended = tt
 over-ends comment = tt
@@ -155,10 +154,6 @@ module _ {s rest : List ℕ} {k : Radix} {v : ℕ} (u : Unsigned s k v rest) whe
       seam (u .digits) rest t (u .are-digits .some) (below-more (base k) (u .digits) (base-low k) (u .are-digits .all)) (u .ends)
       (apart-back (prefix k) (u .digits ++ rest) t (rw (u .split) at a))
 
-word-some : (w : List ℕ) → T (beginsWord w) → 0 < length w
-word-some [] t = absurd t
-word-some (b ∷ w) t = omega arith
-
 -- ---- a line and itself
 
 module _ (signs : Bool) where
@@ -203,7 +198,7 @@ module _ (signs : Bool) where
   after-row (R.word {d = d} {s = p} {w} {rest} k r) n before s s′ a a′ h =
       let i = rw (k .split) at a in
       let i′ = rw (k .split) at a′ in
-      let l = word-some w (k .begins) in
+      let l = begins-some w (k .begins) in
       rw (k .split, append-assoc w rest s, append-assoc w rest s′)
       (S.word w (k .begins) (k .all) (seam w rest s l (k .all) (k .longest) i) (seam w rest s′ l (k .all) (k .longest) i′)
       (after-row r (n .1) Word s s′ (apart-back w rest s i) (apart-back w rest s′ i′) h))

@@ -131,7 +131,8 @@ pub data Respaced (signs : Bool) : Kind → Bool → Bool → List ℕ → List 
 
 -- ---- such texts have rows that are alike
 
-over-row : {s : List ℕ} (at : ℕ) (d : Bool) → Over s → Row at d s []
+-- no token is left there
+pub over-row : {s : List ℕ} (at : ℕ) (d : Bool) → Over s → Row at d s []
 over-row at d ended = R.ended
 over-row at d comment = R.comment
 over-row at d (blank t o) = R.blank t (over-row (at + 1) false o)
@@ -148,7 +149,7 @@ sliced line w rest at some e =
 follows : (line w rest : List ℕ) (at : ℕ) → drop at line ≡ w ++ rest → drop (at + length w) line ≡ rest
 follows line w rest at e = sym (drop-drop (length w) at line) ∙ ap (drop (length w)) e ∙ drop-append-seam w rest
 
-begins-some : (w : List ℕ) → T (beginsWord w) → 0 < length w
+pub begins-some : (w : List ℕ) → T (beginsWord w) → 0 < length w
 begins-some [] t = absurd t
 begins-some (b ∷ w) t = omega arith
 
