@@ -16,5 +16,11 @@ pub mod Counts
 pub mod Below
 pub mod Numbers
 pub mod Edges
+pub mod Spacing
+pub mod CommentLines
+pub mod WholeLines
+pub mod EndLines
+pub mod Comments
+pub mod SpacingExamples
 pub mod Examples
 pub mod Top
