@@ -1,6 +1,6 @@
 -- What a statement does, row by row.
 use Prim.Native.Nat.{ℕ, suc, _+_, _≤_}
-use mathlib.Core.Path.{_≡_, refl, sym, ap, subst, _∙_}
+use mathlib.Core.Path.{_≡_, sym, ap, subst, _∙_}
 use native.Mathlib.Omega.{arith}
 use Rattle.isa.specs.Opcodes.{table, presentIn, countOf}
 use Rattle.isa.specs.declared.Kinds.{Kinds}
@@ -28,7 +28,8 @@ unfolding countOf
 count-small op = omega (arith, present-small (table op .first), present-small (table op .second))
 
 -- an answer that is a statement's row, and sound as that row is
-pub row-of : {r a : Act} {s t : Statement} → r ≡ a → s ≡ t → a ≡ does t → Sound (a .moves) (a .claims) → (r ≡ does s) × Sound (r .moves) (r .claims)
+pub row-of : {r a : Act} {s t : Statement} → r ≡ a → s ≡ t → a ≡ does t → Sound (a .moves) (a .claims)
+    → (r ≡ does s) × Sound (r .moves) (r .claims)
 row-of e f g h = (e ∙ g ∙ sym (ap does f), subst (λ (x : Act). Sound (x .moves) (x .claims)) (sym e) h)
 
 -- an instruction's row

@@ -1,6 +1,6 @@
 -- Names with their values, as the rows keep them: what binding all labels that wait leaves.
 use Prim.Native.Nat.{ℕ, _+_, _-_, _≤_}
-use mathlib.Core.List.{List, [], _∷_, _++_, append-nil}
+use mathlib.Core.List.{List, [], _∷_, _++_}
 use mathlib.Core.Path.{_≡_, refl, sym, ap, ap₂, _∙_}
 use native.Mathlib.Omega.{arith}
 use lib.ListN.{length, take, drop, replicate, take-append-drop, length-drop}
@@ -35,7 +35,8 @@ zip-join (u ∷ us) ws (x ∷ vs) (y ∷ vs′) v h e =
     ap₂ (λ (z : ℕ) (bs : List Bound). record { name = u; value = z } ∷ bs) p (zip-join us ws vs vs′ v (omega arith) q)
 
 -- what `bind` leaves
-pub bound-all : (c : Counters) (ws : List (List ℕ)) (vs vs′ ms : List ℕ) (v : ℕ) → length ws ≡ c .bound + c .waiting → c .bound ≤ length vs
+pub bound-all : (c : Counters) (ws : List (List ℕ)) (vs vs′ ms : List ℕ) (v : ℕ) → length ws ≡ c .bound + c .waiting
+    → c .bound ≤ length vs
     → take (c .bound + c .waiting) vs′ ≡ take (c .bound) vs ++ replicate (c .bound + c .waiting - c .bound) v
     → stateOf ws vs′ ms (record { at = c .at; bound = c .bound + c .waiting; waiting = 0 }) ≡ boundAll v (stateOf ws vs ms c)
 bound-all c ws vs vs′ ms v l h e =

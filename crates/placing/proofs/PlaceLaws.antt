@@ -1,5 +1,5 @@
 -- A statement at its place: the labels that wait are bound, the verdict, and the place after it.
-use Prim.Native.Nat.{ℕ, _+_, _≤_, _<_}
+use Prim.Native.Nat.{ℕ, _+_}
 use mathlib.Core.Bool.{Bool, cond, false, _&&_}
 use mathlib.Core.List.{List, [], _++_, append-nil}
 use mathlib.Core.Path.{_≡_, refl, sym, ap, _∙_}
@@ -12,7 +12,7 @@ use Rattle.isa.specs.declared.Address.{Address}
 use Rattle.labels.specs.Labels.{zipped}
 use Rattle.sources.specs.Placing.{Bound, Place, boundTo, boundAll, boundBy, movedBy, marked, acted}
 use Rattle.sources.specs.Order.{_on_}
-use Rattle.sources.specs.Assembling.{Verdict, passes, refused, firstOf, givesStart, reservesTooFar, taken, actVerdict}
+use Rattle.sources.specs.Assembling.{passes, refused, firstOf, givesStart, reservesTooFar, taken, actVerdict}
 use Rattle.sources.specs.declared.Act.{Act}
 use Rattle.sources.specs.declared.Gives.{Gives}
 use Rattle.sources.specs.declared.Gives.the-variants.{Waits, Number, Start}

@@ -1,7 +1,6 @@
 // A line at its place: its label, then its statement.
 ghost use mathlib.Core.Path.{_≡_};
-ghost use mathlib.Core.List.{List};
-ghost use Prim.Native.Nat.{ℕ, _+_, _≤_, _<_};
+ghost use Prim.Native.Nat.{ℕ, _+_, _≤_};
 ghost use lib.ListN.{length};
 ghost use Rattle.statements.specs.Reading.{lineRead};
 ghost use Rattle.values.specs.declared.LabelIn.the-variants.{Named};

@@ -1,7 +1,7 @@
 // Labels that wait: all of them are bound at once.
 ghost use mathlib.Core.Path.{_≡_};
 ghost use mathlib.Core.List.{List};
-ghost use Prim.Native.Nat.{ℕ, _+_, _≤_, _<_};
+ghost use Prim.Native.Nat.{ℕ, _+_};
 ghost use lib.ListN.{length};
 ghost use Rattle.sources.specs.Placing.{boundAll, boundBy};
 ghost use Rattle.sources.specs.declared.Gives.the-variants.{Start};

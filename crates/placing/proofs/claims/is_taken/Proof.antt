@@ -1,6 +1,6 @@
 -- No cell before the loop's place has a mark.
 use borrow.Author.Needs.{needs}
-use Prim.Native.Nat.{_+_, _-_, _≤_}
+use Prim.Native.Nat.{_-_, _≤_}
 use mathlib.Core.Path.{_≡_, subst}
 use native.Mathlib.Omega.{arith}
 use Rattle.placing.proofs.CellLaws.{Free, taken-hit, taken-none, free-none, free-more}
@@ -27,12 +27,6 @@ returns c =
     let a = c .before .before .before .before .args in
     taken-hit (a .marks .now) (a .at) (c .before .before .before .loop .i) (a .n) (omega arith) (c .if1 .taken)
 
-add-i : tie.Need-add-i Inv-loop μ-loop
-add-i c = search needs
-
-loop-less : tie.Need-loop-less Inv-loop μ-loop
-loop-less c = search needs
-
 loop-again : tie.Need-loop-again Inv-loop μ-loop
 loop-again c =
     let a = c .before .before .before .before .args in
@@ -56,7 +50,7 @@ is-taken-spec =
     add-if1
     shared-slice-read-if1
     returns
-    add-i
-    loop-less
+    (λ c. search needs)
+    (λ c. search needs)
     loop-again
     returns-2)

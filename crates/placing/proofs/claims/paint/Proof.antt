@@ -25,12 +25,6 @@ add-marks c = let h = c .before .before .pre (omega arith) in omega arith
 slice-write-marks : tie.Need-slice-write-marks Inv-loop μ-loop
 slice-write-marks c = let h = c .before .before .pre (omega arith) in omega (arith, c .before .loop .inv .1)
 
-add-i : tie.Need-add-i Inv-loop μ-loop
-add-i c = search needs
-
-loop-less : tie.Need-loop-less Inv-loop μ-loop
-loop-less c = search needs
-
 loop-again : tie.Need-loop-again Inv-loop μ-loop
 loop-again c =
     let a = c .before .before .args in
@@ -58,8 +52,8 @@ paint-spec =
     loop-holds
     add-marks
     slice-write-marks
-    add-i
-    loop-less
+    (λ c. search needs)
+    (λ c. search needs)
     loop-again
     same-length
     returns)

@@ -1,26 +1,10 @@
+-- By what the act gives.
 use borrow.Author.Needs.{needs}
-use mathlib.Core.Path.{_≡_, refl, sym, ap, subst, _∙_}
-use native.Mathlib.Omega.{arith}
+use mathlib.Core.Path.{refl, subst}
 use Rattle.placing.proofs.PlaceLaws.{waits-as, number-as, start-as}
 use Rattle.placing.specs.State.{BindsFine}
 use Rattle.placing.proofs.naming.bind_by.Statement.{statement}
 use Rattle.placing.proofs.naming.bind_by.Tie as tie
-use Rattle.placing.proofs.naming.bind_by.Reads as reads
-use Rattle.placing.proofs.naming.bind_by.Lts as lts
-use Rattle.placing.proofs.naming.bind.Reads as bind-reads
-use Rattle.placing.proofs.naming.bind_here.Reads as bind-here-reads
-
-enum-told : tie.Need-enum-told
-enum-told c = search needs
-
-enum-known-g : tie.Need-enum-known-g
-enum-known-g c = search needs
-
-bind-requires : tie.Need-bind-requires
-bind-requires c κs = search needs
-
-enum-told-2 : tie.Need-enum-told-2
-enum-told-2 c = search needs
 
 bind-here-requires : tie.Need-bind-here-requires
 bind-here-requires c κs =
@@ -31,16 +15,10 @@ bind-here-requires c κs =
 returns : tie.Need-returns
 returns c = (c .before .before .before .pre .0, refl, refl, λ ws ms l. waits-as _ (c .enum-told .given .1) refl)
 
-same-length : tie.Need-same-length
-same-length c = search needs
-
 returns-2 : tie.Need-returns-2
 returns-2 c =
     let e = c .before .before .bind .ensures in
     (e .0, e .1, e .2, λ ws ms l. number-as _ (c .before .before .before .before .before .g .given .1) (e .3 ws ms l))
-
-same-length-2 : tie.Need-same-length-2
-same-length-2 c = search needs
 
 returns-3 : tie.Need-returns-3
 returns-3 c =
@@ -51,13 +29,13 @@ pub bind-by-spec : {M : Type 1} → statement M
 bind-by-spec =
     tie.close
     (tie.spec
-    enum-told
-    enum-known-g
-    bind-requires
-    enum-told-2
+    (λ c. search needs)
+    (λ c. search needs)
+    (λ c κs. search needs)
+    (λ c. search needs)
     bind-here-requires
     returns
-    same-length
+    (λ c. search needs)
     returns-2
-    same-length-2
+    (λ c. search needs)
     returns-3)

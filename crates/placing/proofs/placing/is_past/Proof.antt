@@ -1,8 +1,7 @@
+-- The test by differences is the test by a sum.
 use Rattle.placing.proofs.TestLaws.{past-none, past-big, past-test}
 use Rattle.placing.proofs.placing.is_past.Statement.{statement}
 use Rattle.placing.proofs.placing.is_past.Tie as tie
-use Rattle.placing.proofs.placing.is_past.Reads as reads
-use Rattle.placing.proofs.placing.is_past.Lts as lts
 
 returns : tie.Need-returns
 returns c = let a = c .before .args in past-none (a .size) (a .at) (a .n) (c .if1 .taken)
