@@ -35,7 +35,7 @@ window-slice l (suc n) a h =
     ∙ ap₂ (λ (t u : ℕ). getD l a 0 ∷ slice u t l) (sym e) (sym f)
     ∙ sym (slice-cons a (a + suc n) l 0 (omega arith) (omega arith))
 
-spelled-window : (line : List ℕ) (n : Name) → n .start ≤ n .end → n .end ≤ length line
+pub spelled-window : (line : List ℕ) (n : Name) → n .start ≤ n .end → n .end ≤ length line
     → spelled line n ≡ window line (n .start) (n .end - n .start)
 spelled-window line n h k =
     let e : n .start + (n .end - n .start) ≡ n .end = omega arith in
