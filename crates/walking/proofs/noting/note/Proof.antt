@@ -1,5 +1,6 @@
 -- A label that is named is kept behind those that are, by its place in the source.
 use borrow.Author.Needs.{needs}
+use Prim.Native.Nat.{_+_}
 use native.Mathlib.Omega.{arith}
 use Rattle.uses.specs.Held.{usesHeld}
 use Rattle.walking.proofs.Notes.{placeable, noted-none, noted-one}
@@ -70,7 +71,8 @@ returns-2 c =
     let a = k .args in
     let h = placeable (a .from) (a .cell) (a .next) (l .label .given .1) (k .pre .3) in (
       λ s. noted-one s (a .from) (a .number) (a .cell) (a .next) (a .g)
-          (usesHeld s (a .row .now) (a .aways .now) (a .count)) (l .label .given .1) (h .2) (w .away .ensures) (p .keep .ensures s),
+          (usesHeld s (a .row .now) (a .aways .now) (a .count)) {vs = usesHeld s (p .keep .last .0) (p .keep .last .1 .0) (a .count + 1)}
+          (l .label .given .1) (h .2) (w .away .ensures) (p .keep .ensures s),
       omega arith,
       omega arith,
     )

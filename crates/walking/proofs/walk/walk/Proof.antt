@@ -13,8 +13,10 @@ use Rattle.walking.proofs.walk.walk.Tie as tie
 returns : tie.Need-returns
 returns c =
     let did = c .before .before .before in
-    let walked = did .before .before .before .before .before .before .before .before .before .before .before .before .before .before .before .before in
-    let start = walked .before .before .before .before .before .before .before .before .before .before .before .before .before .before .before .before in
+    let back = did .before .before .before .before .before .before .before .before in
+    let walked = back .before .before .before .before .before .before .before .before in
+    let lent = walked .before .before .before .before .before .before .before .before in
+    let start = lent .before .before .before .before .before .before .before .before in
     let l = walked .walk-lines in
     let starts = l .last .1 .0 in
     let lengths = l .last .1 .1 .0 in
@@ -29,15 +31,19 @@ returns c =
     let w = workOf m s in
     let n = length (upToEnd (linesOf s)) in
     let d = did .c .given in
-    refused-late s starts lengths values marks cells row aways v w n (d .1) (l .ensures) (l .kept .1 .0 ∙ start .pre .1) (l .kept .1 .1 .0 ∙ start .pre .2) (c .before .is-late .ensures)
+    let h₁ = l .kept .1 .0 ∙ start .pre .1 in
+    let h₂ = l .kept .1 .1 .0 ∙ start .pre .2 in
+    refused-late s starts lengths values marks cells row aways v w n (d .1) (l .ensures) h₁ h₂ (c .before .is-late .ensures)
     (c .if1 .taken)
 
 bind-here-requires : tie.Need-bind-here-requires
 bind-here-requires c κs =
     let late = c .before .before in
     let did = late .before .before in
-    let walked = did .before .before .before .before .before .before .before .before .before .before .before .before .before .before .before .before in
-    let start = walked .before .before .before .before .before .before .before .before .before .before .before .before .before .before .before .before in
+    let back = did .before .before .before .before .before .before .before .before in
+    let walked = back .before .before .before .before .before .before .before .before in
+    let lent = walked .before .before .before .before .before .before .before .before in
+    let start = lent .before .before .before .before .before .before .before .before in
     let l = walked .walk-lines in
     let starts = l .last .1 .0 in
     let lengths = l .last .1 .1 .0 in
@@ -51,17 +57,21 @@ bind-here-requires c κs =
     let v = walkLines m 1 (begin m) (upToEnd (linesOf s)) in
     let w = workOf m s in
     let n = length (upToEnd (linesOf s)) in
-    let d = did .c .given in (
-      still-fair s starts lengths values marks cells row aways v w n (d .1) (l .ensures) (l .kept .1 .0 ∙ start .pre .1) (l .kept .1 .1 .0 ∙ start .pre .2),
+    let d = did .c .given in
+    let h₁ = l .kept .1 .0 ∙ start .pre .1 in
+    let h₂ = l .kept .1 .1 .0 ∙ start .pre .2 in (
+      still-fair s starts lengths values marks cells row aways v w n (d .1) (l .ensures) h₁ h₂,
       l .kept .1 .1 .1 .0 ∙ start .pre .3,
-      binds-at-end s starts lengths values marks cells row aways v w n (d .1) (l .ensures) (l .kept .1 .0 ∙ start .pre .1) (l .kept .1 .1 .0 ∙ start .pre .2) (late .is-late .ensures)
+      binds-at-end s starts lengths values marks cells row aways v w n (d .1) (l .ensures) h₁ h₂ (late .is-late .ensures)
           (c .before .if1 .left),
     )
 
 returns-2 : tie.Need-returns-2
 returns-2 c =
-    let walked = c .before .before .before .before .before .before .before .before .before .before .before .before .before .before .before .before .before in
-    let start = walked .before .before .before .before .before .before .before .before .before .before .before .before .before .before .before .before in
+    let back = c .before .before .before .before .before .before .before .before .before in
+    let walked = back .before .before .before .before .before .before .before .before in
+    let lent = walked .before .before .before .before .before .before .before .before in
+    let start = lent .before .before .before .before .before .before .before .before in
     let l = walked .walk-lines in
     let starts = l .last .1 .0 in
     let lengths = l .last .1 .1 .0 in
@@ -82,8 +92,10 @@ returns-3 c =
     let q = c .before .before .bind-here in
     let late = c .before .before .before .before .before in
     let did = late .before .before in
-    let walked = did .before .before .before .before .before .before .before .before .before .before .before .before .before .before .before .before in
-    let start = walked .before .before .before .before .before .before .before .before .before .before .before .before .before .before .before .before in
+    let back = did .before .before .before .before .before .before .before .before in
+    let walked = back .before .before .before .before .before .before .before .before in
+    let lent = walked .before .before .before .before .before .before .before .before in
+    let start = lent .before .before .before .before .before .before .before .before in
     let l = walked .walk-lines in
     let starts = l .last .1 .0 in
     let lengths = l .last .1 .1 .0 in
@@ -97,10 +109,12 @@ returns-3 c =
     let v = walkLines m 1 (begin m) (upToEnd (linesOf s)) in
     let w = workOf m s in
     let n = length (upToEnd (linesOf s)) in
-    let d = did .c .given in (
-      passes-end s starts lengths values marks cells row aways v w n (d .1) (l .ensures) (l .kept .1 .0 ∙ start .pre .1) (l .kept .1 .1 .0 ∙ start .pre .2) (late .is-late .ensures)
+    let d = did .c .given in
+    let h₁ = l .kept .1 .0 ∙ start .pre .1 in
+    let h₂ = l .kept .1 .1 .0 ∙ start .pre .2 in (
+      passes-end s starts lengths values marks cells row aways v w n (d .1) (l .ensures) h₁ h₂ (late .is-late .ensures)
           (c .before .before .before .before .if1 .left),
-      all-held s starts lengths values marks cells row aways v w n (d .1) (l .ensures) (l .kept .1 .0 ∙ start .pre .1) (l .kept .1 .1 .0 ∙ start .pre .2) (q .last .0) (q .result) (q .ensures .2)
+      all-held s starts lengths values marks cells row aways v w n (d .1) (l .ensures) h₁ h₂ (q .last .0) (q .result) (q .ensures .2)
           (q .ensures .3),
     )
 

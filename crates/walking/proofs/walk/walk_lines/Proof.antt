@@ -36,7 +36,8 @@ part-line-end c =
 add-number : tie.Need-add-number Inv-loop μ-loop
 add-number c =
     let looped = c .before .before .before .before in
-    omega (arith, looped .loop .inv .few-lines, c .before .before .before .loop-test .taken, looped .before .before .before .before .before .before .before .before .before .pre .0)
+    let start = looped .before .before .before .before .before .before .before .before .before in
+    omega (arith, looped .loop .inv .few-lines, c .before .before .before .loop-test .taken, start .pre .0)
 
 place-line-requires : tie.Need-place-line-requires Inv-loop μ-loop
 place-line-requires c κs =
@@ -67,19 +68,22 @@ same-length : tie.Need-same-length Inv-loop μ-loop
 same-length c =
     let placed = c .before .before .before .before .before .before .before .before .before .before .before in
     let looped = placed .before .before .before .before .before .before .before .before .before in
-    placed .place-line .kept .1 .1 .1 .1 .0 ∙ looped .loop .inv .starts-long ∙ sym (looped .before .before .before .before .before .before .before .before .before .pre .1)
+    let start = looped .before .before .before .before .before .before .before .before .before in
+    placed .place-line .kept .1 .1 .1 .1 .0 ∙ looped .loop .inv .starts-long ∙ sym (start .pre .1)
 
 same-length-2 : tie.Need-same-length-2 Inv-loop μ-loop
 same-length-2 c =
     let placed = c .before .before .before .before .before .before .before .before .before .before .before in
     let looped = placed .before .before .before .before .before .before .before .before .before in
-    placed .place-line .kept .1 .1 .1 .1 .1 .0 ∙ looped .loop .inv .lengths-long ∙ sym (looped .before .before .before .before .before .before .before .before .before .pre .2)
+    let start = looped .before .before .before .before .before .before .before .before .before in
+    placed .place-line .kept .1 .1 .1 .1 .1 .0 ∙ looped .loop .inv .lengths-long ∙ sym (start .pre .2)
 
 same-length-3 : tie.Need-same-length-3 Inv-loop μ-loop
 same-length-3 c =
     let placed = c .before .before .before .before .before .before .before .before .before .before .before in
     let looped = placed .before .before .before .before .before .before .before .before .before in
-    placed .place-line .kept .1 .1 .1 .1 .1 .1 .0 ∙ looped .loop .inv .values-long ∙ sym (looped .before .before .before .before .before .before .before .before .before .pre .3)
+    let start = looped .before .before .before .before .before .before .before .before .before in
+    placed .place-line .kept .1 .1 .1 .1 .1 .1 .0 ∙ looped .loop .inv .values-long ∙ sym (start .pre .3)
 
 same-length-4 : tie.Need-same-length-4 Inv-loop μ-loop
 same-length-4 c =
@@ -177,7 +181,8 @@ loop-less c =
     let p = looped .loop in
     let s = looped .before .before .before .before .before .before .before .before .before .args .s .now in
     let h = end .line-end .ensures in
-    let u = further (read .read-line .result .statement) (p .from) (length s) (end .line-end .result + 1) (omega (arith, h)) (end .before .loop-test .taken) in
+    let st = read .read-line .result .statement in
+    let u = further st (p .from) (length s) (end .line-end .result + 1) (omega (arith, h)) (end .before .loop-test .taken) in
     omega (arith, u, c .next-line .ensures)
 
 loop-again : tie.Need-loop-again Inv-loop μ-loop
