@@ -1,15 +1,15 @@
 -- What counters and lent rows stand for, as a place (sources/specs/Placing.antt); and what an answer says.
 use Prim.Native.Nat.{ℕ, _+_, _≤_, _<_}
 use mathlib.Core.Bool.{Bool, _&&_}
-use mathlib.Core.List.{List, [], _∷_}
+use mathlib.Core.List.{List}
 use mathlib.Core.Path.{_≡_}
-use lib.Dec.{leb, ltb}
+use lib.Dec.{ltb}
 use lib.ListN.{take, drop}
 use Rattle.labels.specs.Labels.{words, zipped}
 use Rattle.sources.specs.Limits.{mostCells, mostLabels}
 use Rattle.sources.specs.Placing.{Place}
 use Rattle.sources.specs.Order.{_on_}
-use Rattle.sources.specs.Assembling.{Verdict, passes, refused, givesStart}
+use Rattle.sources.specs.Assembling.{Verdict, passes, refused}
 use Rattle.sources.specs.declared.Gives.{Gives}
 use Rattle.sources.specs.declared.Gives.the-variants.{Waits, Number, Start}
 use Rattle.sources.specs.declared.Moves.{Moves}

@@ -103,7 +103,9 @@ module _ (line : List ℕ) {op : Opcode} {a b : Given} (e : lineRead line .state
   labels-have =
       let h = instruction-from line e in
       let r = operands.read-exactly line (tokensFrom line (h .0)) op .0 (h .1) in
-      (subst LabelHas (sym (r .first-given)) (written-has (operandAt (r .operands) 0) (r .first-word)), subst LabelHas (sym (r .second-given)) (written-has (operandAt (r .operands) 1) (r .second-word)))
+      let first = written-has (operandAt (r .operands) 0) (r .first-word) in
+      let second = written-has (operandAt (r .operands) 1) (r .second-word) in
+      (subst LabelHas (sym (r .first-given)) first, subst LabelHas (sym (r .second-given)) second)
 
   -- its words: the first, and those of its operands
   words-counted : 1 + length (operandWords (a .operand)) + length (operandWords (b .operand)) ≡ suc (countOf op)
@@ -151,7 +153,8 @@ module _ (line : List ℕ) {op : Opcode} {a b : Given} (e : lineRead line .state
   -- ---- the names as the line has them
 
   module _ (s : List ℕ) (start k : ℕ) (part : Part s start line) where
-    named-there : (o : Operand) (l : LabelIn) → LabelWithin (length line) l → (cell next : ℕ) → notedBy s start k cell next o l ≡ useBy k line cell next o l
+    named-there : (o : Operand) (l : LabelIn) → LabelWithin (length line) l → (cell next : ℕ)
+        → notedBy s start k cell next o l ≡ useBy k line cell next o l
     named-there o Absent h cell next = refl
     named-there o (Named x) h cell next =
         ap (λ (w : List ℕ). record { line = k; name = w; cell = cell; counted = countedFor o next } ∷ [])

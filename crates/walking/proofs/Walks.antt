@@ -100,7 +100,8 @@ module _ (M : ℕ) (s : List ℕ) (from k : ℕ) (w : Work) where
       → (walkLines M k (w .place) (linesFrom s from) ≡ passes) × (workAfter k w (map readLine (linesFrom s from)) ≡ w) × (length (linesFrom s from) ≡ 0)
   unfolding walkLines workAfter
   walk-over h =
-      (ap (walkLines M k (w .place)) (lines-over s from h), ap (λ (ls : List (List ℕ)). workAfter k w (map readLine ls)) (lines-over s from h), ap length (lines-over s from h))
+      let o = lines-over s from h in
+      (ap (walkLines M k (w .place)) o, ap (λ (ls : List (List ℕ)). workAfter k w (map readLine ls)) o, ap length o)
 
   -- the line fails
   pub walk-stops : (line : List ℕ) {f : ℕ} → from < length s → line ≡ lineAt s from → lineVerdict M k (w .place) (readLine line) ≡ refused (f on k)

@@ -2,11 +2,8 @@
 use Prim.Native.Nat.{ℕ, _≤_}
 use mathlib.Core.List.{List, map}
 use mathlib.Core.Path.{_≡_}
-use lib.ListN.{length}
-use Rattle.tokens.specs.Reading.{linesOf}
 use Rattle.labels.specs.Labels.{words, zipped}
 use Rattle.sources.specs.Placing.{bindings}
-use Rattle.sources.specs.Uses.{Use}
 use Rattle.sources.specs.Order.{_on_}
 use Rattle.sources.specs.Assembling.{Verdict, passes, refused, Work}
 use Rattle.uses.specs.Held.{usesHeld}

@@ -10,7 +10,7 @@ ghost use Rattle.statements.specs.declared.StatementRead.the-variants.{Passes};
 ghost use Rattle.sources.specs.Uses.{usesBy, secondCell};
 ghost use Rattle.uses.specs.Held.{usesHeld};
 ghost use Rattle.labels.specs.Labels.{Part};
-ghost use Rattle.walking.specs.Noting.{awayFor, noted, Noted, Placeable, LabelHas};
+ghost use Rattle.walking.specs.Noting.{awayFor, noted, Noted, Placeable};
 use isa::Operand;
 use isa::opcodes::operand_count;
 use operands::Given;

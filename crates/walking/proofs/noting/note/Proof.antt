@@ -1,22 +1,17 @@
 -- A label that is named is kept behind those that are, by its place in the source.
 use borrow.Author.Needs.{needs}
+use Prim.Native.Nat.{_+_}
 use native.Mathlib.Omega.{arith}
 use Rattle.uses.specs.Held.{usesHeld}
 use Rattle.walking.proofs.Notes.{placeable, noted-none, noted-one}
 use Rattle.walking.proofs.noting.note.Statement.{statement}
 use Rattle.walking.proofs.noting.note.Tie as tie
 
-enum-told : tie.Need-enum-told
-enum-told c = search needs
-
 returns : tie.Need-returns
 returns c =
     let k = c .before .before .before .before in
     let a = k .args in
     (λ s. noted-none s (a .from) (a .number) (a .cell) (a .next) (a .g) _ (c .enum-told .given .1), omega arith, omega arith)
-
-enum-known-label : tie.Need-enum-known-label
-enum-known-label c = search needs
 
 sub-size : tie.Need-sub-size
 sub-size c =
@@ -38,9 +33,6 @@ cast-behind c =
     let k = l .before .before .before .before in
     let h = placeable (k .args .from) (k .args .cell) (k .args .next) (l .label .given .1) (k .pre .3) in
     omega (arith, h .0, h .1, h .2, h .3, h .4)
-
-away-requires : tie.Need-away-requires
-away-requires c κs = search needs
 
 add-place : tie.Need-add-place
 add-place c =
@@ -70,21 +62,6 @@ cast-keep c =
     let h = placeable (k .args .from) (k .args .cell) (k .args .next) (l .label .given .1) (k .pre .3) in
     omega (arith, h .0, h .1, h .2, h .3, h .4)
 
-cast-keep-2 : tie.Need-cast-keep-2
-cast-keep-2 c = search needs
-
-keep-requires : tie.Need-keep-requires
-keep-requires c κs = search needs
-
-add-result : tie.Need-add-result
-add-result c = search needs
-
-same-length : tie.Need-same-length
-same-length c = search needs
-
-same-length-2 : tie.Need-same-length-2
-same-length-2 c = search needs
-
 returns-2 : tie.Need-returns-2
 returns-2 c =
     let p = c .before .before .before .before in
@@ -94,7 +71,8 @@ returns-2 c =
     let a = k .args in
     let h = placeable (a .from) (a .cell) (a .next) (l .label .given .1) (k .pre .3) in (
       λ s. noted-one s (a .from) (a .number) (a .cell) (a .next) (a .g)
-          (usesHeld s (a .row .now) (a .aways .now) (a .count)) (l .label .given .1) (h .2) (w .away .ensures) (p .keep .ensures s),
+          (usesHeld s (a .row .now) (a .aways .now) (a .count)) {vs = usesHeld s (p .keep .last .0) (p .keep .last .1 .0) (a .count + 1)}
+          (l .label .given .1) (h .2) (w .away .ensures) (p .keep .ensures s),
       omega arith,
       omega arith,
     )
@@ -103,20 +81,20 @@ pub note-spec : {M : Type 1} → statement M
 note-spec =
     tie.close
     (tie.spec
-    enum-told
+    (λ c. search needs)
     returns
-    enum-known-label
+    (λ c. search needs)
     sub-size
     sub-behind
     cast-behind
-    away-requires
+    (λ c κs. search needs)
     add-place
     cast-place
     cast-long
     cast-keep
-    cast-keep-2
-    keep-requires
-    add-result
-    same-length
-    same-length-2
+    (λ c. search needs)
+    (λ c κs. search needs)
+    (λ c. search needs)
+    (λ c. search needs)
+    (λ c. search needs)
     returns-2)

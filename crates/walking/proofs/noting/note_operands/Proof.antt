@@ -9,22 +9,10 @@ use Rattle.walking.proofs.Notes.{few-words, second-cell, both-noted}
 use Rattle.walking.proofs.noting.note_operands.Statement.{statement}
 use Rattle.walking.proofs.noting.note_operands.Tie as tie
 
-add-second : tie.Need-add-second
-add-second c = search needs
-
-width-requires : tie.Need-width-requires
-width-requires c κs = search needs
-
 add-second-2 : tie.Need-add-second-2
 add-second-2 c =
     let a = c .before .before .before .args in
     omega (arith, c .width .ensures, few-words (a .a .operand), c .before .before .before .pre .3)
-
-add-note : tie.Need-add-note
-add-note c = search needs
-
-note-requires : tie.Need-note-requires
-note-requires c κs = search needs
 
 note-requires-2 : tie.Need-note-requires-2
 note-requires-2 c κs =
@@ -37,12 +25,6 @@ note-requires-2 c κs =
       k .pre .2,
       subst (λ (i : ℕ). Placeable (a .from) i (a .next) (a .b .label)) (second-cell (a .at) (a .a) (w .width .ensures)) (k .pre .5),
     )
-
-same-length : tie.Need-same-length
-same-length c = search needs
-
-same-length-2 : tie.Need-same-length-2
-same-length-2 c = search needs
 
 returns : tie.Need-returns
 returns c =
@@ -61,12 +43,12 @@ pub note-operands-spec : {M : Type 1} → statement M
 note-operands-spec =
     tie.close
     (tie.spec
-    add-second
-    width-requires
+    (λ c. search needs)
+    (λ c κs. search needs)
     add-second-2
-    add-note
-    note-requires
+    (λ c. search needs)
+    (λ c κs. search needs)
     note-requires-2
-    same-length
-    same-length-2
+    (λ c. search needs)
+    (λ c. search needs)
     returns)

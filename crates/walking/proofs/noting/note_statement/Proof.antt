@@ -15,12 +15,6 @@ use Rattle.walking.proofs.Said.{some-byte, first-placeable, second-plac
 use Rattle.walking.proofs.noting.note_statement.Statement.{statement}
 use Rattle.walking.proofs.noting.note_statement.Tie as tie
 
-enum-known-says : tie.Need-enum-known-says
-enum-known-says c = search needs
-
-operand-count-requires : tie.Need-operand-count-requires
-operand-count-requires c κs = search needs
-
 add-next : tie.Need-add-next
 add-next c =
     let d = c .before .before in
@@ -47,12 +41,6 @@ note-operands-requires c κs =
       second-placeable (a .line .now) e (a .from) (a .at) (k .pre .1) room n,
     )
 
-same-length : tie.Need-same-length
-same-length c = search needs
-
-same-length-2 : tie.Need-same-length-2
-same-length-2 c = search needs
-
 returns : tie.Need-returns
 returns c =
     let p = c .before .before .before .before in
@@ -68,17 +56,11 @@ returns c =
       omega (arith, p .note-operands .ensures .2, some-byte (a .line .now) e),
     )
 
-enum-told : tie.Need-enum-told
-enum-told c = search needs
-
 returns-2 : tie.Need-returns-2
 unfolding usesBy
 returns-2 c =
     let a = c .before .before .before .before .before .args in
     (λ s part. none-named _ (a .number) (a .at) (a .line .now) (c .enum-told .given .1) refl, omega arith, omega arith)
-
-enum-told-2 : tie.Need-enum-told-2
-enum-told-2 c = search needs
 
 returns-3 : tie.Need-returns-3
 unfolding usesBy
@@ -86,17 +68,11 @@ returns-3 c =
     let a = c .before .before .before .before .before .args in
     (λ s part. none-named _ (a .number) (a .at) (a .line .now) (c .enum-told2 .given .1) refl, omega arith, omega arith)
 
-enum-told-3 : tie.Need-enum-told-3
-enum-told-3 c = search needs
-
 returns-4 : tie.Need-returns-4
 unfolding usesBy
 returns-4 c =
     let a = c .before .before .before .before .before .args in
     (λ s part. none-named _ (a .number) (a .at) (a .line .now) (c .enum-told3 .given .1) refl, omega arith, omega arith)
-
-enum-told-4 : tie.Need-enum-told-4
-enum-told-4 c = search needs
 
 returns-5 : tie.Need-returns-5
 unfolding usesBy
@@ -104,17 +80,11 @@ returns-5 c =
     let a = c .before .before .before .before .before .args in
     (λ s part. none-named _ (a .number) (a .at) (a .line .now) (c .enum-told4 .given .1) refl, omega arith, omega arith)
 
-enum-told-5 : tie.Need-enum-told-5
-enum-told-5 c = search needs
-
 returns-6 : tie.Need-returns-6
 unfolding usesBy
 returns-6 c =
     let a = c .before .before .before .before .before .args in
     (λ s part. none-named _ (a .number) (a .at) (a .line .now) (c .enum-told5 .given .1) refl, omega arith, omega arith)
-
-enum-told-6 : tie.Need-enum-told-6
-enum-told-6 c = search needs
 
 returns-7 : tie.Need-returns-7
 unfolding usesBy
@@ -126,23 +96,23 @@ pub note-statement-spec : {M : Type 1} → statement M
 note-statement-spec =
     tie.close
     (tie.spec
-    enum-known-says
-    operand-count-requires
+    (λ c. search needs)
+    (λ c κs. search needs)
     add-next
     add-next-2
     note-operands-requires
-    same-length
-    same-length-2
+    (λ c. search needs)
+    (λ c. search needs)
     returns
-    enum-told
+    (λ c. search needs)
     returns-2
-    enum-told-2
+    (λ c. search needs)
     returns-3
-    enum-told-3
+    (λ c. search needs)
     returns-4
-    enum-told-4
+    (λ c. search needs)
     returns-5
-    enum-told-5
+    (λ c. search needs)
     returns-6
-    enum-told-6
+    (λ c. search needs)
     returns-7)

@@ -8,9 +8,6 @@ use Rattle.walking.proofs.Kept.{room-said, cells-read, uses-read}
 use Rattle.walking.proofs.walk.keep_line.Statement.{statement}
 use Rattle.walking.proofs.walk.keep_line.Tie as tie
 
-enum-told : tie.Need-enum-told
-enum-told c = search needs
-
 returns : tie.Need-returns
 returns c =
     let a = c .before .before .before .before .before .before .args in
@@ -20,9 +17,6 @@ returns c =
       omega arith,
       omega arith,
     )
-
-enum-known-read : tie.Need-enum-known-read
-enum-known-read c = search needs
 
 write-statement-requires : tie.Need-write-statement-requires
 write-statement-requires c κs =
@@ -43,15 +37,6 @@ note-statement-requires c κs =
       k .pre .6,
     )
 
-same-length : tie.Need-same-length
-same-length c = search needs
-
-same-length-2 : tie.Need-same-length-2
-same-length-2 c = search needs
-
-same-length-3 : tie.Need-same-length-3
-same-length-3 c = search needs
-
 returns-2 : tie.Need-returns-2
 returns-2 c =
     let n = c .before .before .before .before in
@@ -69,12 +54,12 @@ pub keep-line-spec : {M : Type 1} → statement M
 keep-line-spec =
     tie.close
     (tie.spec
-    enum-told
+    (λ c. search needs)
     returns
-    enum-known-read
+    (λ c. search needs)
     write-statement-requires
     note-statement-requires
-    same-length
-    same-length-2
-    same-length-3
+    (λ c. search needs)
+    (λ c. search needs)
+    (λ c. search needs)
     returns-2)

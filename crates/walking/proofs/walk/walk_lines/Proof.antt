@@ -20,183 +20,198 @@ abbrev μ-loop : tie.MeasureT-loop
 
 loop-holds : tie.Need-loop-holds Inv-loop μ-loop
 loop-holds c =
-    let a = c .before .before .before .before .before .before .before .before .args in
-    let pre = c .before .before .before .before .before .before .before .before .pre in
-    left-at-start (a .s .now) (a .starts .now) (a .lengths .now) (a .values .now) (a .marks .now) (a .cells .now) (a .row .now) (a .aways .now) (pre .1) (pre .2)
-    (pre .3) (pre .5) (pre .6)
-
-line-end-requires : tie.Need-line-end-requires Inv-loop μ-loop
-line-end-requires c κs =
-    search needs
-
-sub-line : tie.Need-sub-line Inv-loop μ-loop
-sub-line c =
-    omega arith
-
-part-line-start : tie.Need-part-line-start Inv-loop μ-loop
-part-line-start c =
-    search needs
+    let start = c .before .before .before .before .before .before .before .before in
+    let a = start .args in
+    let pre = start .pre in
+    left-at-start (a .s .now) (a .starts .now) (a .lengths .now) (a .values .now) (a .marks .now) (a .cells .now) (a .row .now) (a .aways .now)
+    (pre .1) (pre .2) (pre .3) (pre .5) (pre .6)
 
 part-line-end : tie.Need-part-line-end Inv-loop μ-loop
 part-line-end c =
-    let s = c .before .before .before .before .before .before .before .before .before .before .before .args .s .now in
-    let h : c .line-end .result ≤ length s = end-within s (c .before .before .loop .from) (c .line-end .ensures) (c .before .loop-test .taken) in
-    search needs
-
-read-line-requires : tie.Need-read-line-requires Inv-loop μ-loop
-read-line-requires c κs =
+    let looped = c .before .before in
+    let s = looped .before .before .before .before .before .before .before .before .before .args .s .now in
+    let h : c .line-end .result ≤ length s = end-within s (looped .loop .from) (c .line-end .ensures) (c .before .loop-test .taken) in
     search needs
 
 add-number : tie.Need-add-number Inv-loop μ-loop
 add-number c =
-    omega (arith, c .before .before .before .before .loop .inv .few-lines, c .before .before .before .loop-test .taken, c .before .before .before .before .before .before .before .before .before .before .before .before .before .pre .0)
+    let looped = c .before .before .before .before in
+    let start = looped .before .before .before .before .before .before .before .before .before in
+    omega (arith, looped .loop .inv .few-lines, c .before .before .before .loop-test .taken, start .pre .0)
 
 place-line-requires : tie.Need-place-line-requires Inv-loop μ-loop
 place-line-requires c κs =
-    let r = c .before .before .before .before in
-    let e = c .before .before .before .before .before .before in
-    let test = c .before .before .before .before .before .before .before .loop-test .taken in
-    let p = c .before .before .before .before .before .before .before .before .loop in
-    let pre = c .before .before .before .before .before .before .before .before .before .before .before .before .before .before .before .before .before .pre in
-    let a = c .before .before .before .before .before .before .before .before .before .before .before .before .before .before .before .before .before .args in
+    let read = c .before .before .before .before in
+    let end = read .before .before in
+    let e = end .line-end .ensures in
+    let test = end .before .loop-test .taken in
+    let looped = end .before .before in
+    let p = looped .loop in
+    let start = looped .before .before .before .before .before .before .before .before .before in
+    let a = start .args in
     let s = a .s .now in
+    let m = length (a .marks .now) in
+    let pre = start .pre in
     let i = p .inv in (
       i .fair,
       i .starts-long,
       i .lengths-long,
       i .values-long,
       omega (arith, i .marks-long, pre .4),
-      r .read-line .ensures,
-      line-fits (length (a .marks .now)) s (p .starts) (p .lengths) (p .values) (p .marks) (p .cells) (p .row) (p .aways) (length (a .cells .now)) (length (a .row .now))
-          (length (a .aways .now)) (p .c) (p .from) (p .number) (p .uses) (p .inv) test (e .line-end .ensures) (pre .0),
-      line-part s (p .from) (e .line-end .result),
+      read .read-line .ensures,
+      line-fits m s (p .starts) (p .lengths) (p .values) (p .marks) (p .cells) (p .row) (p .aways) (length (a .cells .now)) (length (a .row .now))
+          (length (a .aways .now)) (p .c) (p .from) (p .number) (p .uses) (p .inv) test e (pre .0),
+      line-part s (p .from) (end .line-end .result),
     )
-
-enum-known-f : tie.Need-enum-known-f Inv-loop μ-loop
-enum-known-f c =
-    search needs
 
 same-length : tie.Need-same-length Inv-loop μ-loop
 same-length c =
-    c .before .before .before .before .before .before .before .before .before .before .before .place-line .kept .1 .1 .1 .1 .0
-    ∙ c .before .before .before .before .before .before .before .before .before .before .before .before .before .before .before .before .before .before .before .before .loop .inv .starts-long
-    ∙ sym (c .before .before .before .before .before .before .before .before .before .before .before .before .before .before .before .before .before .before .before .before .before .before .before .before .before .before .before .before .before .pre .1)
+    let placed = c .before .before .before .before .before .before .before .before .before .before .before in
+    let looped = placed .before .before .before .before .before .before .before .before .before in
+    let start = looped .before .before .before .before .before .before .before .before .before in
+    placed .place-line .kept .1 .1 .1 .1 .0 ∙ looped .loop .inv .starts-long ∙ sym (start .pre .1)
 
 same-length-2 : tie.Need-same-length-2 Inv-loop μ-loop
 same-length-2 c =
-    c .before .before .before .before .before .before .before .before .before .before .before .place-line .kept .1 .1 .1 .1 .1 .0
-    ∙ c .before .before .before .before .before .before .before .before .before .before .before .before .before .before .before .before .before .before .before .before .loop .inv .lengths-long
-    ∙ sym (c .before .before .before .before .before .before .before .before .before .before .before .before .before .before .before .before .before .before .before .before .before .before .before .before .before .before .before .before .before .pre .2)
+    let placed = c .before .before .before .before .before .before .before .before .before .before .before in
+    let looped = placed .before .before .before .before .before .before .before .before .before in
+    let start = looped .before .before .before .before .before .before .before .before .before in
+    placed .place-line .kept .1 .1 .1 .1 .1 .0 ∙ looped .loop .inv .lengths-long ∙ sym (start .pre .2)
 
 same-length-3 : tie.Need-same-length-3 Inv-loop μ-loop
 same-length-3 c =
-    c .before .before .before .before .before .before .before .before .before .before .before .place-line .kept .1 .1 .1 .1 .1 .1 .0
-    ∙ c .before .before .before .before .before .before .before .before .before .before .before .before .before .before .before .before .before .before .before .before .loop .inv .values-long
-    ∙ sym (c .before .before .before .before .before .before .before .before .before .before .before .before .before .before .before .before .before .before .before .before .before .before .before .before .before .before .before .before .before .pre .3)
+    let placed = c .before .before .before .before .before .before .before .before .before .before .before in
+    let looped = placed .before .before .before .before .before .before .before .before .before in
+    let start = looped .before .before .before .before .before .before .before .before .before in
+    placed .place-line .kept .1 .1 .1 .1 .1 .1 .0 ∙ looped .loop .inv .values-long ∙ sym (start .pre .3)
 
 same-length-4 : tie.Need-same-length-4 Inv-loop μ-loop
 same-length-4 c =
-    c .before .before .before .before .before .before .before .before .before .before .before .place-line .kept .1 .1 .1 .1 .1 .1 .1 .0
-    ∙ c .before .before .before .before .before .before .before .before .before .before .before .before .before .before .before .before .before .before .before .before .loop .inv .marks-long
+    let placed = c .before .before .before .before .before .before .before .before .before .before .before in
+    let looped = placed .before .before .before .before .before .before .before .before .before in
+    placed .place-line .kept .1 .1 .1 .1 .1 .1 .1 .0 ∙ looped .loop .inv .marks-long
 
 same-length-5 : tie.Need-same-length-5 Inv-loop μ-loop
 same-length-5 c =
-    c .before .before .before .before .before .before .before .before .before .before .before .before .before .before .before .before .before .before .before .before .loop .inv .cells-long
+    let placed = c .before .before .before .before .before .before .before .before .before .before .before in
+    placed .before .before .before .before .before .before .before .before .before .loop .inv .cells-long
 
 same-length-6 : tie.Need-same-length-6 Inv-loop μ-loop
 same-length-6 c =
-    c .before .before .before .before .before .before .before .before .before .before .before .before .before .before .before .before .before .before .before .before .loop .inv .row-long
+    let placed = c .before .before .before .before .before .before .before .before .before .before .before in
+    placed .before .before .before .before .before .before .before .before .before .loop .inv .row-long
 
 same-length-7 : tie.Need-same-length-7 Inv-loop μ-loop
 same-length-7 c =
-    c .before .before .before .before .before .before .before .before .before .before .before .before .before .before .before .before .before .before .before .before .loop .inv .aways-long
+    let placed = c .before .before .before .before .before .before .before .before .before .before .before in
+    placed .before .before .before .before .before .before .before .before .before .loop .inv .aways-long
 
 returns : tie.Need-returns Inv-loop μ-loop
 returns c =
-    let f = c .before .f .given in
-    let l = c .before .before .before .before .before .before .before .before .before .before .before .place-line in
-    let e = c .before .before .before .before .before .before .before .before .before .before .before .before .before .before .before .before .before .before .line-end .ensures in
-    let test = c .before .before .before .before .before .before .before .before .before .before .before .before .before .before .before .before .before .before .before .loop-test .taken in
-    let p = c .before .before .before .before .before .before .before .before .before .before .before .before .before .before .before .before .before .before .before .before .loop in
-    let a = c .before .before .before .before .before .before .before .before .before .before .before .before .before .before .before .before .before .before .before .before .before .before .before .before .before .before .before .before .before .args in
+    let placed = c .before .before .before .before .before .before .before .before .before .before .before in
+    let end = placed .before .before .before .before .before .before .before in
+    let e = end .line-end .ensures in
+    let test = end .before .loop-test .taken in
+    let looped = end .before .before in
+    let p = looped .loop in
+    let start = looped .before .before .before .before .before .before .before .before .before in
+    let a = start .args in
     let s = a .s .now in
-    turn-stops (length (a .marks .now)) s (p .starts) (p .lengths) (p .values) (p .marks) (p .cells) (p .row) (p .aways) (length (a .cells .now)) (length (a .row .now))
-    (length (a .aways .now)) (p .c) (p .from) (p .number) (p .uses) (p .inv) test e
-    (placeIn s (l .last .1 .1 .1 .1 .0) (l .last .1 .1 .1 .1 .1 .0) (l .last .1 .1 .1 .1 .1 .1 .0) (l .last .1 .1 .1 .1 .1 .1 .1 .0))
-    (f .1) (l .ensures .1 (p .number + 1))
-
-enum-known-d : tie.Need-enum-known-d Inv-loop μ-loop
-enum-known-d c =
-    search needs
+    let m = length (a .marks .now) in
+    let l = placed .place-line in
+    let starts = l .last .1 .1 .1 .1 .0 in
+    let lengths = l .last .1 .1 .1 .1 .1 .0 in
+    let values = l .last .1 .1 .1 .1 .1 .1 .0 in
+    let marks = l .last .1 .1 .1 .1 .1 .1 .1 .0 in
+    let f = c .before .f .given in
+    turn-stops m s (p .starts) (p .lengths) (p .values) (p .marks) (p .cells) (p .row) (p .aways) (length (a .cells .now)) (length (a .row .now))
+    (length (a .aways .now)) (p .c) (p .from) (p .number) (p .uses) (p .inv) test e (placeIn s starts lengths values marks) (f .1) (l .ensures .1 (p .number + 1))
 
 keep-line-requires : tie.Need-keep-line-requires Inv-loop μ-loop
 keep-line-requires c κs =
-    let d = c .before .before .before .before .d .given in
-    let l = c .before .before .before .before .before .before .before .before .before .before .before .before .before .before .place-line in
-    let r = c .before .before .before .before .before .before .before .before .before .before .before .before .before .before .before .before .before .before .before .read-line .ensures in
-    let e = c .before .before .before .before .before .before .before .before .before .before .before .before .before .before .before .before .before .before .before .before .before .line-end .ensures in
-    let test = c .before .before .before .before .before .before .before .before .before .before .before .before .before .before .before .before .before .before .before .before .before .before .loop-test .taken in
-    let p = c .before .before .before .before .before .before .before .before .before .before .before .before .before .before .before .before .before .before .before .before .before .before .before .loop in
-    let a = c .before .before .before .before .before .before .before .before .before .before .before .before .before .before .before .before .before .before .before .before .before .before .before .before .before .before .before .before .before .before .before .before .args in
-    let pre = c .before .before .before .before .before .before .before .before .before .before .before .before .before .before .before .before .before .before .before .before .before .before .before .before .before .before .before .before .before .before .before .before .pre in
+    let did = c .before .before .before .before in
+    let placed = did .before .before .before .before .before .before .before .before .before .before in
+    let read = placed .before .before .before .before .before in
+    let end = read .before .before in
+    let e = end .line-end .ensures in
+    let test = end .before .loop-test .taken in
+    let looped = end .before .before in
+    let p = looped .loop in
+    let start = looped .before .before .before .before .before .before .before .before .before in
+    let a = start .args in
     let s = a .s .now in
+    let m = length (a .marks .now) in
+    let pre = start .pre in
     let i = p .inv in
+    let l = placed .place-line in
+    let starts = l .last .1 .1 .1 .1 .0 in
+    let lengths = l .last .1 .1 .1 .1 .1 .0 in
+    let values = l .last .1 .1 .1 .1 .1 .1 .0 in
+    let marks = l .last .1 .1 .1 .1 .1 .1 .1 .0 in
+    let r = read .read-line .ensures in
     let u = i .few-uses test in (
       ap (λ (x : LineRead). x .statement) (sym r),
-      line-fits (length (a .marks .now)) s (p .starts) (p .lengths) (p .values) (p .marks) (p .cells) (p .row) (p .aways) (length (a .cells .now)) (length (a .row .now))
+      line-fits m s (p .starts) (p .lengths) (p .values) (p .marks) (p .cells) (p .row) (p .aways) (length (a .cells .now)) (length (a .row .now))
           (length (a .aways .now)) (p .c) (p .from) (p .number) (p .uses) (p .inv) test e (pre .0),
       omega (arith, i .few-lines, test, pre .0),
       i .fair .low,
-      turn-room (length (a .marks .now)) s (p .starts) (p .lengths) (p .values) (p .marks) (p .cells) (p .row) (p .aways) (length (a .cells .now)) (length (a .row .now))
-          (length (a .aways .now)) (p .c) (p .from) (p .number) (p .uses) (p .inv) test e
-          (placeIn s (l .last .1 .1 .1 .1 .0) (l .last .1 .1 .1 .1 .1 .0) (l .last .1 .1 .1 .1 .1 .1 .0) (l .last .1 .1 .1 .1 .1 .1 .1 .0))
-          (d .1) (l .ensures .1 (p .number + 1)) r (pre .4),
+      turn-room m s (p .starts) (p .lengths) (p .values) (p .marks) (p .cells) (p .row) (p .aways) (length (a .cells .now)) (length (a .row .now))
+          (length (a .aways .now)) (p .c) (p .from) (p .number) (p .uses) (p .inv) test e (placeIn s starts lengths values marks) (did .d .given .1)
+          (l .ensures .1 (p .number + 1)) r (pre .4),
       omega (arith, u, test, pre .0, pre .7, i .row-long),
       omega (arith, u, test, pre .0, pre .8, i .aways-long),
     )
 
 add-next-line : tie.Need-add-next-line Inv-loop μ-loop
 add-next-line c =
-    let e = c .before .before .before .before .before .before .before .before .before .before .before .before .before .before .before .before .before .before .before .before .before .before .before .before .before .before .before .before .line-end .ensures in
-    let test = c .before .before .before .before .before .before .before .before .before .before .before .before .before .before .before .before .before .before .before .before .before .before .before .before .before .before .before .before .before .loop-test .taken in
-    let p = c .before .before .before .before .before .before .before .before .before .before .before .before .before .before .before .before .before .before .before .before .before .before .before .before .before .before .before .before .before .before .loop in
-    let pre = c .before .before .before .before .before .before .before .before .before .before .before .before .before .before .before .before .before .before .before .before .before .before .before .before .before .before .before .before .before .before .before .before .before .before .before .before .before .before .before .pre in
-    let s = c .before .before .before .before .before .before .before .before .before .before .before .before .before .before .before .before .before .before .before .before .before .before .before .before .before .before .before .before .before .before .before .before .before .before .before .before .before .before .before .args .s .now in
-    omega (arith, end-within s (p .from) e test, pre .0)
-
-next-line-requires : tie.Need-next-line-requires Inv-loop μ-loop
-next-line-requires c κs =
-    search needs
+    let kept = c .before .before .before .before .before .before in
+    let placed = kept .before .before .before .before .before .before .before .before .before .before .before .before .before .before .before in
+    let end = placed .before .before .before .before .before .before .before in
+    let looped = end .before .before in
+    let start = looped .before .before .before .before .before .before .before .before .before in
+    omega (arith, end-within (start .args .s .now) (looped .loop .from) (end .line-end .ensures) (end .before .loop-test .taken), start .pre .0)
 
 loop-less : tie.Need-loop-less Inv-loop μ-loop
 loop-less c =
-    let r = c .before .before .before .before .before .before .before .before .before .before .before .before .before .before .before .before .before .before .before .before .before .before .before .before .before .before .before .read-line .result in
-    let e = c .before .before .before .before .before .before .before .before .before .before .before .before .before .before .before .before .before .before .before .before .before .before .before .before .before .before .before .before .before in
-    let test = c .before .before .before .before .before .before .before .before .before .before .before .before .before .before .before .before .before .before .before .before .before .before .before .before .before .before .before .before .before .before .loop-test .taken in
-    let p = c .before .before .before .before .before .before .before .before .before .before .before .before .before .before .before .before .before .before .before .before .before .before .before .before .before .before .before .before .before .before .before .loop in
-    let s = c .before .before .before .before .before .before .before .before .before .before .before .before .before .before .before .before .before .before .before .before .before .before .before .before .before .before .before .before .before .before .before .before .before .before .before .before .before .before .before .before .args .s .now in
-    let u = further (r .statement) (p .from) (length s) (e .line-end .result + 1) (omega (arith, e .line-end .ensures)) test in
+    let kept = c .before .before .before .before .before .before .before in
+    let placed = kept .before .before .before .before .before .before .before .before .before .before .before .before .before .before .before in
+    let read = placed .before .before .before .before .before in
+    let end = read .before .before in
+    let looped = end .before .before in
+    let p = looped .loop in
+    let s = looped .before .before .before .before .before .before .before .before .before .args .s .now in
+    let h = end .line-end .ensures in
+    let st = read .read-line .result .statement in
+    let u = further st (p .from) (length s) (end .line-end .result + 1) (omega (arith, h)) (end .before .loop-test .taken) in
     omega (arith, u, c .next-line .ensures)
 
 loop-again : tie.Need-loop-again Inv-loop μ-loop
 loop-again c =
-    let k = c .before .before .before .before .before .before .before .keep-line in
-    let d = c .before .before .before .before .before .before .before .before .before .before .before .before .d .given in
-    let l = c .before .before .before .before .before .before .before .before .before .before .before .before .before .before .before .before .before .before .before .before .before .before .place-line in
-    let r = c .before .before .before .before .before .before .before .before .before .before .before .before .before .before .before .before .before .before .before .before .before .before .before .before .before .before .before .read-line .ensures in
-    let e = c .before .before .before .before .before .before .before .before .before .before .before .before .before .before .before .before .before .before .before .before .before .before .before .before .before .before .before .before .before in
-    let test = c .before .before .before .before .before .before .before .before .before .before .before .before .before .before .before .before .before .before .before .before .before .before .before .before .before .before .before .before .before .before .loop-test .taken in
-    let p = c .before .before .before .before .before .before .before .before .before .before .before .before .before .before .before .before .before .before .before .before .before .before .before .before .before .before .before .before .before .before .before .loop in
-    let a = c .before .before .before .before .before .before .before .before .before .before .before .before .before .before .before .before .before .before .before .before .before .before .before .before .before .before .before .before .before .before .before .before .before .before .before .before .before .before .before .before .args in
-    let pre = c .before .before .before .before .before .before .before .before .before .before .before .before .before .before .before .before .before .before .before .before .before .before .before .before .before .before .before .before .before .before .before .before .before .before .before .before .before .before .before .before .pre in
+    let kept = c .before .before .before .before .before .before .before in
+    let did = kept .before .before .before .before .before in
+    let placed = did .before .before .before .before .before .before .before .before .before .before in
+    let read = placed .before .before .before .before .before in
+    let end = read .before .before in
+    let e = end .line-end .ensures in
+    let test = end .before .loop-test .taken in
+    let looped = end .before .before in
+    let p = looped .loop in
+    let start = looped .before .before .before .before .before .before .before .before .before in
+    let a = start .args in
     let s = a .s .now in
-    turn-goes (length (a .marks .now)) s (p .starts) (p .lengths) (p .values) (p .marks) (p .cells) (p .row) (p .aways) (length (a .cells .now)) (length (a .row .now))
-    (length (a .aways .now)) (p .c) (p .from) (p .number) (p .uses) (p .inv) test (e .line-end .ensures)
-    (placeIn s (l .last .1 .1 .1 .1 .0) (l .last .1 .1 .1 .1 .1 .0) (l .last .1 .1 .1 .1 .1 .1 .0) (l .last .1 .1 .1 .1 .1 .1 .1 .0))
-    (d .1) (l .ensures .1 (p .number + 1)) (l .last .1 .1 .1 .1 .0) (l .last .1 .1 .1 .1 .1 .0) (l .last .1 .1 .1 .1 .1 .1 .0) (l .last .1 .1 .1 .1 .1 .1 .1 .0)
-    (k .last .1 .1 .1 .1 .1 .0) (k .last .1 .1 .1 .1 .1 .1 .0) (k .last .1 .1 .1 .1 .1 .1 .1 .0) r (λ x. refl) (l .ensures .0) (l .kept .1 .1 .1 .1 .0) (l .kept .1 .1 .1 .1 .1 .0)
-    (l .kept .1 .1 .1 .1 .1 .1 .0) (l .kept .1 .1 .1 .1 .1 .1 .1 .0) (k .kept .1 .1 .1 .1 .1 .0) (k .kept .1 .1 .1 .1 .1 .1 .0) (k .kept .1 .1 .1 .1 .1 .1 .1 .0) (pre .0) (k .ensures .0)
-    (k .ensures .1 s (line-part s (p .from) (e .line-end .result))) (k .ensures .3) (c .next-line .ensures)
+    let m = length (a .marks .now) in
+    let l = placed .place-line in
+    let starts = l .last .1 .1 .1 .1 .0 in
+    let lengths = l .last .1 .1 .1 .1 .1 .0 in
+    let values = l .last .1 .1 .1 .1 .1 .1 .0 in
+    let marks = l .last .1 .1 .1 .1 .1 .1 .1 .0 in
+    let k = kept .keep-line in
+    turn-goes m s (p .starts) (p .lengths) (p .values) (p .marks) (p .cells) (p .row) (p .aways) (length (a .cells .now)) (length (a .row .now))
+    (length (a .aways .now)) (p .c) (p .from) (p .number) (p .uses) (p .inv) test e (placeIn s starts lengths values marks) (did .d .given .1)
+    (l .ensures .1 (p .number + 1)) starts lengths values marks (k .last .1 .1 .1 .1 .1 .0) (k .last .1 .1 .1 .1 .1 .1 .0) (k .last .1 .1 .1 .1 .1 .1 .1 .0)
+    (read .read-line .ensures) (λ x. refl) (l .ensures .0) (l .kept .1 .1 .1 .1 .0) (l .kept .1 .1 .1 .1 .1 .0) (l .kept .1 .1 .1 .1 .1 .1 .0)
+    (l .kept .1 .1 .1 .1 .1 .1 .1 .0) (k .kept .1 .1 .1 .1 .1 .0) (k .kept .1 .1 .1 .1 .1 .1 .0) (k .kept .1 .1 .1 .1 .1 .1 .1 .0) (start .pre .0)
+    (k .ensures .0) (k .ensures .1 s (line-part s (p .from) (end .line-end .result))) (k .ensures .3) (c .next-line .ensures)
 
 same-length-8 : tie.Need-same-length-8 Inv-loop μ-loop
 same-length-8 c =
@@ -231,7 +246,8 @@ returns-2 c =
     let p = c .before .loop in
     let a = c .before .before .before .before .before .before .before .before .before .before .args in
     let s = a .s .now in
-    let o = turns-over (length (a .marks .now)) s (p .starts) (p .lengths) (p .values) (p .marks) (p .cells) (p .row) (p .aways) (length (a .cells .now)) (length (a .row .now))
+    let m = length (a .marks .now) in
+    let o = turns-over m s (p .starts) (p .lengths) (p .values) (p .marks) (p .cells) (p .row) (p .aways) (length (a .cells .now)) (length (a .row .now))
     (length (a .aways .now)) (p .c) (p .from) (p .number) (p .uses) (p .inv) (c .loop-test .left) in
     (o .0, o .1, o .2, p .inv .fair, p .inv .uses-fit)
 
@@ -242,14 +258,14 @@ walk-lines-spec =
     Inv-loop
     μ-loop
     loop-holds
-    line-end-requires
-    sub-line
-    part-line-start
+    (λ c κs. search needs)
+    (λ c. omega arith)
+    (λ c. search needs)
     part-line-end
-    read-line-requires
+    (λ c κs. search needs)
     add-number
     place-line-requires
-    enum-known-f
+    (λ c. search needs)
     same-length
     same-length-2
     same-length-3
@@ -258,10 +274,10 @@ walk-lines-spec =
     same-length-6
     same-length-7
     returns
-    enum-known-d
+    (λ c. search needs)
     keep-line-requires
     add-next-line
-    next-line-requires
+    (λ c κs. search needs)
     loop-less
     loop-again
     same-length-8

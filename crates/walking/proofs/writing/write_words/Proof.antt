@@ -4,26 +4,11 @@ use Rattle.walking.proofs.Words.{as-encoded, one-written, two-written, 
 use Rattle.walking.proofs.writing.write_words.Statement.{statement}
 use Rattle.walking.proofs.writing.write_words.Tie as tie
 
-encode-requires : tie.Need-encode-requires
-encode-requires c κs = search needs
-
-enum-told : tie.Need-enum-told
-enum-told c = search needs
-
 returns : tie.Need-returns
 returns c =
     let k = c .before .before in
     let a = k .before .before .args in
     as-encoded (a .i) (k .before .before .pre .0) (k .encode .ensures) (a .cells .now) (a .at) (c .enum-told .given .1)
-
-enum-known-x : tie.Need-enum-known-x
-enum-known-x c = search needs
-
-put-requires : tie.Need-put-requires
-put-requires c κs = search needs
-
-same-length : tie.Need-same-length
-same-length c = search needs
 
 returns-2 : tie.Need-returns-2
 returns-2 c =
@@ -33,21 +18,6 @@ returns-2 c =
     let a = k .before .before .args in
     one-written (a .i) (k .before .before .pre .0) (k .encode .ensures) (a .cells .now) (a .at) (d .x .given .1) (p .put .ensures)
 
-enum-known-x-2 : tie.Need-enum-known-x-2
-enum-known-x-2 c = search needs
-
-put-requires-2 : tie.Need-put-requires-2
-put-requires-2 c κs = search needs
-
-add-put : tie.Need-add-put
-add-put c = search needs
-
-put-requires-3 : tie.Need-put-requires-3
-put-requires-3 c κs = search needs
-
-same-length-2 : tie.Need-same-length-2
-same-length-2 c = search needs
-
 returns-3 : tie.Need-returns-3
 returns-3 c =
     let q = c .before .before in
@@ -56,27 +26,6 @@ returns-3 c =
     let k = d .before .before in
     let a = k .before .before .args in
     two-written (a .i) (k .before .before .pre .0) (k .encode .ensures) (a .cells .now) (a .at) (d .x2 .given .1) (p .put2 .ensures) (q .put3 .ensures)
-
-enum-known-x-3 : tie.Need-enum-known-x-3
-enum-known-x-3 c = search needs
-
-put-requires-4 : tie.Need-put-requires-4
-put-requires-4 c κs = search needs
-
-add-put-2 : tie.Need-add-put-2
-add-put-2 c = search needs
-
-put-requires-5 : tie.Need-put-requires-5
-put-requires-5 c κs = search needs
-
-add-put-3 : tie.Need-add-put-3
-add-put-3 c = search needs
-
-put-requires-6 : tie.Need-put-requires-6
-put-requires-6 c κs = search needs
-
-same-length-3 : tie.Need-same-length-3
-same-length-3 c = search needs
 
 returns-4 : tie.Need-returns-4
 returns-4 c =
@@ -93,24 +42,24 @@ pub write-words-spec : {M : Type 1} → statement M
 write-words-spec =
     tie.close
     (tie.spec
-    encode-requires
-    enum-told
+    (λ c κs. search needs)
+    (λ c. search needs)
     returns
-    enum-known-x
-    put-requires
-    same-length
+    (λ c. search needs)
+    (λ c κs. search needs)
+    (λ c. search needs)
     returns-2
-    enum-known-x-2
-    put-requires-2
-    add-put
-    put-requires-3
-    same-length-2
+    (λ c. search needs)
+    (λ c κs. search needs)
+    (λ c. search needs)
+    (λ c κs. search needs)
+    (λ c. search needs)
     returns-3
-    enum-known-x-3
-    put-requires-4
-    add-put-2
-    put-requires-5
-    add-put-3
-    put-requires-6
-    same-length-3
+    (λ c. search needs)
+    (λ c κs. search needs)
+    (λ c. search needs)
+    (λ c κs. search needs)
+    (λ c. search needs)
+    (λ c κs. search needs)
+    (λ c. search needs)
     returns-4)
