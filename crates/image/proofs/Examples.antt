@@ -21,7 +21,8 @@ marks = 0 ∷ 0 ∷ 1 ∷ 1 ∷ 1 ∷ 1 ∷ 2 ∷ 2 ∷ 2 ∷ replicate 7 0
 
 abbrev text : List ℕ
 text =
-    bytes "version=1\nsize=16\nclaimed=7\ncell=2,code,138\ncell=3,code,5\ncell=4,code,10\ncell=5,code,64\ncell=6,data,97\ncell=7,data,0\ncell=8,data,65535\n"
+    bytes "version=1\nsize=16\nclaimed=7\ncell=2,code,138\ncell=3,code,5\ncell=4,code,10\n"
+    ++ bytes "cell=5,code,64\ncell=6,data,97\ncell=7,data,0\ncell=8,data,65535\n"
 
 -- a free cell of any value, at M 1
 abbrev nothing : List ℕ

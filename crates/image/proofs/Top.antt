@@ -3,7 +3,7 @@
 use mathlib.Core.Path.{_≡_, refl, sym, ap, _∙_}
 use mathlib.Core.Bool.{Bool, true, false, cond}
 use mathlib.Core.Logic.{_↔_}
-use mathlib.Core.List.{List, [], _∷_, _++_}
+use mathlib.Core.List.{List, [], _∷_, _++_, List·Memᴰ}
 use Prim.Native.Nat.{ℕ, suc, _+_, _≤_, _<_}
 use native.Mathlib.Omega.{arith}
 use lib.Dec.{eqb}
@@ -15,6 +15,8 @@ use Rattle.image.specs.Printing.{goodLoan, refusalOf, lengthOf, Leaves, 
 use Rattle.image.specs.declared.Printed.{Printed}
 use Rattle.image.specs.declared.Printed.the-variants.{Done, BadLoan, RoomShort}
 use Rattle.image.proofs.Texts as texts
+use Rattle.image.proofs.CellLines.{LineOf}
+use Rattle.image.proofs.CellLines as CellLines
 use Rattle.image.proofs.Outcomes as outcomes
 use Rattle.image.proofs.Examples.{Examples}
 use Rattle.image.proofs.Examples as worked
@@ -63,6 +65,14 @@ module _ (memory marks room : List ℕ) where
         rw e (refl, refl, refl)
 
 -- ---- the text
+
+-- A line stands among the cell lines exactly where it is that of a claimed cell.
+pub lines-exactly : (memory marks line : List ℕ) → List·Memᴰ line (cellLines memory 0 marks) ↔ LineOf memory 0 marks line
+lines-exactly memory marks line = (CellLines.line-is memory 0 marks line, CellLines.line-has memory 0 marks line)
+
+-- They ascend: the lines of the first cells stand before those of the cells after them.
+pub lines-ascend : (memory a b : List ℕ) → cellLines memory 0 (a ++ b) ≡ cellLines memory 0 a ++ cellLines memory (0 + length a) b
+lines-ascend memory a b = CellLines.lines-append memory 0 a b
 
 -- `claimed` is how many cell lines there are.
 pub as-many-lines : (memory : List ℕ) (at : ℕ) (marks : List ℕ) → length (cellLines memory at marks) ≡ claimed marks

@@ -8,19 +8,19 @@ ghost use Rattle.ports.specs.Overwriting.{overwrite};
 ghost use Rattle.image.specs.Image.{headLines, textOf, imageText};
 ghost use Rattle.image.specs.Pieces.{kindAndValue, piece, cellsText, Wrote};
 use super::lengths::claimed_in;
-use ports::output::copy;
+use ports::output::put_text;
 
 // A text and a decimal after it.
 fn field(room: &mut [u8], at: usize, text: &[u8], n: u32) -> usize
     requires { ⌜ at + length (now text ++ decimal n) ≤ length (now room) ⌝ }
     ensures { λ r. ⌜ Wrote (now (room .entry)) at (now (text .entry) ++ decimal n) (now (room .exit)) r ⌝ }
 {
-    copy(room, at, text);
+    put_text(room, at, text);
     let written = numerals::writing::unsigned_decimal(n);
     let bytes = written.bytes;
     let start = written.start;
     let next = at + text.len();
-    copy(room, next, &bytes[start..]);
+    put_text(room, next, &bytes[start..]);
     next + (11 - start)
 }
 

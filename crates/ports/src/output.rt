@@ -21,7 +21,7 @@ pub fn put_byte(out: &mut [u8], at: usize, x: u16) -> Moved
 }
 
 // A whole text, for which there is room.
-pub fn copy(out: &mut [u8], at: usize, text: &[u8])
+fn copy(out: &mut [u8], at: usize, text: &[u8])
     requires { ⌜ at + length (now text) ≤ length (now out) ⌝ }
     ensures { λ _. ⌜ now (out .exit) ≡ overwrite (now (out .entry)) at (now (text .entry)) ⌝ }
 {
@@ -33,7 +33,7 @@ pub fn copy(out: &mut [u8], at: usize, text: &[u8])
 }
 
 // A text, if there is room for all of it.
-fn put_text(out: &mut [u8], at: usize, text: &[u8]) -> Moved
+pub fn put_text(out: &mut [u8], at: usize, text: &[u8]) -> Moved
     ensures { λ r. ⌜ passed r (now (out .exit)) ≡ textPut (now (out .entry)) at (now (text .entry)) ⌝ }
 {
     if has_room(out.len(), at, text.len()) {

@@ -55,7 +55,7 @@ fn assembled(
     fill_room(map, mark);
     let a = assembler::assemble::assemble(source, m, map);
     let line = a.line;
-    let told = head(out, at, a.refusal, line.0, a.code_cells, a.data_cells);
+    let told = head(out, at, a.refusal, line.0, a.code, a.data);
     if a.refusal == 0 {
         return changes(out, told, m, map, 0, 0, 0);
     }

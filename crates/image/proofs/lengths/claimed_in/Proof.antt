@@ -1,15 +1,14 @@
+-- What is counted and what is left to count are the whole count.
 use borrow.Author.Needs.{needs}
 use native.Mathlib.Omega.{arith}
 use mathlib.Core.Path.{_≡_}
 use mathlib.Core.Logic.{⊎-elim}
-use Prim.Native.Nat.{_+_, _-_, _≤_}
+use Prim.Native.Nat.{_+_, _-_}
 use lib.ListN.{length, drop}
 use Rattle.image.specs.Image.{claimed}
 use Rattle.image.proofs.Texts.{claimed-free, claimed-more, claimed-none, claimed-within}
 use Rattle.image.proofs.lengths.claimed_in.Statement.{statement}
 use Rattle.image.proofs.lengths.claimed_in.Tie as tie
-use Rattle.image.proofs.lengths.claimed_in.Reads as reads
-use Rattle.image.proofs.lengths.claimed_in.Lts as lts
 
 abbrev Inv-loop : tie.InvT-loop
 Inv-loop map n₀ i₀ n i = n + claimed (drop i map) ≡ claimed map
@@ -17,34 +16,30 @@ Inv-loop map n₀ i₀ n i = n + claimed (drop i map) ≡ claimed map
 abbrev μ-loop : tie.MeasureT-loop
 μ-loop map n₀ i₀ n i = length map - i
 
--- src/lengths.rt:31:5
 loop-holds : tie.Need-loop-holds Inv-loop μ-loop
 loop-holds c = search needs
 
--- src/lengths.rt:32:12
 shared-slice-read-if1 : tie.Need-shared-slice-read-if1 Inv-loop μ-loop
 shared-slice-read-if1 c = search needs
 
--- src/lengths.rt:33:13
 add-n : tie.Need-add-n Inv-loop μ-loop
-add-n c = omega (arith, claimed-within (c .before .before .before .before .args .map .now), claimed-more (c .before .before .before .before .args .map .now) (c .before .before .before .loop .i) (omega arith) (c .if1 .taken))
+add-n c =
+    let a = c .before .before .before .before .args in
+    omega (arith, claimed-within (a .map .now), claimed-more (a .map .now) (c .before .before .before .loop .i) (omega arith) (c .if1 .taken))
 
--- src/lengths.rt:35:9
 add-i : tie.Need-add-i Inv-loop μ-loop
 add-i c = search needs
 
--- src/lengths.rt:31:5
 loop-less : tie.Need-loop-less Inv-loop μ-loop
 loop-less c = search needs
 
--- src/lengths.rt:31:5
 loop-again : tie.Need-loop-again Inv-loop μ-loop
 loop-again c =
     let p = c .before .before .before in
     let marks = p .before .args .map .now in
-    ⊎-elim (λ w. omega (arith, claimed-more marks (p .loop .i) (omega arith) (w .0 .taken))) (λ w. omega (arith, claimed-free marks (p .loop .i) (omega arith) (w .0 .left))) (c .if1 .came)
+    ⊎-elim (λ w. omega (arith, claimed-more marks (p .loop .i) (omega arith) (w .0 .taken)))
+    (λ w. omega (arith, claimed-free marks (p .loop .i) (omega arith) (w .0 .left))) (c .if1 .came)
 
--- src/lengths.rt:26:1
 returns : tie.Need-returns Inv-loop μ-loop
 returns c = omega (arith, claimed-none (c .before .before .args .map .now) (c .before .loop .i) (c .loop-test .left))
 

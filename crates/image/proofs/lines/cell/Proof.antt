@@ -1,51 +1,62 @@
+-- Three texts, one behind the other (`wrote-on`, `wrote-byte`); a free cell writes none.
 use native.Mathlib.Omega.{arith}
-use mathlib.Core.Path.{ap}
-use lib.ListN.{length, length-append}
+use lib.ListN.{length-append}
 use Rattle.image.proofs.Texts.{piece-free, piece-claimed, piece-length, kind-and-value-length}
 use Rattle.image.proofs.Rooms.{wrote-none, wrote-on, wrote-byte, wrote-length}
 use borrow.Author.Needs.{needs}
 use Rattle.image.proofs.lines.cell.Statement.{statement}
 use Rattle.image.proofs.lines.cell.Tie as tie
-use Rattle.image.proofs.lines.cell.Reads as reads
-use Rattle.image.proofs.lines.cell.Lts as lts
-use Rattle.image.proofs.lines.field.Reads as field-reads
-use Rattle.image.proofs.lines.kind_and_value.Reads as kind-and-value-reads
 
--- src/lines.rt:50:9
 returns : tie.Need-returns
-returns c = rw (piece-free (c .before .before .args .address) (c .before .before .args .mark) (c .before .before .args .value) (c .if1 .taken)) (wrote-none _ _)
+returns c =
+    let a = c .before .before .args in
+    rw (piece-free (a .address) (a .mark) (a .value) (c .if1 .taken)) (wrote-none _ _)
 
--- src/lines.rt:52:32
 slice-aggregate-field : tie.Need-slice-aggregate-field
 slice-aggregate-field c = search needs
 
--- src/lines.rt:52:9
 field-requires : tie.Need-field-requires
-field-requires c κs = omega (arith, piece-length (c .before .before .before .before .args .address) (c .before .before .before .before .args .mark) (c .before .before .before .before .args .value) (c .before .before .if1 .left))
+field-requires c κs =
+    let a = c .before .before .before .before .args in
+    omega (arith, piece-length (a .address) (a .mark) (a .value) (c .before .before .if1 .left))
 
--- src/lines.rt:53:9
 kind-and-value-requires : tie.Need-kind-and-value-requires
-kind-and-value-requires c κs = omega (arith, piece-length (c .before .before .before .before .before .before .before .before .args .address) (c .before .before .before .before .before .before .before .before .args .mark) (c .before .before .before .before .before .before .before .before .args .value) (c .before .before .before .before .before .before .if1 .left), kind-and-value-length (c .before .before .before .before .before .before .before .before .args .mark) (c .before .before .before .before .before .before .before .before .args .value))
+kind-and-value-requires c κs =
+    let a = c .before .before .before .before .before .before .before .before .args in
+    omega (
+      arith,
+      piece-length (a .address) (a .mark) (a .value) (c .before .before .before .before .before .before .if1 .left),
+      kind-and-value-length (a .mark) (a .value),
+    )
 
--- src/lines.rt:54:5
 slice-write-room : tie.Need-slice-write-room
-slice-write-room c = omega (arith, piece-length (c .before .before .before .before .before .before .before .before .before .before .before .args .address) (c .before .before .before .before .before .before .before .before .before .before .before .args .mark) (c .before .before .before .before .before .before .before .before .before .before .before .args .value) (c .before .before .before .before .before .before .before .before .before .if1 .left), kind-and-value-length (c .before .before .before .before .before .before .before .before .before .before .before .args .mark) (c .before .before .before .before .before .before .before .before .before .before .before .args .value))
+slice-write-room c =
+    let p = c .before .before .before .before .before .before .before .before .before in
+    let a = p .before .before .args in
+    omega (arith, piece-length (a .address) (a .mark) (a .value) (p .if1 .left), kind-and-value-length (a .mark) (a .value))
 
--- src/lines.rt:55:5
 add-result : tie.Need-add-result
-add-result c = omega (arith, piece-length (c .before .before .before .before .before .before .before .before .before .before .before .args .address) (c .before .before .before .before .before .before .before .before .before .before .before .args .mark) (c .before .before .before .before .before .before .before .before .before .before .before .args .value) (c .before .before .before .before .before .before .before .before .before .if1 .left), kind-and-value-length (c .before .before .before .before .before .before .before .before .before .before .before .args .mark) (c .before .before .before .before .before .before .before .before .before .before .before .args .value))
+add-result c =
+    let p = c .before .before .before .before .before .before .before .before .before in
+    let a = p .before .before .args in
+    omega (arith, piece-length (a .address) (a .mark) (a .value) (p .if1 .left), kind-and-value-length (a .mark) (a .value))
 
--- src/lines.rt:43:1
 returns-2 : tie.Need-returns-2
 returns-2 c =
-    let p = piece-length (c .before .before .before .before .before .before .before .before .before .before .before .args .address) (c .before .before .before .before .before .before .before .before .before .before .before .args .mark) (c .before .before .before .before .before .before .before .before .before .before .before .args .value) (c .before .before .before .before .before .before .before .before .before .if1 .left) in
-    let k = kind-and-value-length (c .before .before .before .before .before .before .before .before .before .before .before .args .mark) (c .before .before .before .before .before .before .before .before .before .before .before .args .value) in
-    rw (piece-claimed (c .before .before .before .before .before .before .before .before .before .before .before .args .address) (c .before .before .before .before .before .before .before .before .before .before .before .args .mark) (c .before .before .before .before .before .before .before .before .before .before .before .args .value) (c .before .before .before .before .before .before .before .before .before .if1 .left))
-    (wrote-byte (c .before .before .before .before .before .before .before .before .before .before .before .args .room .now) (c .before .before .before .before .before .before .before .before .before .before .before .args .at) _ 10 (simp length-append (omega arith)) (wrote-on (c .before .before .before .before .before .before .before .before .before .before .before .args .room .now) (c .before .before .before .before .before .before .before .before .before .before .before .args .at) _ _ (omega arith) (c .before .before .before .before .before .before .field .ensures) (c .before .before .kind-and-value .ensures)))
+    let p = c .before .before .before .before .before .before in
+    let a = p .before .before .before .before .before .args in
+    let claims = p .before .before .before .if1 .left in
+    let long = piece-length (a .address) (a .mark) (a .value) claims in
+    let k = kind-and-value-length (a .mark) (a .value) in
+    let line = wrote-on (a .room .now) (a .at) _ _ (omega arith) (p .field .ensures) (c .before .before .kind-and-value .ensures) in
+    rw (piece-claimed (a .address) (a .mark) (a .value) claims)
+    (wrote-byte (a .room .now) (a .at) _ 10 (simp length-append (omega arith)) line)
 
--- src/lines.rt:43:1
 same-length : tie.Need-same-length
-same-length c = wrote-length (c .before .before .before .before .before .before .before .before .before .before .before .args .room .now) (c .before .before .before .before .before .before .before .before .before .before .before .args .at) _ (c .before .before .before .before .before .before .before .before .before .before .before .pre) (returns-2 c)
+same-length c =
+    let a = c .before .before .before .before .before .before .before .before .before .before .before .args in
+    wrote-length (a .room .now) (a .at) _ (c .before .before .before .before .before .before .before .before .before .before .before .pre)
+    (returns-2 c)
 
 pub cell-spec : {M : Type 1} → statement M
 cell-spec =

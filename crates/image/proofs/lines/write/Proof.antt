@@ -1,5 +1,5 @@
+-- The lines before the cells, then the cells behind them (`wrote-image`).
 use native.Mathlib.Omega.{arith}
-use mathlib.Core.Path.{sym}
 use Rattle.image.specs.Image.{claimed}
 use lib.ListN.{length}
 use Rattle.image.proofs.Texts.{claimed-within, head-length, image-length}
@@ -7,41 +7,37 @@ use Rattle.image.proofs.Rooms.{wrote-image}
 use borrow.Author.Needs.{needs}
 use Rattle.image.proofs.lines.write.Statement.{statement}
 use Rattle.image.proofs.lines.write.Tie as tie
-use Rattle.image.proofs.lines.write.Reads as reads
-use Rattle.image.proofs.lines.write.Lts as lts
-use Rattle.image.proofs.lengths.claimed_in.Reads as claimed-in-reads
-use Rattle.image.proofs.lines.cells.Reads as cells-reads
-use Rattle.image.proofs.lines.head.Reads as head-reads
 
--- src/lines.rt:93:18
 claimed-in-requires : tie.Need-claimed-in-requires
 claimed-in-requires c κs = search needs
 
--- src/lines.rt:93:18
 cast-number : tie.Need-cast-number
 cast-number c = omega (arith, claimed-within (c .before .before .before .before .args .map .now))
 
--- src/lines.rt:94:25
 cast-head : tie.Need-cast-head
 cast-head c = search needs
 
--- src/lines.rt:94:9
 head-requires : tie.Need-head-requires
-head-requires c κs = rw (c .before .claimed-in .ensures) (omega (arith, image-length (c .before .before .before .before .before .args .memory .now) (c .before .before .before .before .before .args .map .now), head-length (length (c .before .before .before .before .before .args .memory .now)) (claimed (c .before .before .before .before .before .args .map .now))))
+head-requires c κs =
+    let a = c .before .before .before .before .before .args in
+    rw (c .before .claimed-in .ensures)
+    (omega (arith, image-length (a .memory .now) (a .map .now), head-length (length (a .memory .now)) (claimed (a .map .now))))
 
--- src/lines.rt:95:5
 cells-requires : tie.Need-cells-requires
 cells-requires c κs =
+    let a = c .before .before .before .before .before .before .before .before .before .args in
     let e = rw (c .before .before .before .before .before .claimed-in .ensures) at (c .before .before .before .head .ensures) in
-    omega (arith, image-length (c .before .before .before .before .before .before .before .before .before .args .memory .now) (c .before .before .before .before .before .before .before .before .before .args .map .now), head-length (length (c .before .before .before .before .before .before .before .before .before .args .memory .now)) (claimed (c .before .before .before .before .before .before .before .before .before .args .map .now)))
+    omega (arith, image-length (a .memory .now) (a .map .now), head-length (length (a .memory .now)) (claimed (a .map .now)))
 
--- src/lines.rt:83:1
 same-length : tie.Need-same-length
 same-length c = search needs
 
--- src/lines.rt:83:1
 returns : tie.Need-returns
-returns c = wrote-image (c .before .before .before .before .before .before .before .before .before .before .before .before .args .room .now) (c .before .before .before .before .before .before .before .before .before .before .before .before .args .memory .now) (c .before .before .before .before .before .before .before .before .before .before .before .before .args .map .now) (rw (c .before .before .before .before .before .before .before .before .claimed-in .ensures) at (c .before .before .before .before .before .before .head .ensures)) (c .before .before .cells .ensures)
+returns c =
+    let p = c .before .before .before .before .before .before in
+    let a = p .before .before .before .before .before .before .args in
+    wrote-image (a .room .now) (a .memory .now) (a .map .now)
+    (rw (p .before .before .claimed-in .ensures) at (p .head .ensures)) (c .before .before .cells .ensures)
 
 pub write-spec : {M : Type 1} → statement M
 write-spec =
