@@ -33,6 +33,14 @@ fn tell(name: &[u8], times: u64, code: u64, data: u64, sum: u32) {
     io::write_all(1, b"\n");
 }
 
+// Up to a hundred.
+fn one_more(times: u64) -> u64 {
+    if times < 100 {
+        return times + 1;
+    }
+    times
+}
+
 // A hundred times; only those that are accepted count.
 pub(crate) fn work(name: &[u8], source: &[u8]) {
     let mut m = cells();
@@ -40,10 +48,10 @@ pub(crate) fn work(name: &[u8], source: &[u8]) {
     let mut times: u64 = 0;
     let mut code: usize = 0;
     let mut data: usize = 0;
-    for _ in 0..100 {
+    for _ in 0..100u32 {
         let r = assemble(source, &mut m, &mut map);
         if r.refusal == 0 {
-            times += 1;
+            times = one_more(times);
         }
         code = r.code;
         data = r.data;
@@ -57,12 +65,10 @@ pub(crate) fn work(name: &[u8], source: &[u8]) {
 pub(crate) fn parted(text: &[u8]) -> usize
     ensures { λ r. ⌜ r ≤ length (now (text .entry)) ⌝ }
 {
-    let mut i: usize = 0;
-    while i < text.len() {
+    for i in 0..text.len() {
         if text[i] == 0 {
             return i;
         }
-        i += 1;
     }
-    i
+    text.len()
 }
