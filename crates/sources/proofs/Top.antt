@@ -6,13 +6,15 @@ use mathlib.Core.List.{List, _∷_, _++_, map}
 use mathlib.Core.Logic.{_↔_, _⊎_, inl, inr}
 use mathlib.Core.Path.{_≡_, refl, sym, ap, ap₂, subst, _∙_}
 use lib.Dec.{eqb}
+use lib.ListN.{length}
 use borrow.Author.Tests.{eqb-true, eqb-false}
 use Rattle.tokens.specs.Lines.{Lines}
+use Rattle.tokens.proofs.Spacing.{Over}
 use Rattle.names.specs.declared.Word.the-variants as W
 use Rattle.statements.specs.Statements.{HasWord}
 use Rattle.statements.specs.FirstFailing.{Pass}
 use Rattle.statements.proofs.Labelling.{never}
-use Rattle.sources.specs.Limits.{codeMark, dataMark}
+use Rattle.sources.specs.Limits.{longestSource, codeMark, dataMark}
 use Rattle.sources.specs.Sources.{Said, SourceText}
 use Rattle.sources.specs.Placing.{Judged, judgedLine}
 use Rattle.sources.specs.Order.{Refusal, loanChecks, FirstFailing, Passing}
@@ -29,6 +31,9 @@ use Rattle.sources.proofs.Counts as Counts
 use Rattle.sources.proofs.Counts.{cellsOfMark}
 use Rattle.sources.proofs.Below as Below
 use Rattle.sources.proofs.Numbers as Numbers
+use Rattle.sources.proofs.Comments as Comments
+use Rattle.sources.proofs.Spacing as Spacing
+use Rattle.sources.proofs.Spacing.{SameLines}
 use Rattle.sources.proofs.Edges as Edges
 use Rattle.sources.proofs.Edges.{Edges}
 use Rattle.sources.proofs.Examples as Examples
@@ -174,6 +179,40 @@ pub below-end : (M N : ℕ) (source source′ : List ℕ) (above : List (List �
     → assembleOf M N source ≡ assembleOf M N source′
 below-end M N source source′ above e rest rest′ l l′ w h h′ =
     Below.below-end M N source source′ above e rest rest′ l l′ w (tells-pass _ _ (loans-tell M N source) h) (tells-pass _ _ (loans-tell M N source′) h′)
+
+-- Adding a comment, or blanks, at the end of any line of an accepted source changes no image, while the source stays as short as sources
+-- must be. Spacing.antt has the same for blanks between tokens, refusals included, and says what is not true.
+pub comment-added : (M N : ℕ) {source source′ : List ℕ} (above below : List (List ℕ)) (line tail : List ℕ) {memory marks : List ℕ}
+    → Lines source (above ++ (line ∷ below))
+    → Lines source′ (above ++ ((line ++ tail) ∷ below))
+    → Over tail
+    → length source′ ≤ longestSource
+    → Accepted M N source memory marks
+    → Accepted M N source′ memory marks
+comment-added M N {source} {source′} above below line tail {memory} {marks} l l′ o n a =
+    accepted-exactly M N source′ memory marks .0
+    (Comments.comment-accepted M N above below line tail l l′ o n (accepted-exactly M N source memory marks .1 a))
+
+-- Nor does a line of blanks and a comment alone, put anywhere.
+pub comment-line-added : (M N : ℕ) {source source′ : List ℕ} (above below : List (List ℕ)) (line : List ℕ) {memory marks : List ℕ}
+    → Lines source (above ++ below)
+    → Lines source′ (above ++ (line ∷ below))
+    → Over line
+    → length source′ ≤ longestSource
+    → Accepted M N source memory marks
+    → Accepted M N source′ memory marks
+comment-line-added M N {source} {source′} above below line {memory} {marks} l l′ o n a =
+    accepted-exactly M N source′ memory marks .0
+    (Comments.comment-line-accepted M N above below line l l′ o n (accepted-exactly M N source memory marks .1 a))
+
+-- Sources whose lines up to END have the same tokens, blanks between them apart, are assembled alike: to the same image, or to the same
+-- refusal on the same line. A blank counts only where the rules ask for directness: before a label's `:`, and between `-` and its number.
+pub blanks-changed : (M N : ℕ) {source source′ : List ℕ} {lines lines′ : List (List ℕ)} → Lines source lines → Lines source′ lines′
+    → SameLines lines lines′
+    → length source ≤ longestSource
+    → length source′ ≤ longestSource
+    → assembleOf M N source ≡ assembleOf M N source′
+blanks-changed M N l l′ same n n′ = Spacing.spacing-same M N l l′ same n n′
 
 -- Sources that are easily misread, with the paper's numbers.
 pub examples : Examples
