@@ -13,13 +13,13 @@ pub(crate) fn copy_cells(from: &[u16], to: &mut [u16])
     }
 }
 
-pub(crate) fn copy_marks(from: &[u8], to: &mut [u8])
-    requires { ⌜ length (now from) ≡ length (now to) ⌝ }
-    ensures { λ _. ⌜ now (to .exit) ≡ now (from .entry) ⌝ }
+pub(crate) fn copy_marks(marks: &[u8], map: &mut [u8])
+    requires { ⌜ length (now marks) ≡ length (now map) ⌝ }
+    ensures { λ _. ⌜ now (map .exit) ≡ now (marks .entry) ⌝ }
 {
     let mut i: usize = 0;
-    while i < to.len() {
-        to[i] = from[i];
+    while i < map.len() {
+        map[i] = marks[i];
         i += 1;
     }
 }

@@ -17,11 +17,11 @@ abbrev μ-loop : tie.MeasureT-loop
 loop-holds : tie.Need-loop-holds Inv-loop μ-loop
 loop-holds c = (omega arith, refl, (c .pre), refl)
 
-shared-slice-read-to : tie.Need-shared-slice-read-to Inv-loop μ-loop
-shared-slice-read-to c = search needs
+shared-slice-read-map : tie.Need-shared-slice-read-map Inv-loop μ-loop
+shared-slice-read-map c = search needs
 
-slice-write-to : tie.Need-slice-write-to Inv-loop μ-loop
-slice-write-to c = search needs
+slice-write-map : tie.Need-slice-write-map Inv-loop μ-loop
+slice-write-map c = search needs
 
 add-i : tie.Need-add-i Inv-loop μ-loop
 add-i c = search needs
@@ -30,13 +30,13 @@ loop-less : tie.Need-loop-less Inv-loop μ-loop
 loop-less c = search needs
 
 loop-again : tie.Need-loop-again Inv-loop μ-loop
-loop-again c = (omega arith, length-set {A = ℕ} ((c .before .before .loop .to)) ((c .before .before .loop .i)) (getD ((c .before .before .before .args .from .now)) ((c .before .before .loop .i)) 0) ∙ (c .before .before .loop .inv .1), (c .before .before .loop .inv .2), copy-more ((c .before .before .before .args .from .now)) ((c .before .before .loop .to)) ((c .before .before .loop .i)) (omega arith) (omega arith) ((c .before .before .loop .inv .3)))
+loop-again c = (omega arith, length-set {A = ℕ} ((c .before .before .loop .map)) ((c .before .before .loop .i)) (getD ((c .before .before .before .args .marks .now)) ((c .before .before .loop .i)) 0) ∙ (c .before .before .loop .inv .1), (c .before .before .loop .inv .2), copy-more ((c .before .before .before .args .marks .now)) ((c .before .before .loop .map)) ((c .before .before .loop .i)) (omega arith) (omega arith) ((c .before .before .loop .inv .3)))
 
 same-length : tie.Need-same-length Inv-loop μ-loop
 same-length c = (c .before .loop .inv .1)
 
 returns : tie.Need-returns Inv-loop μ-loop
-returns c = copy-end ((c .before .before .args .from .now)) ((c .before .loop .to)) ((c .before .loop .i)) (omega arith) (omega arith) ((c .before .loop .inv .3))
+returns c = copy-end ((c .before .before .args .marks .now)) ((c .before .loop .map)) ((c .before .loop .i)) (omega arith) (omega arith) ((c .before .loop .inv .3))
 
 pub copy-marks-spec : {M : Type 1} → statement M
 copy-marks-spec =
@@ -45,8 +45,8 @@ copy-marks-spec =
     Inv-loop
     μ-loop
     loop-holds
-    shared-slice-read-to
-    slice-write-to
+    shared-slice-read-map
+    slice-write-map
     add-i
     loop-less
     loop-again
