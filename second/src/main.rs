@@ -14,7 +14,9 @@ const USAGE: &str = "usage:
   second assemble M FILE
   second count < cases
   second show < cases
-  second speed
+  second bench LABELS > source
+      LABELS: 20 500
+  second speed [WORK]
 ";
 
 fn main() -> ExitCode {
@@ -27,7 +29,11 @@ fn main() -> ExitCode {
         ["assemble", cells, _] => assemble_file(cells),
         ["count"] => count_all(),
         ["show"] => for_each_case(|case, out| write!(out, "{}", show::show(case))),
-        ["speed"] => speed_all(),
+        ["bench", labels @ ("20" | "500")] => {
+            put(&make::bench::source(labels.parse().unwrap_or(0)), ExitCode::SUCCESS)
+        }
+        ["speed"] => speed_all(|_| true),
+        ["speed", work] => speed_all(|name| name == *work),
         _ => Err(USAGE.to_string()),
     };
     match done {
@@ -71,11 +77,20 @@ fn count_all() -> Done {
     put(&counts.to_string(), ExitCode::SUCCESS)
 }
 
-/// Each line is printed as soon as its work is done.
-fn speed_all() -> Done {
+/// Does the works whose names are wanted; each line is printed as soon as its work is done.
+fn speed_all(wanted: impl Fn(&str) -> bool) -> Done {
     let mut out = io::stdout().lock();
-    for work in &speed::WORKS {
+    let mut done = 0;
+    for work in speed::WORKS.iter().filter(|work| wanted(work.name)) {
         writeln!(out, "{}", work.line()).map_err(failed)?;
+        done += 1;
+    }
+    for work in speed::SOURCES.iter().filter(|work| wanted(work.name)) {
+        writeln!(out, "{}", work.line()).map_err(failed)?;
+        done += 1;
+    }
+    if done == 0 {
+        return Err(USAGE.to_string());
     }
     Ok(ExitCode::SUCCESS)
 }

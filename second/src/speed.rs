@@ -1,7 +1,7 @@
-//! Fixed work, to be timed beside the proved machine (docs/COMPARED.md, "Speed"): three programs
-//! without an end, so many steps of each.
+//! Fixed work, to be timed beside the proved programs (docs/COMPARED.md, "Speed"): three programs
+//! without an end, so many steps of each, and two sources, assembled so many times.
 
-use crate::assembler::assemble;
+use crate::assembler::{assemble, Accepted};
 use crate::machine::{run, Machine, Ran, Registers, Stop};
 
 /// What each program is lent: memory cells, and bytes of output room.
@@ -75,10 +75,69 @@ impl Work {
     }
 }
 
-/// Registers, then cells, then the room's bytes: each is added to 31 times the sum before it,
-/// modulo 1,000,003.
+/// What each source is lent: memory cells, and as many bytes of map.
+pub const SOURCE_CELLS: usize = 16_384;
+
+/// A source, and how often it is assembled.
+#[derive(Clone, Copy, Debug, PartialEq, Eq)]
+pub struct SourceWork {
+    pub name: &'static str,
+    pub source: &'static str,
+    pub times: u32,
+}
+
+/// Few labels that are used often, and many; 1,500 lines and about 30,000 bytes each.
+pub const SOURCES: [SourceWork; 2] = [
+    SourceWork { name: "labels_20", source: include_str!("../../bench/labels_20.ens"), times: 100 },
+    SourceWork {
+        name: "labels_500",
+        source: include_str!("../../bench/labels_500.ens"),
+        times: 100,
+    },
+];
+
+/// What assembling came to: how often it was accepted, the cells that it claimed the last time,
+/// and a sum over memory and map after that.
+#[derive(Clone, Copy, Debug, PartialEq, Eq)]
+pub struct Assembled {
+    pub times: u32,
+    pub code: u32,
+    pub data: u32,
+    pub checksum: u32,
+}
+
+impl SourceWork {
+    /// Assembles into the same memory and map again and again, as a host would lend them.
+    pub fn perform(&self) -> Assembled {
+        let mut memory = vec![0; SOURCE_CELLS];
+        let mut map = vec![0; SOURCE_CELLS];
+        let mut done = Assembled { times: 0, code: 0, data: 0, checksum: 0 };
+        for _ in 0..self.times {
+            if let Ok(accepted) = assemble(self.source.as_bytes(), &mut memory, &mut map) {
+                let Accepted { code, data } = accepted;
+                done = Assembled { times: done.times + 1, code, data, ..done };
+            }
+        }
+        let bytes = map.iter().copied().map(u16::from);
+        Assembled { checksum: sum(memory.iter().copied().chain(bytes)), ..done }
+    }
+
+    /// The line that tells what the work came to.
+    pub fn line(&self) -> String {
+        let Assembled { times, code, data, checksum } = self.perform();
+        let name = self.name;
+        format!("{}: {} times, code {}, data {}, checksum {}", name, times, code, data, checksum)
+    }
+}
+
+/// Registers, then cells, then the room's bytes.
 fn checksum(machine: &Machine) -> u32 {
     let words = machine.registers.0.iter().chain(machine.memory.iter()).copied();
     let bytes = machine.output.iter().copied().map(u16::from);
-    words.chain(bytes).fold(0, |sum, word| (31 * sum + u32::from(word)) % 1_000_003)
+    sum(words.chain(bytes))
+}
+
+/// Each is added to 31 times the sum before it, modulo 1,000,003.
+fn sum(words: impl Iterator<Item = u16>) -> u32 {
+    words.fold(0, |sum, word| (31 * sum + u32::from(word)) % 1_000_003)
 }

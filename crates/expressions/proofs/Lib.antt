@@ -6,6 +6,7 @@ pub mod Folds
 pub mod Scans
 pub mod Depths
 pub mod Ranges
+pub mod Spacing
 pub mod Examples
 pub mod Places
 pub mod Steps

@@ -8,5 +8,6 @@ pub mod Verdicts
 pub mod Numbers
 pub mod Writes
 pub mod Small
+pub mod Spacing
 pub mod Examples
 pub mod Top

@@ -8,5 +8,6 @@ pub mod Exactly
 pub mod Settled
 pub mod Encodes
 pub mod Within
+pub mod Spacing
 pub mod Examples
 pub mod Top

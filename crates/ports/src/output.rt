@@ -33,7 +33,7 @@ fn copy(out: &mut [u8], at: usize, text: &[u8])
 }
 
 // A text, if there is room for all of it.
-fn put_text(out: &mut [u8], at: usize, text: &[u8]) -> Moved
+pub fn put_text(out: &mut [u8], at: usize, text: &[u8]) -> Moved
     ensures { λ r. ⌜ passed r (now (out .exit)) ≡ textPut (now (out .entry)) at (now (text .entry)) ⌝ }
 {
     if has_room(out.len(), at, text.len()) {

@@ -76,6 +76,20 @@ pub record Examples : Type 0 where
   pub at-once : memoryFrom 0 (assembleOf 4 4 (sourceOf ("a:" ∷ "b: EQU 5" ∷ "PUSH #a" ∷ "PUSH #b" ∷ []))) ≡ 200 ∷ 5 ∷ 200 ∷ 5 ∷ []
   pub waits-on : memoryFrom 9 (assembleOf 11 11 (sourceOf ("x: ORG 9" ∷ "PUSH #x" ∷ []))) ≡ 200 ∷ 9 ∷ []
   pub end-binds : memoryFrom 0 (assembleOf 2 2 (sourceOf ("BR /x" ∷ "x: END" ∷ "FOO" ∷ []))) ≡ 1176 ∷ 2 ∷ []
+  -- a label in every kind of operand, forward and backward, two in one instruction; `$label` counts from the address after it
+  pub kinds : memoryFrom 0
+      (assembleOf 12 12
+      (sourceOf ("x: MOVE #x,/y" ∷ "MOVE #y[.IX],#x[.SP]" ∷ "BR $x" ∷ "y: CALL $y" ∷ "DATA 7" ∷ [])))
+      ≡ 139 ∷ 0 ∷ 8 ∷ 175 ∷ 8 ∷ 0 ∷ 1208 ∷ 65528 ∷ 2040 ∷ 65534 ∷ 7 ∷ 0 ∷ []
+  pub far-on : Passes ("x: EQU 32769" ∷ "BR $x" ∷ [])
+  pub too-far-on : Refuses ("x: EQU 32770" ∷ "BR $x" ∷ []) 14 2
+  pub other-case : Refuses ("x: NOP" ∷ "BR /X" ∷ []) 13 2
+  pub second-operand : Refuses ("x:" ∷ "MOVE #x,/y" ∷ []) 13 2
+  pub by-line : Refuses ("BR $z" ∷ "z: EQU 65535" ∷ "BR /y" ∷ []) 14 1
+  -- blocks that touch, and one that overlaps by a cell
+  pub touch : Passes ("ORG 2" ∷ "DATA 1,2" ∷ "ORG 0" ∷ "DATA 3,4" ∷ [])
+  pub overlap : Refuses ("ORG 2" ∷ "DATA 1,2" ∷ "ORG 0" ∷ "DATA 3,4,5" ∷ []) 12 4
+  pub reserved-free : Passes ("RES 4" ∷ "ORG 0" ∷ "DATA 1" ∷ [])
   -- "nothing is bound to 65,536"
   pub not-bound : Passes ("ORG 65535" ∷ "RES 1" ∷ "x: ORG 0" ∷ "HALT" ∷ [])
   pub equ-binds : Passes ("ORG 65535" ∷ "RES 1" ∷ "x: EQU 4" ∷ [])
@@ -108,6 +122,15 @@ examples =
       at-once = refl;
       waits-on = refl;
       end-binds = refl;
+      kinds = refl;
+      far-on = refl;
+      too-far-on = refl;
+      other-case = refl;
+      second-operand = refl;
+      by-line = refl;
+      touch = refl;
+      overlap = refl;
+      reserved-free = refl;
       not-bound = refl;
       equ-binds = refl;
       none-reserved = refl;

@@ -16,7 +16,7 @@ use Rattle.statements.specs.declared.StatementRead.the-variants.{Passes}
 use Rattle.sources.specs.Limits.{mostCells, longestSource, mostLabels, longestLabel, free}
 use Rattle.sources.specs.Sources.{spelled, Said, SourceText, Before}
 use Rattle.sources.specs.Placing.{does, Bound, Place, start, names, labelled, judgedLine, after, placeOf, bindings}
-use Rattle.sources.specs.Uses.{Value, known, unknown, valueOf, Counted, plainly, from, Use, usesOf}
+use Rattle.sources.specs.Uses.{known, unknown, valueOf, Counted, plainly, from, Use, usesOf}
 use Rattle.sources.specs.declared.Act.{Act}
 use Rattle.sources.specs.declared.Gives.the-variants.{Start}
 use Rattle.sources.specs.declared.Moves.{Moves}

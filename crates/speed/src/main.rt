@@ -1,9 +1,11 @@
 // Fixed work on the proved machine, to be timed beside the second program (docs/COMPARED.md, "Speed"): three programs
-// without an end, so many steps of each, and for each a line that tells what it came to.
+// without an end, so many steps of each; then two sources from standard input, parted by a byte 0, assembled a hundred times
+// each. For each a line that tells what it came to.
 ghost use mathlib.Core.Path.{_≡_};
 ghost use Prim.Native.Nat.{_<_};
 ghost use lib.ListN.{length};
 
+mod assembling; // sources
 mod checksum;
 mod images; // the three programs as words
 
@@ -75,8 +77,20 @@ fn work(name: &[u8], words: &[u16], budget: u32, runs: u32) {
     tell(name, done.steps, done.stop, sum);
 }
 
+// The two sources of standard input.
+fn sources(text: &[u8]) {
+    let k = assembling::parted(text);
+    assembling::work(b"labels_20", &text[..k]);
+    if k < text.len() {
+        assembling::work(b"labels_500", &text[k + 1..]);
+    }
+}
+
 fn main() {
     work(b"arithmetic", &images::ARITHMETIC, 1000000, 8);
     work(b"table", &images::TABLE, 1000000, 8);
     work(b"text", &images::TEXT, 8000, 1000);
+    let mut text = io::large_buffer();
+    let n = io::read_full(0, &mut text);
+    sources(&text[..n]);
 }

@@ -11,5 +11,6 @@ pub mod Places
 pub mod CellsGiven
 pub mod Passing
 pub mod Claims
+pub mod Spacing
 pub mod Examples
 pub mod Top

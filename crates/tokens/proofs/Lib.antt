@@ -11,5 +11,7 @@ pub mod Parted
 pub mod Meanings
 pub mod Rows
 pub mod EveryRow
+pub mod Spacing
+pub mod Respacing
 pub mod Examples
 pub mod Top

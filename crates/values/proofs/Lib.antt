@@ -4,5 +4,6 @@ pub mod Begins
 pub mod Walks
 pub mod Finds
 pub mod Within
+pub mod Spacing
 pub mod Examples
 pub mod Top

@@ -1,24 +1,15 @@
 //! Cases for the assembler.
 
 use super::random::Random;
-use super::{blocks, draw, faulty, large, mutate, nasty, source};
+use super::{blocks, draw, edges, faulty, large, late, mutate, nasty, source, values, whole};
 use crate::case::{Case, LentMemory, LentSource, CELLS_LIMIT};
 
 pub fn assemble_case(random: &mut Random) -> Case {
     let cells = source_cells(random);
-    let source = match random.below(22) {
-        20 | 21 => blocks::source(random, cells),
-        0..=6 => source::source(random, cells),
-        7..=9 => {
-            let mut source = source::source(random, cells);
-            mutate::mutate(random, &mut source);
-            source
-        }
-        10..=13 => nasty::source(random),
-        14..=16 => faulty::source(random),
-        17 | 18 => large::source(random),
-        _ => nasty::bytes(random),
-    };
+    let mut source = drawn(random, cells);
+    if random.one_in(20) {
+        source = late::late(random, &source);
+    }
     let memory = draw::memory(random, cells);
     Case::Assemble(LentSource {
         memory: LentMemory { overwritten: Vec::new(), ..memory },
@@ -28,13 +19,39 @@ pub fn assemble_case(random: &mut Random) -> Case {
     })
 }
 
+fn drawn(random: &mut Random, cells: usize) -> Vec<u8> {
+    match random.below(44) {
+        0..=6 => source::source(random, cells),
+        7..=17 => whole::source(random, cells),
+        18..=23 => {
+            let mut text = match random.below(2) {
+                0 => source::source(random, cells),
+                _ => whole::source(random, cells),
+            };
+            mutate::mutate(random, &mut text);
+            text
+        }
+        24..=27 => nasty::source(random),
+        28..=31 => faulty::source(random),
+        32..=34 => blocks::source(random, cells),
+        35 | 36 => large::whole(random),
+        37 | 38 => {
+            let text = late::told_late(random);
+            late::late(random, &text)
+        }
+        39 | 40 => values::source(random),
+        41 | 42 => edges::addresses::drawn_reach(random, cells),
+        _ => nasty::bytes(random),
+    }
+}
+
 /// Small as a rule, large once in ten, bad now and then.
 fn source_cells(random: &mut Random) -> usize {
     match random.below(60) {
         0 => *random.pick(&[0, 65_537, 65_600]),
-        1..=6 => *random.pick(&[16_384, 65_535, 65_536, 65_536]),
-        7..=10 => random.between(1, 4),
-        11..=20 => 100,
+        1..=5 => *random.pick(&[16_384, 65_535, 65_536, 65_536]),
+        6..=9 => *random.pick(&[1, 2, 2, 3, 4]),
+        10..=20 => 100,
         21..=24 => random.between(101, 3_000),
         25..=44 => random.between(16, 40),
         _ => 16,

@@ -28,6 +28,77 @@ pub fn print_case(random: &mut Random) -> Case {
     Case::Print(lent)
 }
 
+/// Images that no draw may leave out: every set of print cases begins with them.
+pub fn edges(random: &mut Random) -> Vec<Case> {
+    let mut cases = Vec::new();
+    for cells in [1, 2, 9, 10, 11, 99, 100, 101, 999, 1_000, 16_384, 65_535, 65_536] {
+        for mark in [0, 1, 2, 3, 4, 255] {
+            for at in [0, cells - 1] {
+                let mut lent = free_image(random, cells, cells);
+                lent.marks.push((at, mark));
+                lent.memory.overwritten.push((at, draw::word(random)));
+                cases.push(with_room(random, lent));
+            }
+        }
+        for map_length in [cells - 1, cells + 1, 0] {
+            let lent = free_image(random, cells, map_length);
+            cases.push(with_room(random, lent));
+        }
+    }
+    for (cells, map_length) in
+        [(0, 0), (0, 1), (65_537, 65_537), (65_537, 65_536), (65_536, 65_537), (65_600, 65_600)]
+    {
+        let lent = free_image(random, cells, map_length);
+        cases.push(with_room(random, lent));
+    }
+    // a bad mark before the first or after the last of many that are good
+    for (at, mark) in [(0, 3), (39, 3), (20, 255), (0, 0), (39, 0), (20, 1)] {
+        let mut lent = free_image(random, 40, 40);
+        lent.map_fill = 2;
+        lent.marks.push((at, mark));
+        cases.push(with_room(random, lent));
+    }
+    // every number of digits, with every room around the text's length
+    for more in 0..=4 {
+        for value in [0, 9, 10, 99, 100, 999, 1_000, 9_999, 10_000, 65_535] {
+            let mut lent = free_image(random, 12, 12);
+            lent.marks.extend([(9, 1), (10, 2)]);
+            lent.memory.overwritten.extend([(9, value), (10, value)]);
+            let length = image::text(&lent.memory.row(), &lent.map()).map_or(0, |text| text.len());
+            lent.room = length + more - 2;
+            cases.push(Case::Print(lent));
+        }
+    }
+    // all cells claimed
+    for cells in [1, 3, 10, 101, 400] {
+        for short in [0, 1] {
+            let mut lent = free_image(random, cells, cells);
+            lent.map_fill = random.between(1, 2) as u8;
+            let length = image::text(&lent.memory.row(), &lent.map()).map_or(0, |text| text.len());
+            lent.room = length - short;
+            cases.push(Case::Print(lent));
+        }
+    }
+    cases
+}
+
+/// An image of free cells, with no room yet.
+fn free_image(random: &mut Random, cells: usize, map_length: usize) -> LentImage {
+    LentImage {
+        memory: draw::memory(random, cells),
+        map_length,
+        map_fill: 0,
+        marks: Vec::new(),
+        room: 0,
+        room_fill: *random.pick(&[0, 46, 61, 10, 49, 101, 255]),
+    }
+}
+
+fn with_room(random: &mut Random, mut lent: LentImage) -> Case {
+    lent.room = room(random, &lent.memory, &lent.map());
+    Case::Print(lent)
+}
+
 /// Small as a rule, so that the text stays short.
 fn image_cells(random: &mut Random) -> usize {
     match random.below(30) {

@@ -16,6 +16,21 @@ pub fn source(random: &mut Random) -> Vec<u8> {
     text.into_bytes()
 }
 
+/// As above, for whole sources: what takes kilobytes is rare.
+pub fn whole(random: &mut Random) -> Vec<u8> {
+    let text = match random.below(200) {
+        0..=1 => very_deep(random),
+        2..=4 => many_labels(random),
+        5 => long_source(random),
+        6..=9 => many_operands(random),
+        10..=59 => deep(random),
+        60..=119 => long_name(random),
+        120..=149 => long_number(random),
+        _ => edge_of_addresses(random),
+    };
+    text.into_bytes()
+}
+
 /// 31 to 34 parentheses, closed or not, around something good or bad.
 fn deep(random: &mut Random) -> String {
     let depth = random.between(31, 34);

@@ -1,11 +1,15 @@
 //! Making cases from a seed: the same kind, count and seed give the same bytes everywhere.
 
 pub mod assemble;
+pub mod bench;
 pub mod blocks;
+pub mod covered;
 pub mod draw;
+pub mod edges;
 pub mod faulty;
 pub mod images;
 pub mod large;
+pub mod late;
 pub mod lines;
 pub mod mutate;
 pub mod nasty;
@@ -14,6 +18,8 @@ pub mod programs;
 pub mod random;
 pub mod source;
 pub mod states;
+pub mod values;
+pub mod whole;
 pub mod words;
 
 use crate::case::Case;
@@ -52,19 +58,30 @@ impl Kind {
     }
 }
 
-/// An endless row of cases.
+/// An endless row of cases. Some kinds begin with cases that no draw may leave out.
 #[derive(Clone, Debug)]
 pub struct Maker {
     kind: Kind,
     random: Random,
+    first: std::vec::IntoIter<Case>,
 }
 
 impl Maker {
     pub fn new(kind: Kind, seed: u64) -> Maker {
-        Maker { kind, random: Random::new(seed) }
+        let mut random = Random::new(seed);
+        let first = match kind {
+            Kind::Assemble => edges::all(&mut random),
+            Kind::Machine => covered::all(&mut random),
+            Kind::Print => images::edges(&mut random),
+            _ => Vec::new(),
+        };
+        Maker { kind, random, first: first.into_iter() }
     }
 
     pub fn next_case(&mut self) -> Case {
+        if let Some(case) = self.first.next() {
+            return case;
+        }
         let random = &mut self.random;
         let kind = match self.kind {
             Kind::All => *random.pick(&[

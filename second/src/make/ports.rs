@@ -48,11 +48,31 @@ const LINES: [&[u8]; 40] = [
 
 /// A line of input, without its LF.
 pub fn line(random: &mut Random) -> Vec<u8> {
+    if random.one_in(60) {
+        return long_line(random);
+    }
     match random.below(8) {
         0 => (0..random.below(9)).map(|_| random.byte()).filter(|byte| *byte != b'\n').collect(),
         1 => random.word().to_string().into_bytes(),
         2 => (random.word() as i16).to_string().into_bytes(),
         _ => random.pick(&LINES).to_vec(),
+    }
+}
+
+/// A line of so many bytes, or a few more, that is a number or nearly is.
+pub fn long_number(random: &mut Random, length: usize) -> Vec<u8> {
+    let start = random.text(&["", "", "-", "0x"]);
+    let digit = random.text(&["0", "0", "0", "9"]);
+    let end = random.text(&["7", "32768", "65535", "65536", "x", " ", "0", "\r"]);
+    format!("{}{}{}", start, digit.repeat(length), end).into_bytes()
+}
+
+/// A line of 101 to 200 bytes: a number or any text.
+fn long_line(random: &mut Random) -> Vec<u8> {
+    let length = random.between(101, 200);
+    match random.below(2) {
+        0 => long_number(random, length),
+        _ => (0..length).map(|_| random.between(32, 126) as u8).collect(),
     }
 }
 
@@ -84,6 +104,9 @@ pub fn position(random: &mut Random, length: usize) -> u64 {
 
 /// How many bytes of output there are room for.
 pub fn room(random: &mut Random) -> usize {
+    if random.one_in(16) {
+        return random.between(101, 400);
+    }
     match random.below(8) {
         0 => 0,
         1 => 1,

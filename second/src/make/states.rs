@@ -67,10 +67,16 @@ fn instruction(random: &mut Random, lent: &mut LentMachine) -> Instruction {
 
 /// An operand whose address is near an edge; registers are set to suit.
 pub fn operand(random: &mut Random, place: Place, lent: &mut LentMachine) -> Operand {
+    let kind = draw::allowed_operand(random, place, 0);
+    operand_of(random, kind, lent)
+}
+
+/// The same of a given kind, whatever its word is.
+pub fn operand_of(random: &mut Random, kind: Operand, lent: &mut LentMachine) -> Operand {
     let code = register_code(random);
     let address = draw::address(random, lent.memory.cells);
     let base = |register: u16| lent.registers[usize::from(register)];
-    match draw::allowed_operand(random, place, 0) {
+    match kind {
         Operand::Absent => Operand::Absent,
         Operand::Immediate(_) => Operand::Immediate(draw::word(random)),
         Operand::Register(_) => Operand::Register(code),
@@ -148,7 +154,7 @@ fn text_address(instruction: &Instruction, lent: &LentMachine) -> usize {
 
 /// A string for WRSTR that ends before M, at M or not at all; a line for INSTR that just fits or
 /// just does not.
-fn arrange_text(random: &mut Random, instruction: &Instruction, lent: &mut LentMachine) {
+pub fn arrange_text(random: &mut Random, instruction: &Instruction, lent: &mut LentMachine) {
     let address = text_address(instruction, lent);
     let room = lent.memory.cells.saturating_sub(address);
     match instruction.opcode {

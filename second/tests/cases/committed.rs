@@ -1,7 +1,10 @@
-//! The committed cases are still answered as they were (second/cases).
+//! The committed cases are still answered as they were, and reach what they should (second/cases).
 
 use second::answer::answer;
-use second::case;
+use second::case::{self, Case, LentSource};
+use second::count::Counts;
+use second::reply::Reply;
+use std::collections::BTreeSet;
 use std::fs::read_to_string;
 
 fn check(name: &str, count: usize) {
@@ -17,12 +20,12 @@ fn check(name: &str, count: usize) {
 
 #[test]
 fn assemble_cases() {
-    check("assemble", 1_500);
+    check("assemble", 5_000);
 }
 
 #[test]
 fn machine_cases() {
-    check("machine", 4_500);
+    check("machine", 7_000);
 }
 
 #[test]
@@ -32,5 +35,102 @@ fn line_cases() {
 
 #[test]
 fn print_cases() {
-    check("print", 200);
+    check("print", 500);
+}
+
+fn committed(name: &str) -> Vec<Case> {
+    let path = format!("{}/cases/{}.cases", env!("CARGO_MANIFEST_DIR"), name);
+    let cases = read_to_string(path).expect("the cases");
+    cases.lines().map(|line| case::read(line).expect(line)).collect()
+}
+
+fn counted(cases: &[Case]) -> Counts {
+    let mut counts = Counts::default();
+    cases.iter().for_each(|case| counts.add(case));
+    counts
+}
+
+/// The committed sources, each with its refusal and line.
+fn sources() -> Vec<(LentSource, u8, u32)> {
+    let cases = committed("assemble").into_iter();
+    cases
+        .filter_map(|case| match (answer(&case), case) {
+            (Reply::Assemble { refusal, line, .. }, Case::Assemble(lent)) => {
+                Some((lent, refusal, line))
+            }
+            _ => None,
+        })
+        .collect()
+}
+
+#[test]
+fn a_third_of_the_sources_is_accepted_and_each_refusal_is_frequent() {
+    let [by_refusal, ..] = counted(&committed("assemble")).by_group;
+    let all: u64 = by_refusal.iter().sum();
+    assert!(3 * by_refusal[0] >= all, "{:?}", by_refusal);
+    for (refusal, count) in by_refusal.iter().enumerate() {
+        // a source that is too long takes 64 KB here
+        let least = if refusal == 2 { 4 } else { 40 };
+        assert!(*count >= least, "{} only {} times", refusal, count);
+    }
+}
+
+#[test]
+fn every_refusal_of_a_line_occurs_past_line_100() {
+    let late: BTreeSet<u8> = sources()
+        .iter()
+        .filter(|(_, _, line)| *line > 100)
+        .map(|(_, refusal, _)| *refusal)
+        .collect();
+    assert_eq!(late.into_iter().collect::<Vec<u8>>(), (3..=14).collect::<Vec<u8>>());
+}
+
+#[test]
+fn sources_of_every_length_around_the_limit_and_memories_of_every_size() {
+    let all = sources();
+    for length in 32_766..=32_770 {
+        assert!(all.iter().any(|(lent, ..)| lent.source.len() == length), "{} bytes", length);
+    }
+    for cells in [1, 2, 16, 16_384, 65_535, 65_536] {
+        let accepted = |(lent, refusal, _): &&(LentSource, u8, u32)| {
+            lent.memory.cells == cells && *refusal == 0
+        };
+        assert!(all.iter().filter(accepted).count() >= 10, "accepted at {}", cells);
+        for map_length in [cells - 1, cells + 1] {
+            assert!(all.iter().any(|(lent, refusal, _)| {
+                (lent.memory.cells, lent.map_length, *refusal) == (cells, map_length, 1)
+            }));
+        }
+    }
+    for cells in [0, 65_537] {
+        assert!(all.iter().any(|(lent, refusal, _)| lent.memory.cells == cells && *refusal == 1));
+    }
+}
+
+#[test]
+fn steps_of_every_first_word_and_every_stop_of_every_opcode() {
+    let counts = counted(&committed("machine"));
+    assert_eq!((counts.first_words.len(), counts.completed.len()), (601, 601));
+    assert_eq!(counts.stops.len(), Counts::all_stops());
+}
+
+#[test]
+fn inputs_and_rooms_above_100_bytes() {
+    let (mut taken, mut written) = (0, 0);
+    for case in committed("machine") {
+        let (lent, left) = match (&case, answer(&case)) {
+            (Case::Step(lent), Reply::Step(_, left)) => (lent, left),
+            (Case::Run(_, lent), Reply::Run(_, _, left)) => (lent, left),
+            _ => continue,
+        };
+        taken += usize::from(left.input_position.saturating_sub(lent.input_position) > 100);
+        written += usize::from(left.output_position.saturating_sub(lent.output_position) > 100);
+    }
+    assert!(taken >= 20 && written >= 12, "{} and {}", taken, written);
+}
+
+#[test]
+fn every_reply_to_printing_is_frequent() {
+    let counts = counted(&committed("print"));
+    assert!(counts.by_group[5][..3].iter().all(|count| *count >= 100), "{}", counts);
 }

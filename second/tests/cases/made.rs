@@ -12,10 +12,10 @@ fn made(kind: &str, count: usize, seed: u64) -> Vec<Case> {
 }
 
 #[test]
-fn six_thousand_cases_reach_everything() {
+fn some_thousand_cases_reach_everything() {
     let mut counts = Counts::default();
-    for case in made("all", 6_000, 2) {
-        counts.add(&case);
+    for case in made("all", 6_000, 2).iter().chain(&made("assemble", 1_500, 2)) {
+        counts.add(case);
     }
     let reached = |group: usize, numbers: &[usize]| {
         for number in numbers {
@@ -47,9 +47,28 @@ fn four_thousand_lines_reach_every_refusal_of_a_line() {
     }
 }
 
+/// What the papers leave possible for an opcode's step, and nothing else, occurs.
+#[test]
+fn no_step_comes_to_what_is_not_listed() {
+    let mut counts = Counts::default();
+    for case in made("step", 30_000, 5) {
+        counts.add(&case);
+    }
+    for opcode in second::isa::opcode::ALL {
+        let listed = second::make::covered::stops(opcode);
+        for (_, stop, completed) in counts.stops.iter().filter(|(of, ..)| *of == opcode.number()) {
+            let found = |listed: &(second::machine::Stop, bool)| {
+                (listed.0.number(), listed.1) == (*stop, *completed)
+            };
+            assert!(listed.iter().any(found), "{:?} {} {}", opcode, stop, completed);
+        }
+    }
+}
+
 #[test]
 fn case_lines_read_back_to_the_same_case() {
-    for case in made("all", 3_000, 3) {
+    let kinds = [("all", 3_000), ("assemble", 1_400), ("machine", 1_600), ("print", 300)];
+    for case in kinds.iter().flat_map(|(kind, count)| made(kind, *count, 3)) {
         let line = case.to_string();
         assert_eq!(case::read(&line), Ok(case), "{}", line);
     }
@@ -88,13 +107,13 @@ fn the_same_seed_makes_the_same_cases() {
 }
 
 const HASHES: [&str; 9] = [
-    "c95dc4cb425c626c",
+    "9dc927a5533a5a0f",
     "33aaa0e3d1dfb997",
     "42c4d3d0dd05232d",
-    "51a30894bfd2503c",
-    "85e076ca8073a6c5",
-    "ee6565f8267ad2a2",
-    "968e16bfecc8f26a",
-    "fa39e1935c92c659",
+    "cd8e5ef9c09fce58",
+    "52baa4450c0014f9",
+    "091438673e1c7f92",
+    "08bbacac1c166655",
+    "cf326e2ad1615171",
     "555976586a8a1643",
 ];

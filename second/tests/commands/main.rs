@@ -59,12 +59,24 @@ fn cases_are_made_answered_counted_and_shown() {
 
 #[test]
 fn what_is_not_understood_ends_with_code_2() {
-    for arguments in
-        [&[][..], &["make", "all", "x", "1"], &["make", "none", "1", "1"], &["nothing"]]
-    {
+    for arguments in [
+        &[][..],
+        &["make", "all", "x", "1"],
+        &["make", "none", "1", "1"],
+        &["nothing"],
+        &["bench", "7"],
+        &["speed", "x"],
+    ] {
         assert_eq!(second(arguments, "").status.code(), Some(2));
     }
     assert_eq!(second(&["answer"], "E 39 0 0 0 0\nX\n").status.code(), Some(2));
     assert_eq!(printed(&["answer"], "E 39 0 0 0 0\nE 1 0 0 0 0\n"), "5\n0 1 64\n");
     assert_eq!(printed(&["answer"], ""), "");
+}
+
+#[test]
+fn one_work_is_done_by_its_name() {
+    let line = printed(&["speed", "labels_20"], "");
+    assert!(line.starts_with("labels_20: 100 times, code ") && line.lines().count() == 1);
+    assert_eq!(printed(&["bench", "500"], "").lines().count(), 1_500);
 }

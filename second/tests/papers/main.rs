@@ -9,6 +9,7 @@ mod lines;
 mod loans;
 mod order;
 mod runs;
+mod sources;
 mod steps;
 mod support;
 mod table;

@@ -1,0 +1,3 @@
+-- Laws.
+pub mod Sizes
+pub mod Words

@@ -1,0 +1,2 @@
+-- The program's own rule: which M it takes.
+pub mod Sizes

@@ -1,0 +1,6 @@
+-- Laws of the definitions, by topic; Top.antt restates what the crate promises.
+pub mod Rows
+pub mod Outcomes
+pub mod Walks
+pub mod Promised
+pub mod Top

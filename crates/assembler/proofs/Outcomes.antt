@@ -1,0 +1,41 @@
+-- Reply, memory and map by what the parts answer.
+use Prim.Native.Nat.{ℕ}
+use mathlib.Core.List.{List}
+use mathlib.Core.Path.{_≡_, sym, ap₂, subst, _∙_}
+use Rattle.sources.specs.Limits.{codeMark, dataMark}
+use Rattle.sources.specs.Order.{_on_}
+use Rattle.sources.specs.Image.{cellsMarked}
+use Rattle.sources.specs.Assembling.{Verdict, passes, refused}
+use Rattle.sources.specs.declared.Line.{Line}
+use Rattle.settling.specs.Settling.{Settles}
+use Rattle.settling.specs.declared.Settled.{Settled}
+use Rattle.settling.specs.declared.Settled.the-variants as S
+use Rattle.assembler.specs.Promise.{Told, refusal}
+use Rattle.assembler.specs.Parts.{Outcome, outcomeBy}
+
+module _ (memory map : List ℕ) where
+  abbrev pub with : Told → List ℕ → List ℕ → Outcome
+  with t m k = record { reply = t; memory = m; map = k }
+
+  -- memory and map are copies, and the counts those of the map
+  pub accepted-as : (c d : ℕ) (m k image marks : List ℕ) → c ≡ cellsMarked codeMark marks → d ≡ cellsMarked dataMark marks → m ≡ image → k ≡ marks
+      → with (record { number = 0; line = 0; code-cells = c; data-cells = d }) m k ≡ outcomeBy passes image marks memory map
+  accepted-as c d m k image marks e f g h = rw (e, f, g, h)
+
+  -- a refusal leaves both as they were
+  pub refused-as : (t : Told) (f : ℕ) (l : Line) (v : Verdict) (image marks : List ℕ) → t ≡ refusal (f on l .0) → v ≡ refused (f on l .0)
+      → with t memory map ≡ outcomeBy v image marks memory map
+  refused-as t f l v image marks e g = rw (e, g)
+
+  pub not-settled : (r : Settled) (f : ℕ) (l : Line) (v : Verdict) (image cells marks : List ℕ) (t : Told) → r ≡ S.Refused f l
+      → Settles v image cells r
+      → t ≡ refusal (f on l .0)
+      → with t memory map ≡ outcomeBy v image marks memory map
+  not-settled r f l v image cells marks t e s g = refused-as t f l v image marks g (subst (Settles v image cells) e s)
+
+  pub all-settled : (r : Settled) (v : Verdict) (image cells marks : List ℕ) (o : Outcome) → r ≡ S.Done → Settles v image cells r
+      → o ≡ outcomeBy passes cells marks memory map
+      → o ≡ outcomeBy v image marks memory map
+  all-settled r v image cells marks o e s g =
+      let h = subst (Settles v image cells) e s in
+      g ∙ ap₂ (λ (w : Verdict) (m : List ℕ). outcomeBy w m marks memory map) (sym (h .0)) (h .1)

@@ -1,0 +1,103 @@
+-- What `assemble` promises (demands 1, 2 and 3), restated from its promise `Replies` alone.
+use Prim.Native.Nat.{ℕ}
+use mathlib.Core.List.{List}
+use mathlib.Core.Logic.{_↔_}
+use mathlib.Core.Path.{_≡_, sym, ap, subst, _∙_}
+use native.Mathlib.Omega.{arith}
+use lib.ListN.{length}
+use Rattle.sources.specs.Limits.{codeMark, dataMark}
+use Rattle.sources.specs.Sources.{Said}
+use Rattle.sources.specs.Order.{Refusal, FirstFailing, Passing}
+use Rattle.sources.specs.Image.{Accepted, cellsMarked}
+use Rattle.sources.proofs.Top as sources
+use Rattle.assembler.specs.Promise.{Told, told, acceptance, refusal, Replies, accepts, refuses}
+use Rattle.assembler.specs.declared.Reply.{Reply}
+
+-- a reply's numbers are all of it
+same-reply : (r s : Reply) → told r ≡ told s → r ≡ s
+same-reply r s e = ap back e
+  where
+    back : Told → Reply
+    back t = record { refusal = t .number; line = record { 0 = t .line }; code = t .code-cells; «data» = t .data-cells }
+
+module _ {source memory map : List ℕ} where
+  -- ---- two replies that meet the promise coincide: the numbers, the line, memory and map
+
+  pub one-reply : {r r′ : Reply} {m k m′ k′ : List ℕ} → Replies source memory map r m k → Replies source memory map r′ m′ k′
+      → (r ≡ r′) × (m ≡ m′) × (k ≡ k′)
+  one-reply {r} {r′} (accepts a e) (accepts b f) =
+      let u = sources.one-image-only (length memory) (length map) source a b in
+      (same-reply r r′ (e ∙ ap acceptance (u .1) ∙ sym f), u .0, u .1)
+  one-reply (accepts a e) (refuses why b f g h) = absurd (sources.never-both (length memory) (length map) source a b)
+  one-reply (refuses why b f g h) (accepts a e) = absurd (sources.never-both (length memory) (length map) source a b)
+  one-reply {r} {r′} (refuses why b f g h) (refuses why′ b′ f′ g′ h′) =
+      let u = sources.one-refusal (length memory) (length map) source b b′ in
+      (same-reply r r′ (f ∙ ap refusal u ∙ sym f′), g ∙ sym g′, h ∙ sym h′)
+
+  module _ {r : Reply} {memory′ map′ : List ℕ} (reply : Replies source memory map r memory′ map′) where
+    -- ---- accepted exactly when the rules give the source a reading that passes every check
+
+    -- The number is 0 exactly then,
+    pub accepted-exactly : (r .refusal ≡ 0) ↔ ((xs : List Said) × Passing (length memory) (length map) source xs)
+    accepted-exactly = (out reply, λ h. back reply (h .1))
+      where
+        out : Replies source memory map r memory′ map′ → r .refusal ≡ 0 → (xs : List Said) × Passing (length memory) (length map) source xs
+        out (accepts a e) z = (a .reading, a .passing)
+        out (refuses why f e g h) z =
+            let n = sources.refusal-numbered f in
+            let q : r .refusal ≡ why .number = ap (λ (t : Told). t .number) e in
+            absurd (omega (arith, n .0, q, z))
+
+        back : Replies source memory map r memory′ map′ → {xs : List Said} → Passing (length memory) (length map) source xs → r .refusal ≡ 0
+        back (accepts a e) p = ap (λ (t : Told). t .number) e
+        back (refuses why f e g h) p = absurd (sources.passing-never (length memory) (length map) source p f)
+
+    -- and then memory and map are the image that this reading defines.
+    pub accepted-image : r .refusal ≡ 0 → Accepted (length memory) (length map) source memory′ map′
+    accepted-image z = out reply
+      where
+        out : Replies source memory map r memory′ map′ → Accepted (length memory) (length map) source memory′ map′
+        out (accepts a e) = a
+        out (refuses why f e g h) =
+            let n = sources.refusal-numbered f in
+            let q : r .refusal ≡ why .number = ap (λ (t : Told). t .number) e in
+            absurd (omega (arith, n .0, q, z))
+
+    -- The counts are the numbers of cells marked 1 and 2, which are those that the source's instructions and DATA give.
+    pub counts-marked : r .refusal ≡ 0 → (r .code ≡ cellsMarked codeMark map′) × (r .data ≡ cellsMarked dataMark map′)
+    counts-marked z = out reply
+      where
+        out : Replies source memory map r memory′ map′ → (r .code ≡ cellsMarked codeMark map′) × (r .data ≡ cellsMarked dataMark map′)
+        out (accepts a e) = (ap (λ (t : Told). t .code-cells) e, ap (λ (t : Told). t .data-cells) e)
+        out (refuses why f e g h) =
+            let n = sources.refusal-numbered f in
+            let q : r .refusal ≡ why .number = ap (λ (t : Told). t .number) e in
+            absurd (omega (arith, n .0, q, z))
+
+    -- ---- refused: the first check that fails, and nothing lent has changed
+
+    pub refused-first : (r .refusal ≡ 0 → ⊥) → FirstFailing (length memory) (length map) source (record { number = r .refusal; line = r .line .0 })
+    refused-first n = out reply
+      where
+        out : Replies source memory map r memory′ map′ → FirstFailing (length memory) (length map) source (record { number = r .refusal; line = r .line .0 })
+        out (accepts a e) = absurd (n (ap (λ (t : Told). t .number) e))
+        out (refuses why f e g h) =
+            let q : why ≡ record { number = r .refusal; line = r .line .0 } = sym (ap (λ (t : Told). record { number = t .number; line = t .line }) e) in
+            subst (λ (w : Refusal). FirstFailing (length memory) (length map) source w) q f
+
+    pub refused-keeps : (r .refusal ≡ 0 → ⊥) → (memory′ ≡ memory) × (map′ ≡ map) × (r .code ≡ 0) × (r .data ≡ 0)
+    refused-keeps n = out reply
+      where
+        out : Replies source memory map r memory′ map′ → (memory′ ≡ memory) × (map′ ≡ map) × (r .code ≡ 0) × (r .data ≡ 0)
+        out (accepts a e) = absurd (n (ap (λ (t : Told). t .number) e))
+        out (refuses why f e g h) = (g, h, ap (λ (t : Told). t .code-cells) e, ap (λ (t : Told). t .data-cells) e)
+
+-- An accepted image depends on source and M alone: what memory and map held plays no part.
+pub source-and-M-alone : {source memory map memory₂ map₂ m k m₂ k₂ : List ℕ} {r r₂ : Reply} → Replies source memory map r m k
+    → Replies source memory₂ map₂ r₂ m₂ k₂
+    → length memory ≡ length memory₂
+    → r .refusal ≡ 0
+    → r₂ .refusal ≡ 0
+    → (m ≡ m₂) × (k ≡ k₂)
+source-and-M-alone {source} {map₂ = map₂} {m₂ = m₂} {k₂ = k₂} p q e z z₂ =
+    sources.source-and-M-alone (accepted-image p z) (subst (λ (n : ℕ). Accepted n (length map₂) source m₂ k₂) (sym e) (accepted-image q z₂))

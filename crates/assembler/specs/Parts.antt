@@ -1,0 +1,20 @@
+-- What the parts of `assemble` promise one another: reply, memory and map by a verdict.
+use Prim.Native.Nat.{ℕ}
+use mathlib.Core.List.{List}
+use Rattle.sources.specs.Assembling.{Verdict, passes, refused}
+use Rattle.assembler.specs.Promise.{Told, told, acceptance, refusal}
+use Rattle.assembler.specs.declared.Reply.{Reply}
+
+-- a reply with memory and map
+pub record Outcome : Type 0 where
+  pub reply : Told
+  pub memory : List ℕ
+  pub map : List ℕ
+
+abbrev pub outcome : Reply → List ℕ → List ℕ → Outcome
+outcome r memory map = record { reply = told r; memory = memory; map = map }
+
+-- by a verdict: the image, or memory and map as they were
+abbrev pub outcomeBy : Verdict → List ℕ → List ℕ → List ℕ → List ℕ → Outcome
+outcomeBy passes image marks memory map = record { reply = acceptance marks; memory = image; map = marks }
+outcomeBy (refused why) image marks memory map = record { reply = refusal why; memory = memory; map = map }

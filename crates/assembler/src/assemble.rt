@@ -1,0 +1,168 @@
+// A source to memory and map. Nothing lent is written before acceptance is certain: cells and marks are made in rows of our own.
+ghost use mathlib.Core.Path.{_≡_};
+ghost use Prim.Native.Nat.{_+_, _*_, _≤_, _<_};
+ghost use lib.ListN.{length, replicate};
+ghost use Rattle.tokens.specs.Reading.{linesOf};
+ghost use Rattle.labels.specs.Labels.{words, zipped};
+ghost use Rattle.sources.specs.Placing.{start};
+ghost use Rattle.sources.specs.Order.{_on_};
+ghost use Rattle.sources.specs.Assembling.{passes, andThen, upToEnd, walkLines, workOf, lateVerdict, memoryOf, usesVerdict, filled};
+ghost use Rattle.uses.specs.Held.{usesHeld};
+ghost use Rattle.assembler.specs.Promise.{told, refusal, Replies};
+ghost use Rattle.assembler.specs.Parts.{outcome, outcomeBy};
+use super::Reply;
+use super::copying::copy_cells;
+use super::copying::copy_marks;
+use super::counting::counted;
+use settling::Settled;
+use settling::settle::settle;
+use sources::Line;
+use walking::Walked;
+use walking::walk::walk;
+
+// "M from 1 to 65,536"; "Source is at most 32,768 bytes"
+const MOST_CELLS: usize = 65536;
+
+const LONGEST_SOURCE: usize = 32768;
+
+fn refused(number: u8, line: Line) -> Reply
+    ensures { λ r. ⌜ told r ≡ refusal (number on line .0) ⌝ }
+{
+    Reply {
+        refusal: number,
+        line: line,
+        code: 0,
+        data: 0,
+    }
+}
+
+// Acceptance: the whole memory and the whole map are rewritten.
+fn accept(cells: &[u16], marks: &[u8], memory: &mut [u16], map: &mut [u8]) -> Reply
+    requires { ⌜ (length (now cells) ≡ length (now memory)) × (length (now marks) ≡ length (now map)) ⌝ }
+    ensures { λ r. ⌜ outcome r (now (memory .exit)) (now (map .exit)) ≡ outcomeBy passes (now (cells .entry)) (now (marks .entry)) (now (memory .entry)) (now (map .entry)) ⌝ }
+{
+    copy_cells(cells, memory);
+    copy_marks(marks, map);
+    let code = counted(marks, 1);
+    let data = counted(marks, 2);
+    Reply {
+        refusal: 0,
+        line: Line(0),
+        code: code,
+        data: data,
+    }
+}
+
+// Every line has passed: labels are settled, then the source is accepted.
+fn settle_and_accept(
+    s: &[u8],
+    starts: &[u16],
+    lengths: &[u8],
+    values: &[u16],
+    labels: usize,
+    row: &[u16],
+    aways: &[u8],
+    uses: usize,
+    cells: &mut [u16],
+    marks: &[u8],
+    memory: &mut [u16],
+    map: &mut [u8],
+) -> Reply
+    requires { ⌜ (labels ≤ length (now starts)) × (labels ≤ length (now lengths)) × (labels ≤ length (now values)) × (uses ≤ 100000) × (4 * uses ≤ length (now row)) × (uses ≤ length (now aways)) × (length (now cells) ≡ length (now memory)) × (length (now marks) ≡ length (now map)) ⌝ }
+    ensures { λ r. ⌜ outcome r (now (memory .exit)) (now (map .exit)) ≡ outcomeBy (usesVerdict (zipped (words (now (s .entry)) (now (starts .entry)) (now (lengths .entry)) labels) (now (values .entry))) (usesHeld (now (s .entry)) (now (row .entry)) (now (aways .entry)) uses)) (filled (zipped (words (now (s .entry)) (now (starts .entry)) (now (lengths .entry)) labels) (now (values .entry))) (usesHeld (now (s .entry)) (now (row .entry)) (now (aways .entry)) uses) (now (cells .entry))) (now (marks .entry)) (now (memory .entry)) (now (map .entry)) ⌝ }
+{
+    match settle(s, starts, lengths, values, labels, row, aways, uses, cells) {
+        Settled::Refused(f, l) => {
+            return refused(f, l);
+        }
+        Settled::Done => {
+            return accept(cells, marks, memory, map);
+        }
+    }
+}
+
+// All of it, over rows that are lent.
+fn assemble_over(
+    s: &[u8],
+    starts: &mut [u16],
+    lengths: &mut [u8],
+    values: &mut [u16],
+    marks: &mut [u8],
+    cells: &mut [u16],
+    row: &mut [u16],
+    aways: &mut [u8],
+    memory: &mut [u16],
+    map: &mut [u8],
+) -> Reply
+    requires { ⌜ (length (now s) ≤ 32768) × (length (now starts) ≡ 512) × (length (now lengths) ≡ 512) × (length (now values) ≡ 512) × (length (now marks) ≤ 65536) × (now marks ≡ replicate (length (now marks)) 0) × (now cells ≡ replicate (length (now marks)) 0) × (131080 ≤ length (now row)) × (32770 ≤ length (now aways)) × (length (now memory) ≡ length (now marks)) × (length (now map) ≡ length (now marks)) ⌝ }
+    ensures { λ r. ⌜ outcome r (now (memory .exit)) (now (map .exit)) ≡ outcomeBy (andThen (walkLines (length (now (marks .entry))) 1 (start (length (now (marks .entry)))) (upToEnd (linesOf (now (s .entry))))) (lateVerdict (workOf (length (now (marks .entry))) (now (s .entry))) (length (upToEnd (linesOf (now (s .entry))))))) (memoryOf (workOf (length (now (marks .entry))) (now (s .entry)))) (workOf (length (now (marks .entry))) (now (s .entry)) .place .marks) (now (memory .entry)) (now (map .entry)) ⌝ }
+{
+    match walk(s, starts, lengths, values, marks, cells, row, aways) {
+        Walked::Refused(f, l) => {
+            return refused(f, l);
+        }
+        Walked::Passes(labels, uses) => {
+            return settle_and_accept(
+                s,
+                starts,
+                lengths,
+                values,
+                labels,
+                row,
+                aways,
+                uses,
+                cells,
+                marks,
+                memory,
+                map,
+            );
+        }
+    }
+}
+
+// The same over rows of our own: 512 labels, a map and a memory of 65,536 cells, and as many labels in operands as a source can name.
+fn assemble_lent(s: &[u8], memory: &mut [u16], map: &mut [u8]) -> Reply
+    requires { ⌜ (length (now s) ≤ 32768) × (length (now memory) ≤ 65536) × (length (now map) ≡ length (now memory)) ⌝ }
+    ensures { λ r. ⌜ outcome r (now (memory .exit)) (now (map .exit)) ≡ outcomeBy (andThen (walkLines (length (now (memory .entry))) 1 (start (length (now (memory .entry)))) (upToEnd (linesOf (now (s .entry))))) (lateVerdict (workOf (length (now (memory .entry))) (now (s .entry))) (length (upToEnd (linesOf (now (s .entry))))))) (memoryOf (workOf (length (now (memory .entry))) (now (s .entry)))) (workOf (length (now (memory .entry))) (now (s .entry)) .place .marks) (now (memory .entry)) (now (map .entry)) ⌝ }
+{
+    let m = memory.len();
+    let mut starts = [0u16; 512];
+    let mut lengths = [0u8; 512];
+    let mut values = [0u16; 512];
+    let mut marks = [0u8; 65536];
+    let mut cells = [0u16; 65536];
+    let mut row = [0u16; 131080];
+    let mut aways = [0u8; 32770];
+    assemble_over(
+        s,
+        &mut starts,
+        &mut lengths,
+        &mut values,
+        &mut marks[..m],
+        &mut cells[..m],
+        &mut row,
+        &mut aways,
+        memory,
+        map,
+    )
+}
+
+// Assembles a source into a lent memory and map, or refuses it and leaves both as they were.
+pub fn assemble(source: &[u8], memory: &mut [u16], map: &mut [u8]) -> Reply
+    ensures { λ r. ⌜ Replies (now (source .entry)) (now (memory .entry)) (now (map .entry)) r (now (memory .exit)) (now (map .exit)) ⌝ }
+{
+    let m = memory.len();
+    if m == 0 {
+        return refused(1, Line(0));
+    }
+    if MOST_CELLS < m {
+        return refused(1, Line(0));
+    }
+    if map.len() != m {
+        return refused(1, Line(0));
+    }
+    if LONGEST_SOURCE < source.len() {
+        return refused(2, Line(0));
+    }
+    assemble_lent(source, memory, map)
+}

@@ -1,0 +1,27 @@
+use borrow.Author.Tests.{lt-ltb, le-ltb, le-leb, lt-leb, eq-eqb, ne-eqb, leb-true, leb-false, ltb-true, ltb-false}
+use mathlib.Core.Path.{_≡_, refl, sym, ap, ap₂, subst, _∙_}
+use mathlib.Core.List.{List, [], _∷_, _++_}
+use mathlib.Core.Bool.{Bool, true, false}
+use native.Mathlib.Omega.{arith}
+use Prim.Native.Nat.{ℕ, _+_, _*_, _-_, _≤_, _<_}
+use lib.ListN.{length, getD, drop, take, set, replicate, List·getD-eq-default}
+use borrow.Author.Needs.{needs}
+use Rattle.labels.proofs.finding.byte.Statement.{statement}
+use Rattle.labels.proofs.finding.byte.Tie as tie
+use Rattle.labels.proofs.finding.byte.Reads as reads
+use Rattle.labels.proofs.finding.byte.Lts as lts
+
+-- src/lib.rt:37:16
+shared-slice-read-result : tie.Need-shared-slice-read-result
+shared-slice-read-result c = search needs
+
+-- src/lib.rt:37:9
+returns : tie.Need-returns
+returns c = search needs
+
+-- src/lib.rt:33:1
+returns-2 : tie.Need-returns-2
+returns-2 c = sym (List·getD-eq-default ((c .before .args .s .now)) 0 ((c .if1 .left)))
+
+pub byte-spec : {M : Type 1} → statement M
+byte-spec = tie.close (tie.spec shared-slice-read-result returns returns-2)

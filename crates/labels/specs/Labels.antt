@@ -1,0 +1,35 @@
+-- The labels that are held, as words, and a word's place among them.
+use Prim.Native.Nat.{ℕ, zero, suc, _+_, _≤_}
+use mathlib.Core.Bool.{cond}
+use mathlib.Core.List.{List, [], _∷_}
+use mathlib.Core.Path.{_≡_}
+use lib.ListN.{length, getD}
+use Rattle.sources.specs.Placing.{Bound}
+use Rattle.sources.specs.Uses.{same}
+
+-- the n bytes from a place on
+unfoldable pub window : List ℕ → ℕ → ℕ → List ℕ
+window s a zero = []
+window s a (suc n) = getD s a 0 ∷ window s (a + 1) n
+
+-- a line is the part of the source from a place on
+abbrev pub Part : List ℕ → ℕ → List ℕ → Type 0
+Part s from line = (a n : ℕ) → a + n ≤ length line → window line a n ≡ window s (from + a) n
+
+-- the words at n places, given by their starts and lengths
+unfoldable pub words : List ℕ → List ℕ → List ℕ → ℕ → List (List ℕ)
+words s xs ls zero = []
+words s [] ls (suc n) = []
+words s (a ∷ xs) [] (suc n) = []
+words s (a ∷ xs) (l ∷ ls) (suc n) = window s a l ∷ words s xs ls n
+
+-- how many labels come before the word's; all of them if it is none of them
+unfoldable pub placeIn : List ℕ → List (List ℕ) → ℕ
+placeIn w [] = 0
+placeIn w (x ∷ xs) = cond (same x w) 0 (suc (placeIn w xs))
+
+-- names with their values
+unfoldable pub zipped : List (List ℕ) → List ℕ → List Bound
+zipped [] vs = []
+zipped (w ∷ ws) [] = []
+zipped (w ∷ ws) (v ∷ vs) = record { name = w; value = v } ∷ zipped ws vs

@@ -1,0 +1,61 @@
+// A name among the labels (specs/Labels.antt).
+ghost use mathlib.Core.Path.{_≡_};
+ghost use Prim.Native.Nat.{_≤_, _<_};
+ghost use lib.ListN.{length, getD};
+ghost use Rattle.sources.specs.Uses.{same};
+ghost use Rattle.labels.specs.Labels.{window, placeIn, words};
+
+// The byte at a place, 0 past the end.
+fn byte(s: &[u8], i: usize) -> u8
+    ensures { λ r. ⌜ r ≡ getD (now (s .entry)) i 0 ⌝ }
+{
+    if i < s.len() {
+        return s[i];
+    }
+    0
+}
+
+// Whether the n bytes of s at a are the m bytes of t at b.
+fn same_name(s: &[u8], a: usize, n: usize, t: &[u8], b: usize, m: usize) -> bool
+    requires { ⌜ (a < 100000) × (b < 100000) × (n < 100000) ⌝ }
+    ensures { λ r. ⌜ r ≡ same (window (now (s .entry)) a n) (window (now (t .entry)) b m) ⌝ }
+{
+    if n != m {
+        return false;
+    }
+    let mut i: usize = 0;
+    while i < n {
+        let x = byte(s, a + i);
+        let y = byte(t, b + i);
+        if x != y {
+            return false;
+        }
+        i += 1;
+    }
+    true
+}
+
+// The place of a name of the line among the labels of the source; how many there are, if it is none of them.
+pub fn find(
+    s: &[u8],
+    starts: &[u16],
+    lengths: &[u8],
+    count: usize,
+    line: &[u8],
+    start: usize,
+    size: usize,
+) -> usize
+    requires { ⌜ (start < 100000) × (size < 100000) × (count ≤ length (now starts)) × (count ≤ length (now lengths)) ⌝ }
+    ensures { λ r. ⌜ r ≡ placeIn (window (now (line .entry)) start size) (words (now (s .entry)) (now (starts .entry)) (now (lengths .entry)) count) ⌝ }
+{
+    let mut i: usize = 0;
+    while i < count {
+        let a = starts[i] as usize;
+        let n = lengths[i] as usize;
+        if same_name(s, a, n, line, start, size) {
+            return i;
+        }
+        i += 1;
+    }
+    i
+}

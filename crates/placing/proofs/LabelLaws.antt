@@ -1,0 +1,145 @@
+-- A line's own label, by its place in the source.
+use Prim.Native.Nat.{ℕ, zero, suc, _+_, _-_, _≤_, _<_}
+use mathlib.Core.Bool.{Bool, true, false, cond, _||_}
+use mathlib.Core.List.{List, [], _∷_, _++_, map}
+use mathlib.Core.Path.{_≡_, refl, sym, ap, ap₂, _∙_}
+use native.Mathlib.Omega.{arith}
+use lib.Dec.{ltb, leb}
+use lib.ListN.{length, getD, take, drop, set, take-append-drop}
+use lib.Seq.{slice, slice-empty, slice-cons, take-append-le, drop-append-le, length-take-le, length-slice}
+use borrow.Author.Tests.{lt-ltb, le-ltb, ltb-true, ltb-false}
+use Rattle.values.specs.declared.LabelIn.the-variants.{Named}
+use Rattle.values.specs.declared.Name.{Name}
+use Rattle.statements.specs.Reading.{lineRead}
+use Rattle.statements.proofs.Top as Statements
+use Rattle.sources.specs.Sources.{spelled}
+use Rattle.sources.specs.Placing.{Bound, Place, names, labelled}
+use Rattle.sources.specs.Uses.{same}
+use Rattle.sources.specs.Order.{_on_}
+use Rattle.sources.specs.Assembling.{passes, refused, firstOf, among, nameVerdict, labelVerdict}
+use Rattle.labels.specs.Labels.{window, words, placeIn, zipped}
+use Rattle.labels.proofs.Laws.{length-words, words-snoc}
+use Rattle.placing.specs.State.{stateOf, Fair}
+use Rattle.placing.specs.State as State
+use Rattle.placing.specs.declared.Counters.{Counters}
+
+-- ---- a word by its place
+
+window-slice : (l : List ℕ) (n a : ℕ) → a + n ≤ length l → window l a n ≡ slice a (a + n) l
+unfolding window
+window-slice l zero a h = let e : a + 0 ≡ a = omega arith in sym (ap (λ (t : ℕ). slice a t l) e ∙ slice-empty a l)
+window-slice l (suc n) a h =
+    let e : a + suc n ≡ a + 1 + n = omega arith in
+    let f : suc a ≡ a + 1 = omega arith in
+    ap (λ (r : List ℕ). getD l a 0 ∷ r) (window-slice l n (a + 1) (omega arith))
+    ∙ ap₂ (λ (t u : ℕ). getD l a 0 ∷ slice u t l) (sym e) (sym f)
+    ∙ sym (slice-cons a (a + suc n) l 0 (omega arith) (omega arith))
+
+pub spelled-window : (line : List ℕ) (n : Name) → n .start ≤ n .end → n .end ≤ length line
+    → spelled line n ≡ window line (n .start) (n .end - n .start)
+spelled-window line n h k =
+    let e : n .start + (n .end - n .start) ≡ n .end = omega arith in
+    sym (window-slice line (n .end - n .start) (n .start) (omega arith) ∙ ap (λ (t : ℕ). slice (n .start) t line) e)
+
+spelled-length : (line : List ℕ) (n : Name) → n .end ≤ length line → length (spelled line n) ≡ n .end - n .start
+spelled-length line n h = length-slice (n .start) (n .end) line h
+
+-- ---- a word among others
+
+suc-ltb : (a b : ℕ) → ltb a b ≡ ltb (suc a) (suc b)
+suc-ltb a b = go (ltb a b) refl
+  where
+    go : (t : Bool) → ltb a b ≡ t → t ≡ ltb (suc a) (suc b)
+    go true e = let h = ltb-true a b e in sym (lt-ltb (suc a) (suc b) (omega arith))
+    go false e = let h = ltb-false a b e in sym (le-ltb (suc a) (suc b) (omega arith))
+
+-- the code's test of 9
+among-place : (w : List ℕ) (xs : List (List ℕ)) → among w xs ≡ ltb (placeIn w xs) (length xs)
+unfolding among placeIn
+among-place w [] = refl
+among-place w (x ∷ xs) = go (same x w) (among-place w xs)
+  where
+    go : (b : Bool) → among w xs ≡ ltb (placeIn w xs) (length xs) → (b || among w xs) ≡ ltb (cond b 0 (suc (placeIn w xs))) (suc (length xs))
+    go true e = sym (lt-ltb 0 (suc (length xs)) (omega arith))
+    go false e = e ∙ suc-ltb (placeIn w xs) (length xs)
+
+-- ---- the names of a place
+
+-- as many values as names
+named : (us : List (List ℕ)) (vs : List ℕ) → length us ≤ length vs → map (λ (b : Bound). b .name) (zipped us vs) ≡ us
+unfolding zipped
+named [] vs h = refl
+named (u ∷ us) [] h = absurd (omega arith)
+named (u ∷ us) (v ∷ vs) h = ap (λ (r : List (List ℕ)). u ∷ r) (named us vs (omega arith))
+
+names-all : (c : Counters) (ws : List (List ℕ)) (vs ms : List ℕ) → length ws ≡ c .bound + c .waiting → c .bound ≤ length vs
+    → names (stateOf ws vs ms c) ≡ ws
+unfolding names
+names-all c ws vs ms l h =
+    ap (λ (x : List (List ℕ)). x ++ drop (c .bound) ws)
+    (named (take (c .bound) ws) vs (omega (arith, length-take-le (c .bound) ws (omega arith))))
+    ∙ take-append-drop (c .bound) ws
+
+-- ---- the verdict
+
+-- what `declare` is lent: rows for 512 labels, and a label within its line
+pub record Lent (starts lengths line vs : List ℕ) (c : Counters) (n : Name) : Type 0 where
+  pub fair : Fair c
+  pub starts-long : length starts ≡ 512
+  pub lengths-long : length lengths ≡ 512
+  pub values-long : length vs ≡ 512
+  pub order : n .start ≤ n .end
+  pub within : n .end ≤ length line
+
+module _ (s starts lengths line vs ms : List ℕ) (c : Counters) (n : Name) (k : ℕ) (lent : Lent starts lengths line vs c n) where
+  abbrev count : ℕ
+  count = c .bound + c .waiting
+
+  abbrev held : List (List ℕ)
+  held = words s starts lengths count
+
+  held-long : length held ≡ count
+  held-long =
+      length-words s starts lengths count (omega (arith, lent .fair .few, lent .starts-long)) (omega (arith, lent .fair .few, lent .lengths-long))
+
+  -- by the tests' answers
+  pub label-by : {x y z : Bool} {i : ℕ} → ltb 64 (n .end - n .start) ≡ x → leb 512 count ≡ y
+      → i ≡ placeIn (window line (n .start) (n .end - n .start)) held
+      → ltb i count ≡ z
+      → labelVerdict k (State.placeIn s starts lengths vs ms c) line (Named n) ≡ cond (x || y) (refused (10 on k)) (cond z (refused (9 on k)) passes)
+  unfolding nameVerdict firstOf
+  label-by {z = z} e f o g =
+      let a : names (State.placeIn s starts lengths vs ms c) ≡ held =
+      names-all c held vs ms held-long (omega (arith, lent .fair .few, lent .values-long)) in
+      let w : length (spelled line n) ≡ n .end - n .start = spelled-length line n (lent .within) in
+      let q : among (spelled line n) held ≡ z =
+      among-place (spelled line n) held
+      ∙ ap₂ (λ (u : List ℕ) (m : ℕ). ltb (placeIn u held) m) (spelled-window line n (lent .order) (lent .within)) held-long
+      ∙ ap (λ (m : ℕ). ltb m count) (sym o)
+      ∙ g in
+      rw (a, w, held-long, e, f, q)
+
+  -- one label more
+  pub label-held : count < 512 → (a m : ℕ)
+      → window line (n .start) (n .end - n .start) ≡ window s a m
+      → State.placeIn s (set starts count a) (set lengths count m) vs ms (record { at = c .at; bound = c .bound; waiting = c .waiting + 1 })
+      ≡ labelled (State.placeIn s starts lengths vs ms c) line (Named n)
+  label-held h a m e =
+      let l = held-long in
+      let i : c .bound + (c .waiting + 1) ≡ count + 1 = omega arith in
+      let x = window s a m in
+      let o : words s (set starts count a) (set lengths count m) (c .bound + (c .waiting + 1)) ≡ held ++ (x ∷ []) =
+      ap (words s (set starts count a) (set lengths count m)) i
+      ∙ words-snoc s starts lengths count a m (omega (arith, lent .starts-long)) (omega (arith, lent .lengths-long)) in
+      let t : take (c .bound) (held ++ (x ∷ [])) ≡ take (c .bound) held = take-append-le (c .bound) held (x ∷ []) (omega arith) in
+      let d : drop (c .bound) (held ++ (x ∷ [])) ≡ drop (c .bound) held ++ (x ∷ []) = drop-append-le (c .bound) held (x ∷ []) (omega arith) in
+      let y : x ≡ spelled line n = sym (spelled-window line n (lent .order) (lent .within) ∙ e) in
+      ap (λ (ws : List (List ℕ)). state (take (c .bound) ws) (drop (c .bound) ws)) o
+      ∙ ap₂ state t (d ∙ ap (λ (u : List ℕ). drop (c .bound) held ++ (u ∷ [])) y)
+    where
+      state : List (List ℕ) → List (List ℕ) → Place
+      state us ws = record { at = c .at .0; bound = zipped us vs; waiting = ws; marks = ms }
+
+-- a label lies within its line
+pub label-within : (line : List ℕ) {n : Name} → lineRead line .label ≡ Named n → (n .start ≤ n .end) × (n .end ≤ length line)
+label-within line {n} e = let h = Statements.label-within line (Statements.label-exactly line n .0 e) in (omega (arith, h .0), h .1)

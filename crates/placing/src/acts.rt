@@ -1,0 +1,54 @@
+// What a statement does to the place (sources/specs/Placing.antt, `does`).
+ghost use mathlib.Core.Path.{_≡_};
+ghost use Rattle.sources.specs.Placing.{does};
+ghost use Rattle.sources.specs.declared.Gives.the-variants.{Start};
+ghost use Rattle.sources.specs.declared.Moves.the-variants.{On};
+ghost use Rattle.placing.specs.State.{Sound};
+use isa::opcodes::operand_count;
+use sources::Act;
+use sources::Gives;
+use sources::Moves;
+use statements::Statement;
+
+// The map's marks: 0 free, 1 code, 2 data.
+const FREE: u8 = 0;
+
+const CODE: u8 = 1;
+
+const DATA: u8 = 2;
+
+fn claiming(n: usize, mark: u8) -> Act
+    ensures { λ r. ⌜ r ≡ record { gives = Start; moves = On n; claims = n; mark = mark } ⌝ }
+{
+    Act {
+        gives: Gives::Start,
+        moves: Moves::On(n),
+        claims: n,
+        mark: mark,
+    }
+}
+
+fn moving(gives: Gives, moves: Moves) -> Act
+    ensures { λ r. ⌜ r ≡ record { gives = gives; moves = moves; claims = 0; mark = 0 } ⌝ }
+{
+    Act {
+        gives: gives,
+        moves: moves,
+        claims: 0,
+        mark: FREE,
+    }
+}
+
+pub(crate) fn act(s: Statement) -> Act
+    ensures { λ r. ⌜ (r ≡ does s) × Sound (r .moves) (r .claims) ⌝ }
+{
+    match s {
+        Statement::Nothing => moving(Gives::Waits, Moves::On(0)),
+        Statement::Instruction(op, _, _) => claiming(operand_count(op) + 1, CODE),
+        Statement::Org(v) => moving(Gives::Waits, Moves::To(v as usize)),
+        Statement::Equ(v) => moving(Gives::Number(v), Moves::On(0)),
+        Statement::Res(v) => moving(Gives::Start, Moves::Reserving(v as usize)),
+        Statement::Data(n) => claiming(n, DATA),
+        Statement::End => moving(Gives::Start, Moves::On(0)),
+    }
+}

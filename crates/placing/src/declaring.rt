@@ -1,0 +1,55 @@
+// A line's own label: too long or the 513th, known already, or one more that waits.
+ghost use mathlib.Core.Path.{_≡_};
+ghost use mathlib.Core.List.{List};
+ghost use Prim.Native.Nat.{ℕ, _+_, _-_, _≤_, _<_};
+ghost use lib.ListN.{length};
+ghost use Rattle.labels.specs.Labels.{window};
+ghost use Rattle.values.specs.declared.LabelIn.the-variants.{Named};
+ghost use Rattle.sources.specs.Placing.{labelled};
+ghost use Rattle.sources.specs.Assembling.{labelVerdict};
+ghost use Rattle.placing.specs.State.{Fair, FairDid, Tells, placeIn};
+use super::Counters;
+use super::Did;
+use labels::finding::find;
+use values::Name;
+
+// "labels at most 512, a label at most 64 bytes"
+const MOST_LABELS: usize = 512;
+
+const LONGEST_LABEL: usize = 64;
+
+pub(crate) fn declare(
+    s: &[u8],
+    from: usize,
+    line: &[u8],
+    starts: &mut [u16],
+    lengths: &mut [u8],
+    c: Counters,
+    n: Name,
+) -> Did
+    requires { ⌜ Fair c × (length (now starts) ≡ 512) × (length (now lengths) ≡ 512) × (n .start ≤ n .end) × (n .end ≤ length (now line)) × (from + n .end ≤ 32768) × (window (now line) (n .start) (n .end - n .start) ≡ window (now s) (from + n .start) (n .end - n .start)) ⌝ }
+    ensures { λ r. ⌜ FairDid r × ((k : ℕ) (vs ms : List ℕ) → length vs ≡ 512 → Tells k (labelVerdict k (placeIn (now (s .entry)) (now (starts .entry)) (now (lengths .entry)) vs ms c) (now (line .entry)) (Named n)) (labelled (placeIn (now (s .entry)) (now (starts .entry)) (now (lengths .entry)) vs ms c) (now (line .entry)) (Named n)) (placeIn (now (s .entry)) (now (starts .exit)) (now (lengths .exit)) vs ms) r) ⌝ }
+{
+    let start = n.start;
+    let size = n.end - start;
+    if LONGEST_LABEL < size {
+        return Did::No(10);
+    }
+    let at = c.at;
+    let bound = c.bound;
+    let waiting = c.waiting;
+    let count = bound + waiting;
+    if MOST_LABELS <= count {
+        return Did::No(10);
+    }
+    if find(s, starts, lengths, count, line, start, size) < count {
+        return Did::No(9);
+    }
+    starts[count] = (from + start) as u16;
+    lengths[count] = size as u8;
+    Did::Go(Counters {
+        at: at,
+        bound: bound,
+        waiting: waiting + 1,
+    })
+}

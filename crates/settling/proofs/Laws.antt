@@ -1,0 +1,200 @@
+-- Laws of a label's value, of the verdict on one label, and of the verdict and the cells when one label more is settled.
+use Prim.Native.Nat.{ℕ, zero, suc, _+_, _*_, _-_, _≤_, _<_}
+use mathlib.Core.Bool.{Bool, true, false, cond}
+use mathlib.Core.List.{List, [], _∷_, _++_}
+use mathlib.Core.Path.{_≡_, refl, sym, ap, subst, _∙_}
+use native.Mathlib.Omega.{arith}
+use native.Mathlib.Numerals.{add-one}
+use lib.ListN.{length, getD, set}
+use borrow.Author.Tests.{eq-eqb, ne-eqb, lt-ltb, le-ltb}
+use Rattle.sources.specs.Placing.{Bound}
+use Rattle.sources.specs.Uses.{Value, known, unknown, same, valueOf, from, Use, countedWord}
+use Rattle.sources.specs.Order.{Refusal, _on_}
+use Rattle.sources.specs.Assembling.{Verdict, passes, refused, andThen, firstOf, tooFar, useVerdict, usesVerdict, filled}
+use Rattle.statements.proofs.Labelling.{never}
+use Rattle.labels.specs.Labels.{window, words, placeIn, zipped}
+use Rattle.labels.proofs.Laws.{length-words}
+use Rattle.uses.specs.Held.{countedBy, useHeld, useAt, usesHeld}
+use Rattle.settling.specs.declared.Word.{Word}
+use Rattle.settling.specs.declared.Word.the-variants as W
+use Rattle.settling.specs.Settling.{Reaches, Tells}
+
+-- ---- a label's value
+
+-- a word among the names has the value at its place
+value-there : (w : List ℕ) (ws : List (List ℕ)) (vs : List ℕ) → placeIn w ws < length ws → length ws ≤ length vs
+    → valueOf (zipped ws vs) w ≡ known (getD vs (placeIn w ws) 0)
+unfolding valueOf zipped placeIn
+value-there w [] vs h k = absurd (omega (arith, h))
+value-there w (x ∷ ws) [] h k = absurd (omega (arith, k))
+value-there w (x ∷ ws) (v ∷ vs) h k = go (same x w) h (λ l. value-there w ws vs l (omega (arith, k)))
+  where
+    go : (b : Bool) → cond b 0 (suc (placeIn w ws)) < suc (length ws)
+        → (placeIn w ws < length ws → valueOf (zipped ws vs) w ≡ known (getD vs (placeIn w ws) 0))
+        → cond b (known v) (valueOf (zipped ws vs) w) ≡ known (getD (v ∷ vs) (cond b 0 (suc (placeIn w ws))) 0)
+    go true l f = refl
+    go false l f = f (omega (arith, l))
+
+-- a word that is none of the names has no value
+value-none : (w : List ℕ) (ws : List (List ℕ)) (vs : List ℕ) → length ws ≤ placeIn w ws → valueOf (zipped ws vs) w ≡ unknown
+unfolding valueOf zipped placeIn
+value-none w [] vs h = refl
+value-none w (x ∷ ws) [] h = refl
+value-none w (x ∷ ws) (v ∷ vs) h = go (same x w) h (value-none w ws vs)
+  where
+    go : (b : Bool) → suc (length ws) ≤ cond b 0 (suc (placeIn w ws)) → (length ws ≤ placeIn w ws → valueOf (zipped ws vs) w ≡ unknown)
+        → cond b (known v) (valueOf (zipped ws vs) w) ≡ unknown
+    go true l f = absurd (omega (arith, l))
+    go false l f = f (omega (arith, l))
+
+-- both, for the labels that two rows hold
+module _ (s xs ls vs w : List ℕ) (n k : ℕ) (hx : n ≤ length xs) (hl : n ≤ length ls) (e : k ≡ placeIn w (words s xs ls n)) where
+  pub value-is : n ≤ length vs → k < n → valueOf (zipped (words s xs ls n) vs) w ≡ known (getD vs k 0)
+  value-is hv h =
+      value-there w (words s xs ls n) vs (omega (arith, length-words s xs ls n hx hl, e, h)) (omega (arith, length-words s xs ls n hx hl, hv))
+      ∙ ap (λ (j : ℕ). known (getD vs j 0)) (sym e)
+
+  pub value-no : n ≤ k → valueOf (zipped (words s xs ls n) vs) w ≡ unknown
+  value-no h = value-none w (words s xs ls n) vs (omega (arith, length-words s xs ls n hx hl, e, h))
+
+-- ---- one label
+
+-- how far a value lies from an address
+module _ (v next : ℕ) where
+  pub too-low : v + 32768 < next → tooFar (from next) (known v) ≡ true
+  too-low h = rw (lt-ltb (v + 32768) next h)
+
+  pub too-high : next ≤ v + 32768 → next + 32767 < v → tooFar (from next) (known v) ≡ true
+  too-high h k = rw (le-ltb (v + 32768) next h, lt-ltb (next + 32767) v k)
+
+  pub in-reach : next ≤ v + 32768 → v ≤ next + 32767 → tooFar (from next) (known v) ≡ false
+  in-reach h k = rw (le-ltb (v + 32768) next h, le-ltb (next + 32767) v k)
+
+-- 13, 14 or neither
+module _ (bs : List Bound) (u : Use) where
+  none-such : valueOf bs (u .name) ≡ unknown → useVerdict bs u ≡ refused (13 on u .line)
+  unfolding useVerdict firstOf
+  none-such e = rw e
+
+  too-far : (v : ℕ) → valueOf bs (u .name) ≡ known v → tooFar (u .counted) (known v) ≡ true → useVerdict bs u ≡ refused (14 on u .line)
+  unfolding useVerdict firstOf
+  too-far v e t = rw (e, t)
+
+  fits : (v : ℕ) → valueOf bs (u .name) ≡ known v → tooFar (u .counted) (known v) ≡ false → useVerdict bs u ≡ passes
+  unfolding useVerdict firstOf
+  fits v e t = rw (e, t)
+
+-- the word of a label that is held, by what is found of its value
+module _ (bs : List Bound) (s : List ℕ) (start size cell away : ℕ) where
+  abbrev held : ℕ → Use
+  held k = useHeld s start size cell k away
+
+  abbrev value : Value
+  value = valueOf bs (window s start size)
+
+  abbrev Told : Word → Type 0
+  Told r = Tells (λ k. useVerdict bs (held k)) (countedWord (countedBy cell away) value) r
+
+  -- no label has the name
+  pub tells-none : (f : ℕ) → value ≡ unknown → f ≡ 13 → Told (W.No f)
+  tells-none f e g = λ k. none-such bs (held k) e ∙ ap (λ (x : ℕ). refused (x on k)) (sym g)
+
+  -- the value stands as it is
+  pub tells-plain : (v : ℕ) → value ≡ known v → away ≡ 0 → Told (W.Is v)
+  tells-plain v e h =
+      let p = eq-eqb away 0 h in
+      ((λ k. fits bs (held k) v e (rw p)), rw (p, e))
+
+  -- the value is counted from the address after the instruction
+  pub tells-far : (v : ℕ) → value ≡ known v → (away ≡ 0 → ⊥) → (r : Word) → Reaches v (cell + away) r → Told r
+  tells-far v e h (W.Is x) (t, g) =
+      let p = ne-eqb away 0 h in
+      ((λ k. fits bs (held k) v e (rw p t)), rw (p, e) g)
+  tells-far v e h (W.No f) (t, g) =
+      let p = ne-eqb away 0 h in
+      λ k. too-far bs (held k) v e (rw p t) ∙ ap (λ (x : ℕ). refused (x on k)) (sym g)
+
+-- ---- one label more
+
+module _ (bs : List Bound) where
+  -- behind labels that pass, one more decides
+  verdict-behind : (us : List Use) (u : Use) → usesVerdict bs us ≡ passes → usesVerdict bs (us ++ (u ∷ [])) ≡ useVerdict bs u
+  unfolding usesVerdict
+  verdict-behind [] u e = go (useVerdict bs u)
+    where
+      go : (v : Verdict) → andThen v passes ≡ v
+      go passes = refl
+      go (refused why) = refl
+  verdict-behind (x ∷ us) u e = go (useVerdict bs x) e (verdict-behind us u)
+    where
+      go : (v : Verdict) → andThen v (usesVerdict bs us) ≡ passes → (usesVerdict bs us ≡ passes → usesVerdict bs (us ++ (u ∷ [])) ≡ useVerdict bs u)
+          → andThen v (usesVerdict bs (us ++ (u ∷ []))) ≡ useVerdict bs u
+      go passes e f = f e
+      go (refused why) e f = never (cc)
+
+  -- a refusal stays, whatever comes behind it
+  refused-before : (us vs : List Use) (why : Refusal) → usesVerdict bs us ≡ refused why → usesVerdict bs (us ++ vs) ≡ refused why
+  unfolding usesVerdict
+  refused-before [] vs why e = never (cc)
+  refused-before (x ∷ us) vs why e = go (useVerdict bs x) e (refused-before us vs why)
+    where
+      go : (v : Verdict) → andThen v (usesVerdict bs us) ≡ refused why → (usesVerdict bs us ≡ refused why → usesVerdict bs (us ++ vs) ≡ refused why)
+          → andThen v (usesVerdict bs (us ++ vs)) ≡ refused why
+      go passes e f = f e
+      go (refused other) e f = e
+
+  -- the last word is set last
+  filled-behind : (us : List Use) (u : Use) (m : List ℕ)
+      → filled bs (us ++ (u ∷ [])) m ≡ set (filled bs us m) (u .cell) (countedWord (u .counted) (valueOf bs (u .name)))
+  unfolding filled
+  filled-behind [] u m = refl
+  filled-behind (x ∷ us) u m = filled-behind us u (set m (x .cell) (countedWord (x .counted) (valueOf bs (x .name))))
+
+-- before the first label that is held
+module _ (bs : List Bound) (s row aways : List ℕ) where
+  pub nothing-held : usesVerdict bs (usesHeld s row aways 0) ≡ passes
+  unfolding usesHeld usesVerdict
+  nothing-held = refl
+
+  pub nothing-filled : (m : List ℕ) → filled bs (usesHeld s row aways 0) m ≡ m
+  unfolding usesHeld filled
+  nothing-filled m = refl
+
+-- of the labels that are held, the i-th
+module _ (bs : List Bound) (s row aways : List ℕ) (i : ℕ) where
+  abbrev use′ : Use
+  use′ = useAt s row aways i
+
+  abbrev settles : ℕ → Verdict
+  settles n = usesVerdict bs (usesHeld s row aways n)
+
+  -- what its word, found, says
+  abbrev Said : Word → Type 0
+  Said r = Told bs s (getD row (4 * i) 0) (getD row (4 * i + 1) 0) (use′ .cell) (getD aways i 0) r
+
+  -- its refusal is that of the labels up to any one behind it
+  refused-next : (why : Refusal) → settles i ≡ passes → useVerdict bs use′ ≡ refused why → (n : ℕ) → settles (suc (i + n)) ≡ refused why
+  unfolding usesHeld
+  refused-next why e g zero =
+      let q : suc (i + 0) ≡ suc i = omega arith in
+      ap settles q ∙ verdict-behind bs (usesHeld s row aways i) use′ e ∙ g
+  refused-next why e g (suc n) =
+      let q : suc (i + suc n) ≡ suc (suc (i + n)) = omega arith in
+      ap settles q ∙ refused-before bs (usesHeld s row aways (suc (i + n))) (useAt s row aways (suc (i + n)) ∷ []) why (refused-next why e g n)
+
+  -- its refusal is that of all of them
+  pub all-refused : (n f : ℕ) (r : Word) → i < n → settles i ≡ passes → Said r → r ≡ W.No f → settles n ≡ refused (f on use′ .line)
+  all-refused n f r h e g k =
+      let q : n ≡ suc (i + (n - suc i)) = omega (arith, h) in
+      ap settles q ∙ refused-next (f on use′ .line) e (subst Said k g (use′ .line)) (n - suc i)
+
+  module _ (x : ℕ) (r : Word) (g : Said r) (k : r ≡ W.Is x) where
+    -- it passes, and so do the labels up to it
+    pub one-passes : settles i ≡ passes → settles (i + 1) ≡ passes
+    unfolding usesHeld
+    one-passes e = rw (add-one i) (verdict-behind bs (usesHeld s row aways i) use′ e ∙ subst Said k g .0 (use′ .line))
+
+    -- its word in its cell
+    pub one-filled : (m : List ℕ) → set (filled bs (usesHeld s row aways i) m) (use′ .cell) x ≡ filled bs (usesHeld s row aways (i + 1)) m
+    unfolding usesHeld
+    one-filled m = rw (add-one i, subst Said k g .1) (sym (filled-behind bs (usesHeld s row aways i) use′ m))

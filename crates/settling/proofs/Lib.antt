@@ -1,0 +1,2 @@
+-- Laws of the definitions, by topic.
+pub mod Laws

@@ -1,0 +1,47 @@
+// All labels that operands name, in the order of lines and operands.
+ghost use Prim.Native.Nat.{_*_, _≤_};
+ghost use lib.ListN.{length};
+ghost use Rattle.labels.specs.Labels.{words, zipped};
+ghost use Rattle.sources.specs.Assembling.{usesVerdict, filled};
+ghost use Rattle.uses.specs.Held.{usesHeld};
+ghost use Rattle.settling.specs.Settling.{Settles};
+use super::Settled;
+use super::Word;
+use super::words::word;
+use sources::Line;
+use uses::cells::put;
+
+pub fn settle(
+    s: &[u8],
+    starts: &[u16],
+    lengths: &[u8],
+    values: &[u16],
+    count: usize,
+    row: &[u16],
+    aways: &[u8],
+    uses: usize,
+    cells: &mut [u16],
+) -> Settled
+    requires { ⌜ (count ≤ length (now starts)) × (count ≤ length (now lengths)) × (count ≤ length (now values)) × (uses ≤ 100000) × (4 * uses ≤ length (now row)) × (uses ≤ length (now aways)) ⌝ }
+    ensures { λ r. ⌜ Settles (usesVerdict (zipped (words (now (s .entry)) (now (starts .entry)) (now (lengths .entry)) count) (now (values .entry))) (usesHeld (now (s .entry)) (now (row .entry)) (now (aways .entry)) uses)) (filled (zipped (words (now (s .entry)) (now (starts .entry)) (now (lengths .entry)) count) (now (values .entry))) (usesHeld (now (s .entry)) (now (row .entry)) (now (aways .entry)) uses) (now (cells .entry))) (now (cells .exit)) r ⌝ }
+{
+    let mut i: usize = 0;
+    while i < uses {
+        let base = 4 * i;
+        let start = row[base] as usize;
+        let size = row[base + 1] as usize;
+        let cell = row[base + 2] as usize;
+        let line = row[base + 3] as usize;
+        let away = aways[i] as usize;
+        match word(s, starts, lengths, values, count, start, size, cell, away) {
+            Word::No(f) => {
+                return Settled::Refused(f, Line(line));
+            }
+            Word::Is(w) => {
+                put(cells, cell, w);
+            }
+        }
+        i += 1;
+    }
+    Settled::Done
+}

@@ -1,0 +1,71 @@
+// The word that a label stands for (sources/specs/Uses.antt, `countedWord`), or 13 or 14.
+ghost use Prim.Native.Nat.{_+_, _≤_, _<_};
+ghost use lib.ListN.{length};
+ghost use Rattle.labels.specs.Labels.{window, words, zipped};
+ghost use Rattle.sources.specs.Uses.{valueOf, countedWord};
+ghost use Rattle.sources.specs.Assembling.{useVerdict};
+ghost use Rattle.uses.specs.Held.{countedBy, useHeld};
+ghost use Rattle.settling.specs.Settling.{Finds, Reaches, Tells};
+use super::Word;
+use labels::finding::find;
+
+// A name's value among the labels.
+fn look_up(
+    s: &[u8],
+    starts: &[u16],
+    lengths: &[u8],
+    values: &[u16],
+    count: usize,
+    start: usize,
+    size: usize,
+) -> Word
+    requires { ⌜ (start < 100000) × (size < 100000) × (count ≤ length (now starts)) × (count ≤ length (now lengths)) × (count ≤ length (now values)) ⌝ }
+    ensures { λ r. ⌜ Finds (valueOf (zipped (words (now (s .entry)) (now (starts .entry)) (now (lengths .entry)) count) (now (values .entry))) (window (now (s .entry)) start size)) r ⌝ }
+{
+    let k = find(s, starts, lengths, count, s, start, size);
+    if k < count {
+        return Word::Is(values[k]);
+    }
+    Word::No(13)
+}
+
+// A value less the address after the instruction, if it lies from -32768 to 32767.
+fn distance(value: u16, next: usize) -> Word
+    requires { ⌜ next ≤ 65536 + 300 ⌝ }
+    ensures { λ r. ⌜ Reaches value next r ⌝ }
+{
+    let v = value as usize;
+    if v + 32768 < next {
+        return Word::No(14);
+    }
+    if next + 32767 < v {
+        return Word::No(14);
+    }
+    Word::Is(((v + 65536 - next) % 65536) as u16)
+}
+
+// The word of a label that is held, and how far the address after its instruction lies behind its cell.
+pub(crate) fn word(
+    s: &[u8],
+    starts: &[u16],
+    lengths: &[u8],
+    values: &[u16],
+    count: usize,
+    start: usize,
+    size: usize,
+    cell: usize,
+    away: usize,
+) -> Word
+    requires { ⌜ (start < 100000) × (size < 100000) × (count ≤ length (now starts)) × (count ≤ length (now lengths)) × (count ≤ length (now values)) × (cell < 65536) × (away < 256) ⌝ }
+    ensures { λ r. ⌜ Tells (λ k. useVerdict (zipped (words (now (s .entry)) (now (starts .entry)) (now (lengths .entry)) count) (now (values .entry))) (useHeld (now (s .entry)) start size cell k away)) (countedWord (countedBy cell away) (valueOf (zipped (words (now (s .entry)) (now (starts .entry)) (now (lengths .entry)) count) (now (values .entry))) (window (now (s .entry)) start size))) r ⌝ }
+{
+    match look_up(s, starts, lengths, values, count, start, size) {
+        Word::No(f) => Word::No(f),
+        Word::Is(v) => {
+            if away == 0 {
+                return Word::Is(v);
+            }
+            distance(v, cell + away)
+        }
+    }
+}

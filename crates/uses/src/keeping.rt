@@ -1,0 +1,30 @@
+// The labels that operands name, one after the other in two lent rows (specs/Held.antt): four cells each in the first, the name's place
+// and length in the source, the cell of the operand's word, and the line; in the second how far the address after the instruction lies
+// behind that cell, 0 where the label's value stands as it is.
+ghost use mathlib.Core.Path.{_≡_};
+ghost use mathlib.Core.List.{List, [], _∷_, _++_};
+ghost use Prim.Native.Nat.{ℕ, _+_, _*_, _≤_, _<_};
+ghost use lib.ListN.{length};
+ghost use Rattle.uses.specs.Held.{useHeld, usesHeld};
+
+// One more.
+pub fn keep(
+    row: &mut [u16],
+    aways: &mut [u8],
+    count: usize,
+    start: u16,
+    size: u16,
+    cell: u16,
+    line: u16,
+    away: u8,
+)
+    requires { ⌜ (4 * count + 4 ≤ length (now row)) × (count < length (now aways)) ⌝ }
+    ensures { λ _. ⌜ ((s : List ℕ) → usesHeld s (now (row .exit)) (now (aways .exit)) (count + 1) ≡ usesHeld s (now (row .entry)) (now (aways .entry)) count ++ (useHeld s start size cell line away ∷ [])) ⌝ }
+{
+    let base = 4 * count;
+    row[base] = start;
+    row[base + 1] = size;
+    row[base + 2] = cell;
+    row[base + 3] = line;
+    aways[count] = away;
+}

@@ -1,0 +1,8 @@
+-- Laws of the definitions, by topic.
+pub mod Notes
+pub mod Said
+pub mod Words
+pub mod Kept
+pub mod Loop
+pub mod Walks
+pub mod Ends
