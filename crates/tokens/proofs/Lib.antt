@@ -5,6 +5,7 @@ pub mod Blanks
 pub mod Words
 pub mod Quoted
 pub mod Here
+pub mod Peeks
 pub mod Places
 pub mod Heads
 pub mod Parted
