@@ -1,19 +1,24 @@
 -- What a row begins with, by the tokens that `next_token` hands back; laws that the code's proofs cite.
-use Prim.Native.Nat.{ℕ}
-use mathlib.Core.Bool.{true, false, _&&_}
+use Prim.Native.Nat.{ℕ, _+_, _<_}
+use Prim.Native.Char.{code}
+use mathlib.Core.Bool.{Bool, true, false, _&&_}
 use mathlib.Core.List.{List, [], _∷_}
 use mathlib.Core.Path.{_≡_, refl, sym, ap, _∙_}
+use lib.ListN.{length, getD}
+use borrow.Author.Tests.{eqb-true}
 use Rattle.tokens.specs.Reading.{tokenAt, afterKind, tokensFrom}
+use Rattle.tokens.specs.Rows.{token}
 use Rattle.tokens.specs.declared.Kind.{Kind}
 use Rattle.tokens.specs.declared.Kind.the-variants as K
 use Rattle.tokens.specs.declared.Token.{Token}
 use Rattle.names.specs.Names.{wordOf}
 use Rattle.names.specs.declared.Word.{Word}
 use Rattle.tokens.proofs.Heads.{row-of}
+use Rattle.tokens.proofs.Colons.{colon-within, colon-token, no-colon-token}
 use Rattle.values.specs.declared.LabelIn.the-variants.{Named}
 use Rattle.operands.specs.Operands.{wordAt}
 use Rattle.statements.specs.Reading.{isWord, isColon, labelled, labelRead, afterLabel, byWord, statementRead}
-use Rattle.statements.specs.Parts.{nowhere, LabelDone}
+use Rattle.statements.specs.Parts.{colonAt, nowhere, LabelDone}
 use Rattle.statements.specs.declared.Labelled.{Labelled}
 use Rattle.statements.specs.declared.Failure.the-variants.{WrongForm}
 use Rattle.statements.specs.declared.Statement.the-variants.{Nothing}
@@ -63,6 +68,10 @@ module _ (line : List ℕ) (at : ℕ) {w : Token} (t : w ≡ tokenAt line at) wh
 
 -- ---- the label
 
+-- a `:` takes a byte of the line
+pub colon-stands : (line : List ℕ) (at : ℕ) → colonAt line at ≡ true → at < length line
+colon-stands line at g = colon-within line at (eqb-true (getD line at 0) (code ":") g)
+
 module _ (line : List ℕ) where
   unlabelled-done : labelled (tokensFrom line 0) ≡ false → {r : Labelled} → r ≡ nowhere → LabelDone line r
   unfolding labelRead afterLabel
@@ -91,17 +100,18 @@ module _ (line : List ℕ) where
         go K.Text e = ap labelled (row-of line 0 e) ∙ not-labelled (tokenAt line 0) rest g
         go (K.Mark b) e = ap labelled (row-of line 0 e) ∙ not-labelled (tokenAt line 0) rest g
 
-    module _ (f : isWord (w .kind) ≡ true) {c : Token} (u : c ≡ tokenAt line (w .next .at)) where
+    module _ (f : isWord (w .kind) ≡ true) where
+      -- the token behind it
+      abbrev c : Token
+      c = tokenAt line (w .next .at)
+
       row-word : tokensFrom line 0 ≡ w ∷ tokensFrom line (w .next .at)
       row-word =
           row-of line 0 (ap (λ (v : Token). v .kind) (sym t) ∙ word-kind (w .kind) f)
           ∙ ap (λ (v : Token). v ∷ tokensFrom line (v .next .at)) (sym t)
 
       row-two : {k : Kind} → c .kind ≡ k → tokensFrom line 0 ≡ w ∷ afterKind k c (tokensFrom line)
-      row-two {k} e =
-          row-word
-          ∙ ap (λ (ts : List Token). w ∷ ts)
-          (row-of line (w .next .at) (ap (λ (v : Token). v .kind) (sym u) ∙ e) ∙ ap (λ (v : Token). afterKind k v (tokensFrom line)) (sym u))
+      row-two {k} e = row-word ∙ ap (λ (ts : List Token). w ∷ ts) (row-of line (w .next .at) e)
 
       labelled-by : labelled (tokensFrom line 0) ≡ (isColon (c .kind) && c .directly)
       labelled-by = go (c .kind) refl
@@ -114,17 +124,20 @@ module _ (line : List ℕ) where
           go K.Text e = ap labelled (row-two e) ∙ rw f
           go (K.Mark b) e = ap labelled (row-two e) ∙ rw f
 
-      -- no `:` follows it, or none directly
-      pub no-colon : isColon (c .kind) ≡ false → {r : Labelled} → r ≡ nowhere → LabelDone line r
-      no-colon g e = unlabelled-done (labelled-by ∙ rw g) e
+      -- no `:` stands right behind it
+      pub no-colon : colonAt line (w .next .at) ≡ false → {r : Labelled} → r ≡ nowhere → LabelDone line r
+      no-colon g e = unlabelled-done (labelled-by ∙ go (isColon (c .kind)) refl) e
+        where
+          go : (b : Bool) → isColon (c .kind) ≡ b → (isColon (c .kind) && c .directly) ≡ false
+          go true h = rw (h, no-colon-token line (w .next .at) g (colon-kind (c .kind) h))
+          go false h = rw h
 
-      pub parted : isColon (c .kind) ≡ true → c .directly ≡ false → {r : Labelled} → r ≡ nowhere → LabelDone line r
-      parted g d e = unlabelled-done (labelled-by ∙ rw (g, d)) e
-
-      pub is-label : isColon (c .kind) ≡ true → c .directly ≡ true
-          → LabelDone line (record { label = Named (record { start = w .start; end = w .next .at }); next = c .next })
+      pub is-label : colonAt line (w .next .at) ≡ true
+          → LabelDone line (record { label = Named (record { start = w .start; end = w .next .at }); next = record { at = w .next .at + 1 } })
       unfolding labelRead afterLabel
-      is-label g d =
-          let two = row-two (colon-kind (c .kind) g) in
-          let h : labelled (tokensFrom line 0) ≡ true = labelled-by ∙ rw (g, d) in
+      is-label g =
+          let d : c ≡ token (K.Mark (code ":")) (w .next .at) true (w .next .at + 1) =
+          colon-token line (w .next .at) (eqb-true (getD line (w .next .at) 0) (code ":") g) in
+          let h : labelled (tokensFrom line 0) ≡ true = labelled-by ∙ ap (λ (v : Token). isColon (v .kind) && v .directly) d in
+          let two = row-two (ap (λ (v : Token). v .kind) d) ∙ ap (λ (v : Token). w ∷ afterKind (K.Mark (code ":")) v (tokensFrom line)) d in
           record { named = rw (h, two); behind = rw (h, two) }

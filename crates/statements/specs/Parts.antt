@@ -1,9 +1,12 @@
 -- What the parts of `read_line` promise one another. These promises are inner ones; `read_line` has the natural one.
 use Prim.Native.Nat.{ℕ}
-use mathlib.Core.Bool.{cond}
+use Prim.Native.Char.{code}
+use mathlib.Core.Bool.{Bool, cond}
 use mathlib.Core.List.{List}
 use mathlib.Core.Path.{_≡_}
+use lib.Dec.{eqb}
 use lib.IntN.{ℤ}
+use lib.ListN.{getD}
 use mir.Syntax.{w16}
 use mir.Val.{ofZ}
 use Rattle.tokens.specs.Reading.{tokensFrom}
@@ -21,6 +24,10 @@ use Rattle.statements.specs.declared.Outcome.the-variants.{Value, Fails}
 use Rattle.statements.specs.declared.Statement.{Statement}
 use Rattle.statements.specs.declared.StatementRead.{StatementRead}
 use Rattle.statements.specs.declared.StatementRead.the-variants as S
+
+-- a `:` stands at a place of the line; past its end the byte is 0
+abbrev pub colonAt : List ℕ → ℕ → Bool
+colonAt line at = eqb (getD line at 0) (code ":")
 
 -- no label: the statement begins where the line does
 abbrev pub nowhere : Labelled

@@ -1,7 +1,7 @@
 // A line's label, and the cursor after it (specs/Reading.antt, specs/Parts.antt).
 ghost use mathlib.Core.Path.{_≡_};
-ghost use Rattle.statements.specs.Reading.{isWord, isColon};
-ghost use Rattle.statements.specs.Parts.{nowhere, LabelDone};
+ghost use Rattle.statements.specs.Reading.{isWord};
+ghost use Rattle.statements.specs.Parts.{colonAt, nowhere, LabelDone};
 use super::Labelled;
 use numerals::Cursor;
 use tokens::Kind;
@@ -22,17 +22,11 @@ pub(crate) fn is_word(k: Kind) -> bool
     }
 }
 
-fn is_colon(k: Kind) -> bool
-    ensures { λ r. ⌜ r ≡ isColon k ⌝ }
+// Whether a `:` stands at a place; past the line's end none does.
+fn colon_at(s: &[u8], at: usize) -> bool
+    ensures { λ r. ⌜ r ≡ colonAt (now (s .entry)) at ⌝ }
 {
-    match k {
-        Kind::End => false,
-        Kind::Stray => false,
-        Kind::Word => false,
-        Kind::Number(_, _) => false,
-        Kind::Text => false,
-        Kind::Mark(b) => b == b':',
-    }
+    if at < s.len() { s[at] == b':' } else { false }
 }
 
 // Without a label the statement begins where the line does.
@@ -56,20 +50,14 @@ pub(crate) fn label(s: &[u8]) -> Labelled
     if !is_word(kind) {
         return unlabelled();
     }
-    let c = next_token(s, next);
-    let mark = c.kind;
-    let behind = c.next;
-    if !is_colon(mark) {
+    if !colon_at(s, next.at) {
         return unlabelled();
     }
-    if c.directly {
-        return Labelled {
-            label: LabelIn::Named(Name {
-                start: start,
-                end: next.at,
-            }),
-            next: behind,
-        };
+    Labelled {
+        label: LabelIn::Named(Name {
+            start: start,
+            end: next.at,
+        }),
+        next: Cursor { at: next.at + 1 },
     }
-    unlabelled()
 }
