@@ -1,10 +1,11 @@
-// A line's label, and the cursor after it (specs/Reading.antt, specs/Parts.antt).
+// A line's label, and the token after it (specs/Reading.antt, specs/Parts.antt).
 ghost use mathlib.Core.Path.{_≡_};
 ghost use Rattle.statements.specs.Reading.{isWord};
-ghost use Rattle.statements.specs.Parts.{colonAt, nowhere, LabelDone};
+ghost use Rattle.statements.specs.Parts.{colonAt, noLabel, LabelDone};
 use super::Labelled;
 use numerals::Cursor;
 use tokens::Kind;
+use tokens::Token;
 use tokens::tokens::next_token;
 use values::LabelIn;
 use values::Name;
@@ -29,13 +30,13 @@ fn colon_at(s: &[u8], at: usize) -> bool
     if at < s.len() { s[at] == b':' } else { false }
 }
 
-// Without a label the statement begins where the line does.
-fn unlabelled() -> Labelled
-    ensures { λ r. ⌜ r ≡ nowhere ⌝ }
+// Without a label the statement begins with the line's first token.
+fn unlabelled(w: Token) -> Labelled
+    ensures { λ r. ⌜ r ≡ noLabel w ⌝ }
 {
     Labelled {
         label: LabelIn::Absent,
-        next: Cursor { at: 0 },
+        word: w,
     }
 }
 
@@ -48,16 +49,16 @@ pub(crate) fn label(s: &[u8]) -> Labelled
     let start = w.start;
     let next = w.next;
     if !is_word(kind) {
-        return unlabelled();
+        return unlabelled(w);
     }
     if !colon_at(s, next.at) {
-        return unlabelled();
+        return unlabelled(w);
     }
     Labelled {
         label: LabelIn::Named(Name {
             start: start,
             end: next.at,
         }),
-        next: Cursor { at: next.at + 1 },
+        word: next_token(s, Cursor { at: next.at + 1 }),
     }
 }

@@ -21,19 +21,19 @@ returns-2 c =
     let g = sym (c .before .before .colon-at .ensures) ∙ not-true _ (c .before .if2 .taken) in
     no-colon (w .before .before .args .s .now) (w .next-token .ensures) f g (c .unlabelled2 .ensures)
 
-add-t11 : tie.Need-add-t11
-add-t11 c =
+add-t12 : tie.Need-add-t12
+add-t12 c =
     let w = c .before .before .before .before .before .before in
     let g = sym (c .before .before .colon-at .ensures) ∙ not-false _ (c .before .if2 .left) in
     omega (arith, colon-stands (w .before .before .args .s .now) (w .next-token .result .next .at) g)
 
 returns-3 : tie.Need-returns-3
 returns-3 c =
-    let m = c .before .before .before in
+    let m = c .before .before .before .before in
     let w = m .before .before .before in
     let f = sym (m .before .is-word .ensures) ∙ not-false _ (m .if1 .left) in
-    let g = sym (c .before .before .colon-at .ensures) ∙ not-false _ (c .before .if2 .left) in
-    is-label (w .before .before .args .s .now) (w .next-token .ensures) f g
+    let g = sym (c .before .before .before .colon-at .ensures) ∙ not-false _ (c .before .before .if2 .left) in
+    is-label (w .before .before .args .s .now) (w .next-token .ensures) f g (c .next-token2 .ensures)
 
 pub label-spec : {M : Type 1} → statement M
 label-spec =
@@ -46,5 +46,6 @@ label-spec =
     (λ c κs. search needs)
     (λ c κs. search needs)
     returns-2
-    add-t11
+    add-t12
+    (λ c κs. search needs)
     returns-3)
