@@ -10,6 +10,7 @@ pub mod Places
 pub mod Heads
 pub mod Parted
 pub mod Meanings
+pub mod Colons
 pub mod Rows
 pub mod EveryRow
 pub mod Spacing
