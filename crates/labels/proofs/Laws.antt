@@ -1,5 +1,5 @@
 -- Laws of windows, of `same`, of the words held and of a word's place among them.
-use mathlib.Core.Path.{_≡_, refl, sym, ap, ap₂, _∙_}
+use mathlib.Core.Path.{_≡_, refl, sym, ap, ap₂, subst, _∙_}
 use mathlib.Core.List.{List, [], _∷_, _++_, append-assoc}
 use mathlib.Core.Bool.{Bool, true, false, _&&_}
 use Prim.Native.Nat.{ℕ, zero, suc, _+_, _-_, _≤_, _<_}
@@ -8,9 +8,9 @@ use native.Mathlib.Omega.{arith}
 use lib.Dec.{eqb}
 use lib.ListN.{length, getD, drop, take, set, replicate}
 use lib.Seq.{drop-cons, take-suc-set, getD-take, getD-drop}
-use borrow.Author.Tests.{eq-eqb, ne-eqb}
+use borrow.Author.Tests.{eq-eqb, ne-eqb, eqb-true, eqb-false}
 use Rattle.sources.specs.Uses.{same}
-use Rattle.labels.specs.Labels.{window, words, placeIn}
+use Rattle.labels.specs.Labels.{window, words, placeIn, OtherLengths}
 
 pub length-window : (s : List ℕ) (a n : ℕ) → length (window s a n) ≡ n
 unfolding window
@@ -89,6 +89,42 @@ place-more s xs ls w i n h k l e = rw (words-cons s xs ls i n h k l, e)
 pub place-end : (s xs ls w : List ℕ) (i n : ℕ) → n ≤ i → placeIn w (words s (drop i xs) (drop i ls) (n - i)) ≡ 0
 unfolding placeIn words
 place-end s xs ls w i n h = let e : n - i ≡ 0 = omega arith in rw e
+
+-- no label yet, and one more of another length
+pub others-none : (ls : List ℕ) (m i : ℕ) → OtherLengths ls m i i
+others-none ls m i j p q e = omega (arith, p, q)
+
+pub others-more : (ls : List ℕ) (m from i : ℕ) → OtherLengths ls m from i → (getD ls i 0 ≡ m → ⊥) → OtherLengths ls m from (i + 1)
+others-more ls m from i o h j p q e = go (eqb j i) refl
+  where
+    go : (b : Bool) → eqb j i ≡ b → ⊥
+    go true f = h (subst (λ (x : ℕ). getD ls x 0 ≡ m) (eqb-true j i f) e)
+    go false f = let n : j ≡ i → ⊥ = eqb-false j i f in o j p (omega (arith, q, n)) e
+
+-- labels of another length are passed
+pub place-skip : (s xs ls t : List ℕ) (b m n d i : ℕ) → n ≤ length xs → n ≤ length ls → i + d ≤ n → OtherLengths ls m i (i + d)
+    → placeIn (window t b m) (words s (drop i xs) (drop i ls) (n - i))
+    ≡ d + placeIn (window t b m) (words s (drop (i + d) xs) (drop (i + d) ls) (n - (i + d)))
+place-skip s xs ls t b m n zero i h k l o =
+    let e : i ≡ i + 0 = omega arith in
+    let f = ap (λ (x : ℕ). placeIn (window t b m) (words s (drop x xs) (drop x ls) (n - x))) e in
+    omega (arith, f)
+place-skip s xs ls t b m n (suc d) i h k l o =
+    let e : i + 1 + d ≡ i + suc d = omega arith in
+    let f = place-more s xs ls (window t b m) i n (omega (arith, h, l)) (omega (arith, k, l)) (omega (arith, l))
+    (same-other s t (getD xs i 0) b (getD ls i 0) m (o i (omega arith) (omega arith))) in
+    let g = place-skip s xs ls t b m n d (i + 1) h k (omega (arith, l)) (λ j p q. o j (omega (arith, p)) (omega (arith, q))) in
+    let v = ap (λ (x : ℕ). placeIn (window t b m) (words s (drop x xs) (drop x ls) (n - x))) e in
+    omega (arith, f, g, v)
+
+-- the same from a place up to another
+pub place-passed : (s xs ls t : List ℕ) (b m n i j : ℕ) → n ≤ length xs → n ≤ length ls → i ≤ j → j ≤ n → OtherLengths ls m i j
+    → i + placeIn (window t b m) (words s (drop i xs) (drop i ls) (n - i)) ≡ j + placeIn (window t b m) (words s (drop j xs) (drop j ls) (n - j))
+place-passed s xs ls t b m n i j h k l g o =
+    let e : i + (j - i) ≡ j = omega (arith, l) in
+    let f = place-skip s xs ls t b m n (j - i) i h k (omega (arith, e, g)) (subst (OtherLengths ls m i) (sym e) o) in
+    let v = subst (λ (x : ℕ). placeIn (window t b m) (words s (drop i xs) (drop i ls) (n - i)) ≡ j - i + placeIn (window t b m) (words s (drop x xs) (drop x ls) (n - x))) e f in
+    omega (arith, v, l)
 
 pub length-words : (s xs ls : List ℕ) (n : ℕ) → n ≤ length xs → n ≤ length ls → length (words s xs ls n) ≡ n
 unfolding words

@@ -1,5 +1,5 @@
 -- The labels that are held, as words, and a word's place among them.
-use Prim.Native.Nat.{ℕ, zero, suc, _+_, _≤_}
+use Prim.Native.Nat.{ℕ, zero, suc, _+_, _≤_, _<_}
 use mathlib.Core.Bool.{cond}
 use mathlib.Core.List.{List, [], _∷_}
 use mathlib.Core.Path.{_≡_}
@@ -33,3 +33,7 @@ unfoldable pub zipped : List (List ℕ) → List ℕ → List Bound
 zipped [] vs = []
 zipped (w ∷ ws) [] = []
 zipped (w ∷ ws) (v ∷ vs) = record { name = w; value = v } ∷ zipped ws vs
+
+-- none of the labels from a place up to another has this length
+abbrev pub OtherLengths : List ℕ → ℕ → ℕ → ℕ → Type 0
+OtherLengths ls size from to = (j : ℕ) → from ≤ j → j < to → getD ls j 0 ≡ size → ⊥

@@ -3,7 +3,7 @@ ghost use mathlib.Core.Path.{_≡_};
 ghost use Prim.Native.Nat.{_≤_, _<_};
 ghost use lib.ListN.{length, getD};
 ghost use Rattle.sources.specs.Uses.{same};
-ghost use Rattle.labels.specs.Labels.{window, placeIn, words};
+ghost use Rattle.labels.specs.Labels.{window, placeIn, words, OtherLengths};
 
 // The byte at a place, 0 past the end.
 fn byte(s: &[u8], i: usize) -> u8
@@ -35,6 +35,21 @@ fn same_name(s: &[u8], a: usize, n: usize, t: &[u8], b: usize, m: usize) -> bool
     true
 }
 
+// The first label from a place on that is so long; how many there are, if none is.
+fn of_length(lengths: &[u8], from: usize, count: usize, size: usize) -> usize
+    requires { ⌜ (from ≤ count) × (count ≤ length (now lengths)) ⌝ }
+    ensures { λ r. ⌜ (from ≤ r) × (r ≤ count) × OtherLengths (now (lengths .entry)) size from r ⌝ }
+{
+    let mut i = from;
+    while i < count {
+        if lengths[i] as usize == size {
+            return i;
+        }
+        i += 1;
+    }
+    i
+}
+
 // The place of a name of the line among the labels of the source; how many there are, if it is none of them.
 pub fn find(
     s: &[u8],
@@ -48,14 +63,14 @@ pub fn find(
     requires { ⌜ (start < 100000) × (size < 100000) × (count ≤ length (now starts)) × (count ≤ length (now lengths)) ⌝ }
     ensures { λ r. ⌜ r ≡ placeIn (window (now (line .entry)) start size) (words (now (s .entry)) (now (starts .entry)) (now (lengths .entry)) count) ⌝ }
 {
-    let mut i: usize = 0;
+    let mut i = of_length(lengths, 0, count, size);
     while i < count {
         let a = starts[i] as usize;
         let n = lengths[i] as usize;
         if same_name(s, a, n, line, start, size) {
             return i;
         }
-        i += 1;
+        i = of_length(lengths, i + 1, count, size);
     }
     i
 }

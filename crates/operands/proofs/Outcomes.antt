@@ -9,11 +9,12 @@ use lib.Dec.{eqb}
 use borrow.Author.Tests.{eq-eqb, ne-eqb, ltb-false}
 use Rattle.numerals.specs.declared.Cursor.{Cursor}
 use Rattle.isa.specs.Registers.{IX, IY, SP, isRegister}
-use Rattle.tokens.specs.Marks.{onMark, only}
+use Rattle.tokens.specs.Marks.{onMark, only, markBy, markOf}
 use Rattle.tokens.specs.Reading.{tokenAt, tokensFrom}
 use Rattle.tokens.specs.Commas.{atComma}
 use Rattle.tokens.specs.declared.Kind.{Kind}
 use Rattle.tokens.specs.declared.Kind.the-variants as K
+use Rattle.tokens.specs.declared.MarkRead.the-variants as M
 use Rattle.tokens.specs.declared.Token.{Token}
 use Rattle.values.specs.Reading.{valueAt}
 use Rattle.values.specs.declared.Value.{Value}
@@ -22,8 +23,7 @@ use Rattle.values.specs.declared.ValueRead.the-variants as V′
 use Rattle.tokens.proofs.Heads.{row-of}
 use Rattle.operands.specs.Operands.{Index}
 use Rattle.operands.specs.Walk.{Shape, hash, slash, dollar, State, operand, value, afterHash, indexDot, indexName, registerName, indirectName, closing, done, Step, to, emit, halt, wrong, onWord, starts, indexStep, finish, stepped, codeAt, step, walk}
-use Rattle.operands.specs.Peeks.{markBy, markOf, registerOf, Onward, Goes}
-use Rattle.operands.specs.declared.MarkRead.the-variants as M
+use Rattle.operands.specs.Peeks.{registerOf, Onward, Goes}
 use Rattle.operands.specs.declared.OperandRead.{OperandRead}
 use Rattle.operands.specs.declared.OperandRead.the-variants as O
 use Rattle.operands.specs.declared.RegisterRead.the-variants as R

@@ -9,10 +9,11 @@ use lib.ListN.{length}
 use Rattle.numerals.specs.declared.Cursor.{Cursor}
 use Rattle.numerals.specs.declared.Numeral.{Numeral}
 use Rattle.isa.specs.Registers.{isRegister}
-use Rattle.tokens.specs.Marks.{IsMark, onMark}
+use Rattle.tokens.specs.Marks.{IsMark, onMark, markBy, markOf}
 use Rattle.tokens.specs.Reading.{tokenAt, tokensFrom}
 use Rattle.tokens.specs.declared.Kind.{Kind}
 use Rattle.tokens.specs.declared.Kind.the-variants as K
+use Rattle.tokens.specs.declared.MarkRead.the-variants as M
 use Rattle.tokens.specs.declared.Token.{Token}
 use Rattle.tokens.proofs.Places.{token-placed}
 use Rattle.values.specs.Values.{numeral, BelowZero, nameAt}
@@ -26,8 +27,7 @@ use Rattle.values.proofs.Walks as Walks
 use Rattle.values.proofs.Walks.{turned}
 use Rattle.values.proofs.Begins.{value-cases, digits-cases, digits-read, digits-row}
 use Rattle.operands.specs.Walk.{Shape, State, operand, value, digits, put, Step, to, halt, Result, wrong, onWord, finish, stepped, codeAt, step, walk}
-use Rattle.operands.specs.Peeks.{markBy, markOf, registerBy, registerOf}
-use Rattle.operands.specs.declared.MarkRead.the-variants as M
+use Rattle.operands.specs.Peeks.{registerBy, registerOf}
 use Rattle.operands.specs.declared.RegisterRead.the-variants as R
 
 -- what the answer for a value says of the walk

@@ -1,4 +1,4 @@
--- What the code looks at on its way: a mark, a register's name; what an answer for one operand says of the walk; and what is
+-- What the code looks at on its way: a register's name; what an answer for one operand says of the walk; and what is
 -- kept of a list.
 use Prim.Native.Nat.{ℕ, _≤_}
 use mathlib.Core.Bool.{Bool, cond, _&&_}
@@ -10,7 +10,6 @@ use Rattle.isa.specs.Opcodes.{table, countOf}
 use Rattle.isa.specs.Operands.{allows}
 use Rattle.isa.specs.Registers.{isRegister}
 use Rattle.isa.specs.declared.Opcode.{Opcode}
-use Rattle.tokens.specs.Marks.{onMark}
 use Rattle.tokens.specs.Reading.{tokensFrom}
 use Rattle.tokens.specs.declared.Kind.{Kind}
 use Rattle.tokens.specs.declared.Kind.the-variants as K
@@ -22,8 +21,6 @@ use Rattle.operands.specs.declared.InstructionRead.the-variants.{WrongOp
 use Rattle.operands.specs.declared.ListRead.{ListRead}
 use Rattle.operands.specs.declared.ListRead.the-variants as L
 use Rattle.operands.specs.declared.FirstTwo.{FirstTwo}
-use Rattle.operands.specs.declared.MarkRead.{MarkRead}
-use Rattle.operands.specs.declared.MarkRead.the-variants as M
 use Rattle.operands.specs.declared.OperandRead.{OperandRead}
 use Rattle.operands.specs.declared.OperandRead.the-variants as O
 use Rattle.operands.specs.declared.RegisterRead.{RegisterRead}
@@ -32,12 +29,6 @@ use Rattle.operands.specs.declared.Written.{Written}
 use Rattle.operands.specs.declared.Written.the-variants.{Absent}
 
 -- ---- one token
-
-abbrev pub markBy : Kind → Cursor → MarkRead
-markBy k next = onMark M.Absent (λ b. M.Is b next) k
-
-abbrev pub markOf : Token → MarkRead
-markOf t = markBy (t .kind) (t .next)
 
 -- a code that names a register
 abbrev pub named : ℕ → Cursor → RegisterRead

@@ -38,12 +38,6 @@ pub enum InstructionRead {
     OutOfRange,
 }
 
-// A mark at a cursor, with the cursor after it.
-enum MarkRead {
-    Is(u8, Cursor),
-    Absent,
-}
-
 // A register's name at a cursor: its code, with the cursor after it.
 enum RegisterRead {
     Named(u16, Cursor),

@@ -3,34 +3,19 @@ ghost use mathlib.Core.Path.{_≡_};
 ghost use Rattle.tokens.specs.Reading.{tokenAt};
 ghost use Rattle.operands.specs.Walk.{hash, slash, dollar};
 ghost use Rattle.operands.specs.Walk as W;
-ghost use Rattle.operands.specs.Peeks.{markOf, registerOf, Goes};
-use super::MarkRead;
+ghost use Rattle.operands.specs.Peeks.{registerOf, Goes};
 use super::OperandRead;
 use super::RegisterRead;
 use super::Written;
 use names::lookup::register_code;
 use numerals::Cursor;
 use tokens::Kind;
+use tokens::MarkRead;
+use tokens::marks::mark_at;
 use tokens::tokens::next_token;
 use values::Value;
 use values::ValueRead;
 use values::reading::value;
-
-fn mark_at(s: &[u8], from: Cursor) -> MarkRead
-    ensures { λ r. ⌜ r ≡ markOf (tokenAt (now (s .entry)) (from .at)) ⌝ }
-{
-    let t = next_token(s, from);
-    let kind = t.kind;
-    let next = t.next;
-    match kind {
-        Kind::End => MarkRead::Absent,
-        Kind::Stray => MarkRead::Absent,
-        Kind::Word => MarkRead::Absent,
-        Kind::Number(_, _) => MarkRead::Absent,
-        Kind::Text => MarkRead::Absent,
-        Kind::Mark(b) => MarkRead::Is(b, next),
-    }
-}
 
 fn register_at(s: &[u8], from: Cursor) -> RegisterRead
     ensures { λ r. ⌜ r ≡ registerOf (now (s .entry)) (tokenAt (now (s .entry)) (from .at)) ⌝ }

@@ -8,11 +8,10 @@ use Rattle.tokens.specs.Reading.{tokenAt, tokensFrom}
 use Rattle.tokens.specs.declared.Kind.{Kind}
 use Rattle.tokens.specs.declared.Kind.the-variants as K
 use Rattle.tokens.specs.declared.Token.{Token}
-use Rattle.tokens.proofs.Top.{line-row, one-row}
+use Rattle.tokens.proofs.Top.{line-row, one-row, row-goes-on}
 use Rattle.names.specs.Names.{wordOf}
 use Rattle.names.specs.declared.Word.{Word}
 use Rattle.names.specs.declared.Word.the-variants as W
-use Rattle.tokens.proofs.Heads.{row-of}
 use Rattle.values.specs.declared.LabelIn.{LabelIn}
 use Rattle.values.specs.declared.LabelIn.the-variants.{Absent, Named}
 use Rattle.operands.specs.Operands.{wordAt}
@@ -26,45 +25,39 @@ use Rattle.items.proofs.Top as Items
 use Rattle.statements.specs.Statements.{cells, Body, items, LineText, labelled, unlabelled, Says}
 use Rattle.statements.specs.Reading.{isWord, afterLabel}
 use Rattle.statements.specs.Cells.{isData, bodyCells, cellsIn}
+use Rattle.statements.specs.Parts.{begunBy}
+use Rattle.statements.proofs.Beginning.{row-by}
 use Rattle.statements.proofs.Labelling.{never, word-kind, Labels, label-is, none-is, labels, label-after, behind-label}
 
--- ---- from a place on, by the token there
+-- ---- of the row that a token begins
 
-module _ (line : List ℕ) (at : ℕ) {w : Token} (t : w ≡ tokenAt line at) where
+module _ (line : List ℕ) (w : Token) where
   -- a token that is no word
   other-cells : (ts : List Token) → isWord (w .kind) ≡ false → bodyCells line (w ∷ ts) ≡ []
   unfolding bodyCells
   other-cells ts f = rw f
 
-  pub no-word-cells : isWord (w .kind) ≡ false → bodyCells line (tokensFrom line at) ≡ []
+  pub no-word-cells : isWord (w .kind) ≡ false → bodyCells line (begunBy line w) ≡ []
   unfolding bodyCells
-  no-word-cells f = go (w .kind) refl f
+  no-word-cells f = go (w .kind) refl
     where
-      row : {k : Kind} {ts : List Token} → w .kind ≡ k → tokensFrom line at ≡ tokenAt line at ∷ ts → bodyCells line (tokensFrom line at) ≡ []
-      row {ts = ts} e r = ap (bodyCells line) (r ∙ ap (λ (v : Token). v ∷ ts) (sym t)) ∙ other-cells ts f
-
-      here : {k : Kind} → w .kind ≡ k → tokenAt line at .kind ≡ k
-      here e = ap (λ (v : Token). v .kind) (sym t) ∙ e
-
-      go : (k : Kind) → w .kind ≡ k → isWord k ≡ false → bodyCells line (tokensFrom line at) ≡ []
-      go K.End e g = ap (bodyCells line) (row-of line at (here e))
-      go K.Stray e g = row e (row-of line at (here e))
-      go K.Word e g = never (cc)
-      go (K.Number v r) e g = row e (row-of line at (here e))
-      go K.Text e g = row e (row-of line at (here e))
-      go (K.Mark b) e g = row e (row-of line at (here e))
+      go : (k : Kind) → w .kind ≡ k → bodyCells line (begunBy line w) ≡ []
+      go K.End e = ap (bodyCells line) (row-by line w e)
+      go K.Stray e = ap (bodyCells line) (row-by line w e) ∙ other-cells [] f
+      go K.Word e = never (cc)
+      go (K.Number v r) e = ap (bodyCells line) (row-by line w e) ∙ other-cells (tokensFrom line (w .next .at)) f
+      go K.Text e = ap (bodyCells line) (row-by line w e) ∙ other-cells (tokensFrom line (w .next .at)) f
+      go (K.Mark b) e = ap (bodyCells line) (row-by line w e) ∙ other-cells (tokensFrom line (w .next .at)) f
 
   module _ (f : isWord (w .kind) ≡ true) where
-    pub word-row : tokensFrom line at ≡ w ∷ tokensFrom line (w .next .at)
-    word-row =
-        row-of line at (ap (λ (v : Token). v .kind) (sym t) ∙ word-kind (w .kind) f)
-        ∙ ap (λ (v : Token). v ∷ tokensFrom line (v .next .at)) (sym t)
+    pub word-row : begunBy line w ≡ w ∷ tokensFrom line (w .next .at)
+    word-row = row-by line w (word-kind (w .kind) f)
 
-    pub no-data-cells : isData (wordOf (wordAt line w)) ≡ false → bodyCells line (tokensFrom line at) ≡ []
+    pub no-data-cells : isData (wordOf (wordAt line w)) ≡ false → bodyCells line (begunBy line w) ≡ []
     unfolding bodyCells
     no-data-cells g = ap (bodyCells line) word-row ∙ rw (f, g)
 
-    pub data-cells : isData (wordOf (wordAt line w)) ≡ true → bodyCells line (tokensFrom line at) ≡ cellsFrom line (tokensFrom line (w .next .at))
+    pub data-cells : isData (wordOf (wordAt line w)) ≡ true → bodyCells line (begunBy line w) ≡ cellsFrom line (tokensFrom line (w .next .at))
     unfolding bodyCells
     data-cells g = ap (bodyCells line) word-row ∙ rw (f, g)
 
@@ -114,16 +107,20 @@ module _ (line : List ℕ) where
       w : Token
       w = tokenAt line at
 
+      row : bodyCells line (tokensFrom line at) ≡ bodyCells line (begunBy line w)
+      row = ap (bodyCells line) (row-goes-on line at)
+
       by-word : isWord (w .kind) ≡ true → (b : Bool) → isData (wordOf (wordAt line w)) ≡ b → bodyCells line (tokensFrom line at) ≡ []
       by-word f true g =
-          data-cells line at refl f g
+          row
+          ∙ data-cells line w f g
           ∙ none-from (w .next .at)
-          (λ is i q. n is (rw (word-row line at refl f) (items (record { word = word-kind (w .kind) f; means = data-word (wordOf (wordAt line w)) g }) i)) q)
-      by-word f false g = no-data-cells line at refl f g
+          (λ is i q. n is (rw (row-goes-on line at ∙ word-row line w f) (items (record { word = word-kind (w .kind) f; means = data-word (wordOf (wordAt line w)) g }) i)) q)
+      by-word f false g = row ∙ no-data-cells line w f g
 
       by-kind : (b : Bool) → isWord (w .kind) ≡ b → bodyCells line (tokensFrom line at) ≡ []
       by-kind true f = by-word f (isData (wordOf (wordAt line w))) refl
-      by-kind false f = no-word-cells line at refl f
+      by-kind false f = row ∙ no-word-cells line w f
 
   pub no-cells : ((l : LabelIn) (is : List Item) → Says line l (cells is) → allInRange is ≡ true → ⊥) → cellsIn line ≡ []
   unfolding cellsIn

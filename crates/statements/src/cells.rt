@@ -1,14 +1,13 @@
 // The cells that a line's DATA gives (specs/Cells.antt).
 ghost use mathlib.Core.Path.{_≡_};
 ghost use lib.Seq.{sets};
-ghost use Rattle.tokens.specs.Reading.{tokensFrom};
 ghost use Rattle.statements.specs.Cells.{isData, bodyCells, cellsIn};
+ghost use Rattle.statements.specs.Parts.{begunBy};
 use super::labels::is_word;
 use super::labels::label;
 use names::Word;
 use names::lookup::statement_word;
-use numerals::Cursor;
-use tokens::tokens::next_token;
+use tokens::Token;
 
 fn is_data(w: Word) -> bool
     ensures { λ r. ⌜ r ≡ isData w ⌝ }
@@ -24,11 +23,10 @@ fn is_data(w: Word) -> bool
     }
 }
 
-// The statement from a cursor on.
-fn write_body(s: &[u8], from: Cursor, row: &mut [u16], at: usize)
-    ensures { λ _. ⌜ now (row .exit) ≡ sets (now (row .entry)) at (bodyCells (now (s .entry)) (tokensFrom (now (s .entry)) (from .at))) ⌝ }
+// The statement that a token begins.
+fn write_body(s: &[u8], w: Token, row: &mut [u16], at: usize)
+    ensures { λ _. ⌜ now (row .exit) ≡ sets (now (row .entry)) at (bodyCells (now (s .entry)) (begunBy (now (s .entry)) w)) ⌝ }
 {
-    let w = next_token(s, from);
     let kind = w.kind;
     let start = w.start;
     let next = w.next;
@@ -47,6 +45,6 @@ pub fn write_cells(line: &[u8], row: &mut [u16], at: usize)
     ensures { λ _. ⌜ now (row .exit) ≡ sets (now (row .entry)) at (cellsIn (now (line .entry))) ⌝ }
 {
     let found = label(line);
-    let next = found.next;
-    write_body(line, next, row, at);
+    let word = found.word;
+    write_body(line, word, row, at);
 }

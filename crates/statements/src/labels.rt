@@ -1,10 +1,11 @@
-// A line's label, and the cursor after it (specs/Reading.antt, specs/Parts.antt).
+// A line's label, and the token after it (specs/Reading.antt, specs/Parts.antt).
 ghost use mathlib.Core.Path.{_≡_};
-ghost use Rattle.statements.specs.Reading.{isWord, isColon};
-ghost use Rattle.statements.specs.Parts.{nowhere, LabelDone};
+ghost use Rattle.statements.specs.Reading.{isWord};
+ghost use Rattle.statements.specs.Parts.{colonAt, noLabel, LabelDone};
 use super::Labelled;
 use numerals::Cursor;
 use tokens::Kind;
+use tokens::Token;
 use tokens::tokens::next_token;
 use values::LabelIn;
 use values::Name;
@@ -22,26 +23,20 @@ pub(crate) fn is_word(k: Kind) -> bool
     }
 }
 
-fn is_colon(k: Kind) -> bool
-    ensures { λ r. ⌜ r ≡ isColon k ⌝ }
+// Whether a `:` stands at a place; past the line's end none does.
+fn colon_at(s: &[u8], at: usize) -> bool
+    ensures { λ r. ⌜ r ≡ colonAt (now (s .entry)) at ⌝ }
 {
-    match k {
-        Kind::End => false,
-        Kind::Stray => false,
-        Kind::Word => false,
-        Kind::Number(_, _) => false,
-        Kind::Text => false,
-        Kind::Mark(b) => b == b':',
-    }
+    if at < s.len() { s[at] == b':' } else { false }
 }
 
-// Without a label the statement begins where the line does.
-fn unlabelled() -> Labelled
-    ensures { λ r. ⌜ r ≡ nowhere ⌝ }
+// Without a label the statement begins with the line's first token.
+fn unlabelled(w: Token) -> Labelled
+    ensures { λ r. ⌜ r ≡ noLabel w ⌝ }
 {
     Labelled {
         label: LabelIn::Absent,
-        next: Cursor { at: 0 },
+        word: w,
     }
 }
 
@@ -54,22 +49,16 @@ pub(crate) fn label(s: &[u8]) -> Labelled
     let start = w.start;
     let next = w.next;
     if !is_word(kind) {
-        return unlabelled();
+        return unlabelled(w);
     }
-    let c = next_token(s, next);
-    let mark = c.kind;
-    let behind = c.next;
-    if !is_colon(mark) {
-        return unlabelled();
+    if !colon_at(s, next.at) {
+        return unlabelled(w);
     }
-    if c.directly {
-        return Labelled {
-            label: LabelIn::Named(Name {
-                start: start,
-                end: next.at,
-            }),
-            next: behind,
-        };
+    Labelled {
+        label: LabelIn::Named(Name {
+            start: start,
+            end: next.at,
+        }),
+        word: next_token(s, Cursor { at: next.at + 1 }),
     }
-    unlabelled()
 }

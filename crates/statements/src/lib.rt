@@ -1,12 +1,12 @@
 // A line of a source (document 01, "Rules of writing"): its label and its statement, as one answer that touches no state. The meaning
 // is in specs/: Statements.antt and Checks.antt.
 use isa::Opcode;
-use numerals::Cursor;
 use operands::Given;
+use tokens::Token;
 use values::LabelIn;
 
 pub mod cells; // the cells that a line's DATA gives
-mod labels; // a line's label, and the cursor after it
+mod labels; // a line's label, and the token after it
 pub mod line; // a line's reading
 pub mod refusals; // the paper's number of a check that fails
 mod results; // what an expression, operands and items come to
@@ -44,10 +44,10 @@ pub struct LineRead {
     pub statement: StatementRead,
 }
 
-// A line's label, and the cursor after it.
+// A line's label, and the statement's first token.
 struct Labelled {
     label: LabelIn,
-    next: Cursor,
+    word: Token,
 }
 
 // An expression's result as a cell, or the check that fails.

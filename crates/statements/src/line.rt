@@ -2,6 +2,7 @@
 ghost use mathlib.Core.Path.{_≡_};
 ghost use Rattle.tokens.specs.Reading.{tokensFrom};
 ghost use Rattle.statements.specs.Reading.{byWord, statementRead, lineRead};
+ghost use Rattle.statements.specs.Parts.{begunBy};
 use super::Failure;
 use super::LineRead;
 use super::Statement;
@@ -16,7 +17,7 @@ use names::Word;
 use names::lookup::statement_word;
 use numerals::Cursor;
 use tokens::Kind;
-use tokens::tokens::next_token;
+use tokens::Token;
 
 // What a statement says, by what its word is; what follows END is not looked at.
 fn by_word(s: &[u8], word: Word, from: Cursor) -> StatementRead
@@ -33,11 +34,10 @@ fn by_word(s: &[u8], word: Word, from: Cursor) -> StatementRead
     }
 }
 
-// The statement from a cursor on: its word is the first token there.
-fn statement(s: &[u8], from: Cursor) -> StatementRead
-    ensures { λ r. ⌜ r ≡ statementRead (now (s .entry)) (tokensFrom (now (s .entry)) (from .at)) ⌝ }
+// The statement that a token begins: its word is that token.
+fn statement(s: &[u8], w: Token) -> StatementRead
+    ensures { λ r. ⌜ r ≡ statementRead (now (s .entry)) (begunBy (now (s .entry)) w) ⌝ }
 {
-    let w = next_token(s, from);
     let kind = w.kind;
     let start = w.start;
     let next = w.next;
@@ -56,9 +56,9 @@ pub fn read_line(line: &[u8]) -> LineRead
 {
     let found = label(line);
     let named = found.label;
-    let next = found.next;
+    let word = found.word;
     LineRead {
         label: named,
-        statement: statement(line, next),
+        statement: statement(line, word),
     }
 }

@@ -1,5 +1,6 @@
 -- Classes of bytes: what their ranks tell, and which of them shut one another out.
 use Prim.Native.Nat.{ℕ, _+_, _-_, _≤_, _<_}
+use Prim.Native.Char.{code}
 use mathlib.Core.Bool.{Bool, true, false, cond, not, _&&_, _||_, and-false, and-eq-true-iff, false≢true}
 use mathlib.Core.Path.{_≡_, refl, sym, _∙_}
 use native.Mathlib.Omega.{arith}
@@ -114,6 +115,19 @@ module _ (b : ℕ) where
       → isMark b ≡ true
   unfolding isMark
   is-mark w k q c p = rw (w, p, k, q, c)
+
+  -- a byte of a word is no mark, nor is a quote or a semicolon
+  pub no-word-mark : isWordByte b ≡ true → isMark b ≡ false
+  unfolding isMark
+  no-word-mark w = rw (w, and-false (isPrintable b))
+
+  pub no-quote-mark : b ≡ code "\"" → isMark b ≡ false
+  unfolding isMark isBlank
+  no-quote-mark e = rw e
+
+  pub no-semicolon-mark : b ≡ code ";" → isMark b ≡ false
+  unfolding isMark isBlank
+  no-semicolon-mark e = rw e
 
   -- what a mark is not
   pub record NoOther : Type 0 where

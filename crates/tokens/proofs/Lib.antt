@@ -5,10 +5,12 @@ pub mod Blanks
 pub mod Words
 pub mod Quoted
 pub mod Here
+pub mod Peeks
 pub mod Places
 pub mod Heads
 pub mod Parted
 pub mod Meanings
+pub mod Colons
 pub mod Rows
 pub mod EveryRow
 pub mod Spacing

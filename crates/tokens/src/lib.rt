@@ -4,6 +4,7 @@ use numerals::Radix;
 
 pub mod commas; // what follows an operand or an item
 pub mod lines; // where a line ends
+pub mod marks; // the single mark at a cursor
 pub mod strings; // the character of a string at a cursor
 pub mod tokens; // the token at a cursor
 
@@ -30,6 +31,12 @@ pub enum Character {
     Stands(u8, Cursor),
     Closed(Cursor),
     Broken,
+}
+
+// The single mark at a cursor, with the cursor after it, or none.
+pub enum MarkRead {
+    Is(u8, Cursor),
+    Absent,
 }
 
 // What follows an operand or an item of DATA: a comma, with the cursor after it, the line's end, or neither.

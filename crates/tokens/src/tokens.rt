@@ -28,7 +28,7 @@ fn is_blank(b: u8) -> bool
 }
 
 // The place after the blanks that stand from a place on.
-fn skip(s: &[u8], from: usize) -> usize
+pub(crate) fn skip(s: &[u8], from: usize) -> usize
     ensures { λ r. ⌜ r ≡ from + blanks (drop from (now (s .entry))) ⌝ }
 {
     let mut i = from;

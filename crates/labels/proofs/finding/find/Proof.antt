@@ -1,18 +1,16 @@
-use borrow.Author.Needs.{needs}
-use borrow.Author.Tests.{lt-ltb, le-ltb, le-leb, lt-leb, eq-eqb, ne-eqb, leb-true, leb-false, ltb-true, ltb-false}
-use mathlib.Core.Path.{_≡_, refl, sym, ap, ap₂, subst, _∙_}
-use mathlib.Core.List.{List, [], _∷_, _++_}
-use mathlib.Core.Bool.{Bool, true, false}
 use native.Mathlib.Omega.{arith}
-use Prim.Native.Nat.{ℕ, _+_, _*_, _-_, _≤_, _<_}
-use lib.ListN.{length, getD, drop, take, set, replicate, List·getD-eq-default}
+use Prim.Native.Nat.{ℕ, _+_, _-_, _≤_, _<_}
+use mathlib.Core.Path.{_≡_, sym, _∙_}
 use native.Mathlib.Nat.{sub-zero}
+use lib.ListN.{drop}
+use borrow.Author.Needs.{needs}
 use Rattle.labels.specs.Labels.{window, words, placeIn}
-use Rattle.labels.proofs.Laws.{place-here, place-more, place-end}
+use Rattle.labels.proofs.Laws.{place-here, place-more, place-end, place-passed}
 use Rattle.labels.proofs.finding.find.Statement.{statement}
 use Rattle.labels.proofs.finding.find.Tie as tie
 use Rattle.labels.proofs.finding.find.Reads as reads
 use Rattle.labels.proofs.finding.find.Lts as lts
+use Rattle.labels.proofs.finding.of_length.Reads as of-length-reads
 use Rattle.labels.proofs.finding.same_name.Reads as same-name-reads
 
 abbrev Inv-loop : tie.InvT-loop
@@ -21,53 +19,68 @@ Inv-loop s starts lengths count line start size i₀ i = (i ≤ count) × (place
 abbrev μ-loop : tie.MeasureT-loop
 μ-loop s starts lengths count line start size i₀ i = count - i
 
--- src/lib.rt:35:5
-loop-holds : tie.Need-loop-holds Inv-loop μ-loop
-loop-holds c = (omega arith, rw (sub-zero ((c .before .before .before .before .args .count))) (omega arith))
+-- src/finding.rt:66:9
+of-length-requires : tie.Need-of-length-requires Inv-loop μ-loop
+of-length-requires c κs = search needs
 
--- src/lib.rt:36:17
+-- src/finding.rt:67:5
+loop-holds : tie.Need-loop-holds Inv-loop μ-loop
+loop-holds c =
+    let w = window (c .before .before .before .before .before .args .line .now) (c .before .before .before .before .before .args .start) (c .before .before .before .before .before .args .size) in
+    let z : placeIn w (words (c .before .before .before .before .before .args .s .now) (c .before .before .before .before .before .args .starts .now) (c .before .before .before .before .before .args .lengths .now) (c .before .before .before .before .before .args .count)) ≡ placeIn w (words (c .before .before .before .before .before .args .s .now) (drop 0 (c .before .before .before .before .before .args .starts .now)) (drop 0 (c .before .before .before .before .before .args .lengths .now)) ((c .before .before .before .before .before .args .count) - 0)) = rw (sub-zero (c .before .before .before .before .before .args .count)) in
+    let p = place-passed (c .before .before .before .before .before .args .s .now) (c .before .before .before .before .before .args .starts .now) (c .before .before .before .before .before .args .lengths .now) (c .before .before .before .before .before .args .line .now) (c .before .before .before .before .before .args .start) (c .before .before .before .before .before .args .size) (c .before .before .before .before .before .args .count) 0 (c .of-length .result) (c .before .before .before .before .before .pre .2) (c .before .before .before .before .before .pre .3) (c .of-length .ensures .0) (c .of-length .ensures .1) (c .of-length .ensures .2) in
+    ((c .of-length .ensures .1), omega (arith, z, p))
+
+-- src/finding.rt:68:17
 mul-a : tie.Need-mul-a Inv-loop μ-loop
 mul-a c = search needs
 
--- src/lib.rt:36:17
+-- src/finding.rt:68:17
 shared-slice-read-a : tie.Need-shared-slice-read-a Inv-loop μ-loop
 shared-slice-read-a c = search needs
 
--- src/lib.rt:36:17
+-- src/finding.rt:68:17
 cast-a : tie.Need-cast-a Inv-loop μ-loop
-cast-a c = omega (arith, (c .shared-slice-known5 .given) ((c .before .before .loop .i)))
+cast-a c = omega (arith, (c .shared-slice-known5 .given) (c .before .before .loop .i))
 
--- src/lib.rt:37:17
+-- src/finding.rt:69:17
 shared-slice-read-n : tie.Need-shared-slice-read-n Inv-loop μ-loop
 shared-slice-read-n c = search needs
 
--- src/lib.rt:37:17
+-- src/finding.rt:69:17
 cast-n : tie.Need-cast-n Inv-loop μ-loop
-cast-n c = omega (arith, (c .shared-slice-known6 .given) ((c .before .before .before .loop .i)))
+cast-n c = omega (arith, (c .shared-slice-known6 .given) (c .before .before .before .loop .i))
 
--- src/lib.rt:38:12
+-- src/finding.rt:70:12
 same-name-requires : tie.Need-same-name-requires Inv-loop μ-loop
-same-name-requires c κs = omega (arith, (c .before .shared-slice-known5 .given) ((c .before .before .before .loop .i)), (c .shared-slice-known6 .given) ((c .before .before .before .loop .i)))
+same-name-requires c κs = omega (arith, (c .before .shared-slice-known5 .given) (c .before .before .before .loop .i), (c .shared-slice-known6 .given) (c .before .before .before .loop .i))
 
--- src/lib.rt:39:13
+-- src/finding.rt:71:13
 returns : tie.Need-returns Inv-loop μ-loop
-returns c = omega (arith, place-here ((c .before .before .before .before .before .before .before .before .before .before .args .s .now)) ((c .before .before .before .before .before .before .before .before .before .before .args .starts .now)) ((c .before .before .before .before .before .before .before .before .before .before .args .lengths .now)) (window ((c .before .before .before .before .before .before .before .before .before .before .args .line .now)) ((c .before .before .before .before .before .before .before .before .before .before .args .start)) ((c .before .before .before .before .before .before .before .before .before .before .args .size))) ((c .before .before .before .before .before .loop .i)) ((c .before .before .before .before .before .before .before .before .before .before .args .count)) (omega arith) (omega arith) (omega arith) (sym ((c .before .same-name .ensures)) ∙ (c .if1 .taken)))
+returns c = omega (arith, place-here (c .before .before .before .before .before .before .before .before .before .before .before .args .s .now) (c .before .before .before .before .before .before .before .before .before .before .before .args .starts .now) (c .before .before .before .before .before .before .before .before .before .before .before .args .lengths .now) (window (c .before .before .before .before .before .before .before .before .before .before .before .args .line .now) (c .before .before .before .before .before .before .before .before .before .before .before .args .start) (c .before .before .before .before .before .before .before .before .before .before .before .args .size)) (c .before .before .before .before .before .loop .i) (c .before .before .before .before .before .before .before .before .before .before .before .args .count) (omega arith) (omega arith) (omega arith) (sym (c .before .same-name .ensures) ∙ (c .if1 .taken)))
 
--- src/lib.rt:41:9
-add-i : tie.Need-add-i Inv-loop μ-loop
-add-i c = search needs
+-- src/finding.rt:73:32
+add-of-length : tie.Need-add-of-length Inv-loop μ-loop
+add-of-length c = search needs
 
--- src/lib.rt:35:5
+-- src/finding.rt:73:9
+of-length-requires-2 : tie.Need-of-length-requires-2 Inv-loop μ-loop
+of-length-requires-2 c κs = search needs
+
+-- src/finding.rt:67:5
 loop-less : tie.Need-loop-less Inv-loop μ-loop
-loop-less c = search needs
+loop-less c = omega (arith, (c .of-length2 .ensures .0), (c .of-length2 .ensures .1), (c .before .before .before .before .before .loop-test .taken))
 
--- src/lib.rt:35:5
+-- src/finding.rt:67:5
 loop-again : tie.Need-loop-again Inv-loop μ-loop
-loop-again c = omega (arith, place-more ((c .before .before .before .before .before .before .before .before .before .before .args .s .now)) ((c .before .before .before .before .before .before .before .before .before .before .args .starts .now)) ((c .before .before .before .before .before .before .before .before .before .before .args .lengths .now)) (window ((c .before .before .before .before .before .before .before .before .before .before .args .line .now)) ((c .before .before .before .before .before .before .before .before .before .before .args .start)) ((c .before .before .before .before .before .before .before .before .before .before .args .size))) ((c .before .before .before .before .before .loop .i)) ((c .before .before .before .before .before .before .before .before .before .before .args .count)) (omega arith) (omega arith) (omega arith) (sym ((c .before .same-name .ensures)) ∙ (c .if1 .left)))
+loop-again c =
+    let m = place-more (c .before .before .before .before .before .before .before .before .before .before .before .before .args .s .now) (c .before .before .before .before .before .before .before .before .before .before .before .before .args .starts .now) (c .before .before .before .before .before .before .before .before .before .before .before .before .args .lengths .now) (window (c .before .before .before .before .before .before .before .before .before .before .before .before .args .line .now) (c .before .before .before .before .before .before .before .before .before .before .before .before .args .start) (c .before .before .before .before .before .before .before .before .before .before .before .before .args .size)) (c .before .before .before .before .before .before .loop .i) (c .before .before .before .before .before .before .before .before .before .before .before .before .args .count) (omega (arith, (c .before .before .before .before .before .loop-test .taken), (c .before .before .before .before .before .before .before .before .before .before .before .before .pre .2))) (omega (arith, (c .before .before .before .before .before .loop-test .taken), (c .before .before .before .before .before .before .before .before .before .before .before .before .pre .3))) (c .before .before .before .before .before .loop-test .taken) (sym (c .before .before .same-name .ensures) ∙ (c .before .if1 .left)) in
+    let p = place-passed (c .before .before .before .before .before .before .before .before .before .before .before .before .args .s .now) (c .before .before .before .before .before .before .before .before .before .before .before .before .args .starts .now) (c .before .before .before .before .before .before .before .before .before .before .before .before .args .lengths .now) (c .before .before .before .before .before .before .before .before .before .before .before .before .args .line .now) (c .before .before .before .before .before .before .before .before .before .before .before .before .args .start) (c .before .before .before .before .before .before .before .before .before .before .before .before .args .size) (c .before .before .before .before .before .before .before .before .before .before .before .before .args .count) ((c .before .before .before .before .before .before .loop .i) + 1) (c .of-length2 .result) (c .before .before .before .before .before .before .before .before .before .before .before .before .pre .2) (c .before .before .before .before .before .before .before .before .before .before .before .before .pre .3) (c .of-length2 .ensures .0) (c .of-length2 .ensures .1) (c .of-length2 .ensures .2) in
+    ((c .of-length2 .ensures .1), omega (arith, (c .before .before .before .before .before .before .loop .inv .1), m, p))
 
--- src/lib.rt:30:1
+-- src/finding.rt:54:1
 returns-2 : tie.Need-returns-2 Inv-loop μ-loop
-returns-2 c = omega (arith, place-end ((c .before .before .before .before .before .before .args .s .now)) ((c .before .before .before .before .before .before .args .starts .now)) ((c .before .before .before .before .before .before .args .lengths .now)) (window ((c .before .before .before .before .before .before .args .line .now)) ((c .before .before .before .before .before .before .args .start)) ((c .before .before .before .before .before .before .args .size))) ((c .before .loop .i)) ((c .before .before .before .before .before .before .args .count)) (omega arith))
+returns-2 c = omega (arith, (c .before .loop .inv .1), place-end (c .before .before .before .before .before .before .before .args .s .now) (c .before .before .before .before .before .before .before .args .starts .now) (c .before .before .before .before .before .before .before .args .lengths .now) (window (c .before .before .before .before .before .before .before .args .line .now) (c .before .before .before .before .before .before .before .args .start) (c .before .before .before .before .before .before .before .args .size)) (c .before .loop .i) (c .before .before .before .before .before .before .before .args .count) (omega arith))
 
 pub find-spec : {M : Type 1} → statement M
 find-spec =
@@ -75,6 +88,7 @@ find-spec =
     (tie.spec
     Inv-loop
     μ-loop
+    of-length-requires
     loop-holds
     mul-a
     shared-slice-read-a
@@ -83,7 +97,8 @@ find-spec =
     cast-n
     same-name-requires
     returns
-    add-i
+    add-of-length
+    of-length-requires-2
     loop-less
     loop-again
     returns-2)

@@ -1,6 +1,6 @@
 -- The label and the tokens behind it are what `label` found, and the statement is read from there.
 use borrow.Author.Needs.{needs}
-use mathlib.Core.Path.{ap, ap₂, _∙_}
+use mathlib.Core.Path.{sym, ap, ap₂, _∙_}
 use Rattle.values.specs.declared.LabelIn.{LabelIn}
 use Rattle.statements.specs.Reading.{statementRead, lineRead}
 use Rattle.statements.specs.declared.LineRead.{LineRead}
@@ -16,7 +16,7 @@ unfolding answer lineRead
 returns c =
     let d = c .before .before .label .ensures in
     let s = c .before .before .before .before .args .line .now in
-    ap₂ answer (d .named) (c .statement .ensures ∙ ap (statementRead s) (d .behind))
+    ap₂ answer (d .named) (c .statement .ensures ∙ ap (statementRead s) (sym (d .behind)))
 
 pub read-line-spec : {M : Type 1} → statement M
 read-line-spec = tie.close (tie.spec (λ c κs. search needs) (λ c κs. search needs) returns)
