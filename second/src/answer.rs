@@ -66,7 +66,10 @@ fn answer_encode(opcode: u8, operands: &[(u8, u16); 2]) -> Reply {
 }
 
 /// Lends a machine what the case says, operates it, and tells what it left behind.
-fn operate<T>(lent: &LentMachine, operation: impl FnOnce(&mut Machine) -> T) -> (T, Left) {
+pub(crate) fn operate<T>(
+    lent: &LentMachine,
+    operation: impl FnOnce(&mut Machine) -> T,
+) -> (T, Left) {
     let before = lent.memory.row();
     let mut memory = before.clone();
     let mut output = vec![lent.output_fill; lent.output_length];

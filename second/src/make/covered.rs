@@ -5,9 +5,10 @@
 use super::edges::kinds::all_kinds;
 use super::random::Random;
 use super::{draw, ports, states};
+use crate::answer::operate;
 use crate::case::{Case, LentMachine};
 use crate::isa::{encode, opcode, Instruction, Opcode, Operand, Place};
-use crate::machine::{self, Machine, Registers, Stop, PC};
+use crate::machine::{self, Stop, PC};
 
 pub fn all(random: &mut Random) -> Vec<Case> {
     let mut cases = Vec::new();
@@ -58,17 +59,7 @@ pub fn stops(opcode: Opcode) -> Vec<(Stop, bool)> {
 
 /// What a step of a lent machine comes to.
 pub fn comes_to(lent: &LentMachine) -> (Stop, bool) {
-    let mut memory = lent.memory.row();
-    let mut output = vec![lent.output_fill; lent.output_length];
-    let stepped = machine::step(&mut Machine {
-        registers: Registers(lent.registers),
-        stop_code: lent.stop_code,
-        memory: &mut memory,
-        input: &lent.input,
-        input_position: lent.input_position,
-        output: &mut output,
-        output_position: lent.output_position,
-    });
+    let (stepped, _) = operate(lent, machine::step);
     (stepped.stop, stepped.completed)
 }
 
