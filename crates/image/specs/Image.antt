@@ -46,7 +46,7 @@ imageLines memory marks = headLines (length memory) (claimed marks) ++ cellLines
 abbrev pub LF : ℕ
 LF = 10
 
--- "one line each": an LF after every line, the last too
+-- "one line each", as 01 says of a refusal: an LF after every line, the last too
 unfoldable pub textOf : List (List ℕ) → List ℕ
 textOf [] = []
 textOf (line ∷ lines) = line ++ (LF ∷ textOf lines)

@@ -93,7 +93,7 @@ Apart (b ∷ bs) = ((c : Block) → List·Memᴰ c bs → (a : ℕ) → Has b a 
 
 -- ---- the image
 
--- "exactly the cells that the manual and document 01 give, and zero in every other"
+-- demand 2: exactly the cells that the manual and document 01 give, and zero in every other
 pub record Image (M : ℕ) (bs : List Block) (memory marks : List ℕ) : Type 0 where
   pub memory-long : length memory ≡ M
   pub map-long : length marks ≡ M
@@ -101,7 +101,7 @@ pub record Image (M : ℕ) (bs : List Block) (memory marks : List ℕ) : Type 0 
       → (getD memory (b .from + i) 0 ≡ getD (b .given) i 0) × (getD marks (b .from + i) free ≡ b .mark)
   pub elsewhere : (a : ℕ) → ((b : Block) → List·Memᴰ b bs → Has b a → ⊥) → (getD memory a 0 ≡ 0) × (getD marks a free ≡ free)
 
--- "accepted exactly when the rules of writing .. give it a reading that passes every listed check"
+-- demand 3: accepted exactly when the rules of writing give it a reading that passes every listed check
 pub record Accepted (M N : ℕ) (source memory marks : List ℕ) : Type 0 where
   pub reading : List Said
   pub passing : Passing M N source reading
