@@ -7,6 +7,7 @@ pub mod LateDecided
 pub mod Works
 pub mod Ends
 pub mod Walk
+pub mod Loop
 pub mod Whole
 pub mod Stores
 pub mod Contents

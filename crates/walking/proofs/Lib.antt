@@ -3,6 +3,5 @@ pub mod Notes
 pub mod Said
 pub mod Words
 pub mod Kept
-pub mod Loop
 pub mod Walks
 pub mod Ends

@@ -16,6 +16,7 @@ use Rattle.isa.proofs.Top as isa
 use Rattle.tokens.specs.Reading.{tokensWithin, tokensFrom}
 use Rattle.values.specs.declared.LabelIn.{LabelIn}
 use Rattle.values.specs.declared.LabelIn.the-variants.{Absent, Named}
+use Rattle.values.specs.declared.Name.{Name}
 use Rattle.values.proofs.Within.{LabelWithin}
 use Rattle.operands.specs.Checks.{operandAt, labelIn, given}
 use Rattle.operands.specs.Settling.{reworded, settledBy, settledInstruction}
@@ -30,7 +31,7 @@ use Rattle.statements.specs.declared.StatementRead.the-variants.{Passes}
 use Rattle.statements.proofs.Labelling.{never}
 use Rattle.statements.proofs.Passing.{instruction-from, words-claimed, operand-labels-within}
 use Rattle.labels.specs.Labels.{Part}
-use Rattle.walking.specs.Noting.{Placeable, notedBy, noted, LabelHas}
+use Rattle.walking.specs.Noting.{Placeable, notedBy, noted}
 use Rattle.placing.proofs.LabelLaws.{spelled-window}
 use Rattle.walking.proofs.Notes.{few-words}
 
@@ -76,6 +77,9 @@ module _ (line : List ℕ) {op : Opcode} {a b : Given} (e : lineRead line .state
       ∙ operands.encodes line (tokensFrom line (h .0)) op (h .1) (wordOf (a .operand)) (wordOf (b .operand)))
 
 -- ---- an operand that names a label has one word
+
+abbrev LabelHas : Given → Type 0
+LabelHas g = (n : Name) → g .label ≡ Named n → length (operandWords (g .operand)) ≡ 1
 
 written-has : (o : Written) (x : ℕ) → LabelHas (given o x)
 unfolding labelIn

@@ -18,6 +18,7 @@ use Rattle.sources.specs.Order.{Refusal, _on_}
 use Rattle.sources.specs.Assembling.{Verdict, passes, refused, firstOf, andThen, readLine, endsIt, labelVerdict, ownVerdict, labelOut, reservesTooFar}
 use Rattle.sources.specs.Assembling.{pastEnd, actVerdict, lineVerdict, walkLines, rawRead, Work, startWork, worked, workAfter}
 use Rattle.sources.specs.declared.Act.{Act}
+use Rattle.sources.proofs.Loop.{lineAt, linesFrom, goesOn, lines-over, lines-on}
 use Rattle.labels.specs.Labels.{words, zipped, Part}
 use Rattle.labels.proofs.Laws.{window-part}
 use Rattle.uses.specs.Held.{usesHeld}
@@ -27,7 +28,6 @@ use Rattle.placing.specs.declared.Did.{Did}
 use Rattle.placing.specs.declared.Did.the-variants.{Go, No}
 use Rattle.placing.proofs.TestLaws.{not-past}
 use Rattle.walking.specs.Walking.{workIn}
-use Rattle.walking.proofs.Loop.{lineAt, linesFrom, goesOn, lines-over, lines-on}
 
 -- ---- the line
 

@@ -2,13 +2,10 @@
 use Prim.Native.Nat.{ℕ, _+_, _-_, _≤_, _<_}
 use mathlib.Core.List.{List, [], _∷_, _++_}
 use mathlib.Core.Path.{_≡_}
-use lib.ListN.{length}
-use Rattle.isa.specs.Operands.{operandWords}
 use Rattle.isa.specs.declared.Operand.{Operand}
 use Rattle.isa.specs.declared.Operand.the-variants as O
 use Rattle.values.specs.declared.LabelIn.{LabelIn}
 use Rattle.values.specs.declared.LabelIn.the-variants.{Absent, Named}
-use Rattle.values.specs.declared.Name.{Name}
 use Rattle.operands.specs.declared.Given.{Given}
 use Rattle.labels.specs.Labels.{window}
 use Rattle.sources.specs.Uses.{Use, countedFor}
@@ -42,7 +39,3 @@ noted s from k cell next g = notedBy s from k cell next (g .operand) (g .label)
 -- whatever the source, what was held and then these are held now
 abbrev pub Noted : (List ℕ → List Use) → (List ℕ → List Use) → (List ℕ → List Use) → Type 0
 Noted before these held = (s : List ℕ) → held s ≡ before s ++ these s
-
--- an operand that names a label has one word
-abbrev pub LabelHas : Given → Type 0
-LabelHas g = (n : Name) → g .label ≡ Named n → length (operandWords (g .operand)) ≡ 1
