@@ -2,15 +2,18 @@
 use mathlib.Core.Path.{_≡_, refl, sym, ap, ap₂, subst, _∙_}
 use mathlib.Core.List.{List, [], _∷_, _++_, append-assoc}
 use mathlib.Core.Bool.{Bool, true, false, _&&_}
-use Prim.Native.Nat.{ℕ, zero, suc, _+_, _-_, _≤_, _<_}
+use Prim.Native.Nat.{ℕ, zero, suc, _+_, _*_, _-_, _≤_, _<_}
 use native.Mathlib.Numerals.{add-one}
 use native.Mathlib.Omega.{arith}
 use lib.Dec.{eqb}
 use lib.ListN.{length, getD, drop, take, set, replicate}
-use lib.Seq.{drop-cons, take-suc-set, getD-take, getD-drop}
+use lib.Seq.{drop-cons, take-suc-set, getD-take, getD-drop, slice, slice-empty, slice-cons}
 use borrow.Author.Tests.{eq-eqb, ne-eqb, eqb-true, eqb-false}
+use Rattle.values.specs.declared.Name.{Name}
+use Rattle.sources.specs.Sources.{spelled}
 use Rattle.sources.specs.Uses.{same}
-use Rattle.labels.specs.Labels.{window, words, placeIn, OtherLengths}
+use Rattle.sources.proofs.Tests.{same-decides}
+use Rattle.labels.specs.Labels.{window, words, placeIn, keyOf, OtherKeys}
 
 pub length-window : (s : List ℕ) (a n : ℕ) → length (window s a n) ≡ n
 unfolding window
@@ -26,6 +29,23 @@ window-part s f e a (suc n) h =
     ap₂ (λ (x : ℕ) (l : List ℕ). x ∷ l) (getD-take (e - f) (drop f s) a 0 (omega arith) ∙ getD-drop f s a 0)
     (window-part s f e (a + 1) n (omega arith) ∙ ap (λ (x : ℕ). window s x n) q)
 
+-- a window within the list is a part of it, as a name is of its line
+window-slice : (l : List ℕ) (n a : ℕ) → a + n ≤ length l → window l a n ≡ slice a (a + n) l
+unfolding window
+window-slice l zero a h = let e : a + 0 ≡ a = omega arith in sym (ap (λ (t : ℕ). slice a t l) e ∙ slice-empty a l)
+window-slice l (suc n) a h =
+    let e : a + suc n ≡ a + 1 + n = omega arith in
+    let f : suc a ≡ a + 1 = omega arith in
+    ap (λ (r : List ℕ). getD l a 0 ∷ r) (window-slice l n (a + 1) (omega arith))
+    ∙ ap₂ (λ (t u : ℕ). getD l a 0 ∷ slice u t l) (sym e) (sym f)
+    ∙ sym (slice-cons a (a + suc n) l 0 (omega arith) (omega arith))
+
+pub spelled-window : (line : List ℕ) (n : Name) → n .start ≤ n .end → n .end ≤ length line
+    → spelled line n ≡ window line (n .start) (n .end - n .start)
+spelled-window line n h k =
+    let e : n .start + (n .end - n .start) ≡ n .end = omega arith in
+    sym (window-slice line (n .end - n .start) (n .start) (omega arith) ∙ ap (λ (t : ℕ). slice (n .start) t line) e)
+
 pub window-cons : (s : List ℕ) (a i n : ℕ) → i < n → window s (a + i) (n - i) ≡ getD s (a + i) 0 ∷ window s (a + (i + 1)) (n - (i + 1))
 unfolding window
 window-cons s a i n h =
@@ -33,24 +53,27 @@ window-cons s a i n h =
     let q : a + i + 1 ≡ a + (i + 1) = omega arith in
     ap (λ (m : ℕ). window s (a + i) m) e ∙ ap (λ (x : ℕ). getD s (a + i) 0 ∷ window s x (n - (i + 1))) q
 
--- other lengths, other words
-pub same-length : (x y : List ℕ) → (length x ≡ length y → ⊥) → same x y ≡ false
-unfolding same
-same-length [] [] h = absurd (h refl)
-same-length [] (b ∷ y) h = refl
-same-length (a ∷ x) [] h = refl
-same-length (a ∷ x) (b ∷ y) h = rw (same-length x y (λ e. h (ap suc e))) (none (eqb′ a b))
+-- words are other words where anything that is told of a word tells them apart
+pub same-other-by : (f : List ℕ → ℕ) (x y : List ℕ) → (f x ≡ f y → ⊥) → same x y ≡ false
+same-other-by f x y h = go (same x y) refl
   where
-    eqb′ : ℕ → ℕ → Bool
-    eqb′ p q = lib.Dec.eqb p q
+    go : (b : Bool) → same x y ≡ b → b ≡ false
+    go true e = absurd (h (ap f (same-decides x y .1 e)))
+    go false e = refl
 
-    none : (t : Bool) → (t && false) ≡ false
-    none true = refl
-    none false = refl
+-- the key of a word of no byte, and of one that has a first
+pub key-none : (s : List ℕ) (a n : ℕ) → n ≡ 0 → 0 ≡ keyOf (window s a n)
+unfolding keyOf window
+key-none s a n e = rw e
+
+pub key-some : (s : List ℕ) (a n : ℕ) → (n ≡ 0 → ⊥) → keyOf (window s a n) ≡ n * 256 + getD s a 0
+unfolding keyOf window
+key-some s a zero h = absurd (h refl)
+key-some s a (suc n) h = ap (λ (k : ℕ). suc k * 256 + getD s a 0) (length-window s (a + 1) n)
 
 module _ (s t : List ℕ) (a b n : ℕ) where
   pub same-other : (m : ℕ) → (n ≡ m → ⊥) → same (window s a n) (window t b m) ≡ false
-  same-other m h = same-length (window s a n) (window t b m) (λ e. h (sym (length-window s a n) ∙ e ∙ length-window t b m))
+  same-other m h = same-other-by length (window s a n) (window t b m) (λ e. h (sym (length-window s a n) ∙ e ∙ length-window t b m))
 
   pub same-from : same (window s a n) (window t b n) ≡ same (window s (a + 0) (n - 0)) (window t (b + 0) (n - 0))
   same-from = let p : a + 0 ≡ a = omega arith in let q : b + 0 ≡ b = omega arith in let r : n - 0 ≡ n = omega arith in rw (p, q, r)
@@ -90,41 +113,42 @@ pub place-end : (s xs ls w : List ℕ) (i n : ℕ) → n ≤ i → placeIn w (wo
 unfolding placeIn words
 place-end s xs ls w i n h = let e : n - i ≡ 0 = omega arith in rw e
 
--- no label yet, and one more of another length
-pub others-none : (ls : List ℕ) (m i : ℕ) → OtherLengths ls m i i
-others-none ls m i j p q e = omega (arith, p, q)
+module _ (s xs ls : List ℕ) (key : ℕ) where
+  -- no label yet, and one more with another key
+  pub others-none : (i : ℕ) → OtherKeys s xs ls key i i
+  others-none i j p q e = omega (arith, p, q)
 
-pub others-more : (ls : List ℕ) (m from i : ℕ) → OtherLengths ls m from i → (getD ls i 0 ≡ m → ⊥) → OtherLengths ls m from (i + 1)
-others-more ls m from i o h j p q e = go (eqb j i) refl
-  where
-    go : (b : Bool) → eqb j i ≡ b → ⊥
-    go true f = h (subst (λ (x : ℕ). getD ls x 0 ≡ m) (eqb-true j i f) e)
-    go false f = let n : j ≡ i → ⊥ = eqb-false j i f in o j p (omega (arith, q, n)) e
+  pub others-more : (from i : ℕ) → OtherKeys s xs ls key from i → (keyOf (window s (getD xs i 0) (getD ls i 0)) ≡ key → ⊥)
+      → OtherKeys s xs ls key from (i + 1)
+  others-more from i o h j p q e = go (eqb j i) refl
+    where
+      go : (b : Bool) → eqb j i ≡ b → ⊥
+      go true f = h (subst (λ (x : ℕ). keyOf (window s (getD xs x 0) (getD ls x 0)) ≡ key) (eqb-true j i f) e)
+      go false f = let n : j ≡ i → ⊥ = eqb-false j i f in o j p (omega (arith, q, n)) e
 
--- labels of another length are passed
-pub place-skip : (s xs ls t : List ℕ) (b m n d i : ℕ) → n ≤ length xs → n ≤ length ls → i + d ≤ n → OtherLengths ls m i (i + d)
-    → placeIn (window t b m) (words s (drop i xs) (drop i ls) (n - i))
-    ≡ d + placeIn (window t b m) (words s (drop (i + d) xs) (drop (i + d) ls) (n - (i + d)))
-place-skip s xs ls t b m n zero i h k l o =
-    let e : i ≡ i + 0 = omega arith in
-    let f = ap (λ (x : ℕ). placeIn (window t b m) (words s (drop x xs) (drop x ls) (n - x))) e in
-    omega (arith, f)
-place-skip s xs ls t b m n (suc d) i h k l o =
-    let e : i + 1 + d ≡ i + suc d = omega arith in
-    let f = place-more s xs ls (window t b m) i n (omega (arith, h, l)) (omega (arith, k, l)) (omega (arith, l))
-    (same-other s t (getD xs i 0) b (getD ls i 0) m (o i (omega arith) (omega arith))) in
-    let g = place-skip s xs ls t b m n d (i + 1) h k (omega (arith, l)) (λ j p q. o j (omega (arith, p)) (omega (arith, q))) in
-    let v = ap (λ (x : ℕ). placeIn (window t b m) (words s (drop x xs) (drop x ls) (n - x))) e in
-    omega (arith, f, g, v)
+module _ (s xs ls w : List ℕ) (n : ℕ) where
+  -- the word's place among the labels from the i-th on
+  abbrev from : ℕ → ℕ
+  from i = placeIn w (words s (drop i xs) (drop i ls) (n - i))
 
--- the same from a place up to another
-pub place-passed : (s xs ls t : List ℕ) (b m n i j : ℕ) → n ≤ length xs → n ≤ length ls → i ≤ j → j ≤ n → OtherLengths ls m i j
-    → i + placeIn (window t b m) (words s (drop i xs) (drop i ls) (n - i)) ≡ j + placeIn (window t b m) (words s (drop j xs) (drop j ls) (n - j))
-place-passed s xs ls t b m n i j h k l g o =
-    let e : i + (j - i) ≡ j = omega (arith, l) in
-    let f = place-skip s xs ls t b m n (j - i) i h k (omega (arith, e, g)) (subst (OtherLengths ls m i) (sym e) o) in
-    let v = subst (λ (x : ℕ). placeIn (window t b m) (words s (drop i xs) (drop i ls) (n - i)) ≡ j - i + placeIn (window t b m) (words s (drop x xs) (drop x ls) (n - x))) e f in
-    omega (arith, v, l)
+  -- labels with another key are passed
+  place-skip : (d i : ℕ) → n ≤ length xs → n ≤ length ls → i + d ≤ n → OtherKeys s xs ls (keyOf w) i (i + d) → from i ≡ d + from (i + d)
+  place-skip zero i h k l o = let e : i ≡ i + 0 = omega arith in let f = ap from e in omega (arith, f)
+  place-skip (suc d) i h k l o =
+      let e : i + 1 + d ≡ i + suc d = omega arith in
+      let f = place-more s xs ls w i n (omega (arith, h, l)) (omega (arith, k, l)) (omega (arith, l))
+      (same-other-by keyOf (window s (getD xs i 0) (getD ls i 0)) w (o i (omega arith) (omega arith))) in
+      let g = place-skip d (i + 1) h k (omega (arith, l)) (λ j p q. o j (omega (arith, p)) (omega (arith, q))) in
+      let v = ap from e in
+      omega (arith, f, g, v)
+
+  -- the same from a place up to another
+  pub place-passed : (i j : ℕ) → n ≤ length xs → n ≤ length ls → i ≤ j → j ≤ n → OtherKeys s xs ls (keyOf w) i j → i + from i ≡ j + from j
+  place-passed i j h k l g o =
+      let e : i + (j - i) ≡ j = omega (arith, l) in
+      let f = place-skip (j - i) i h k (omega (arith, e, g)) (subst (OtherKeys s xs ls (keyOf w) i) (sym e) o) in
+      let v = subst (λ (x : ℕ). from i ≡ j - i + from x) e f in
+      omega (arith, v, l)
 
 pub length-words : (s xs ls : List ℕ) (n : ℕ) → n ≤ length xs → n ≤ length ls → length (words s xs ls n) ≡ n
 unfolding words

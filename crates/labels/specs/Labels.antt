@@ -1,5 +1,5 @@
 -- The labels that are held, as words, and a word's place among them.
-use Prim.Native.Nat.{ℕ, zero, suc, _+_, _≤_, _<_}
+use Prim.Native.Nat.{ℕ, zero, suc, _+_, _*_, _≤_, _<_}
 use mathlib.Core.Bool.{cond}
 use mathlib.Core.List.{List, [], _∷_}
 use mathlib.Core.Path.{_≡_}
@@ -34,6 +34,11 @@ zipped [] vs = []
 zipped (w ∷ ws) [] = []
 zipped (w ∷ ws) (v ∷ vs) = record { name = w; value = v } ∷ zipped ws vs
 
--- none of the labels from a place up to another has this length
-abbrev pub OtherLengths : List ℕ → ℕ → ℕ → ℕ → Type 0
-OtherLengths ls size from to = (j : ℕ) → from ≤ j → j < to → getD ls j 0 ≡ size → ⊥
+-- a word's length and first letter in one number
+unfoldable pub keyOf : List ℕ → ℕ
+keyOf [] = 0
+keyOf (b ∷ w) = length (b ∷ w) * 256 + b
+
+-- none of the labels from a place up to another has this key
+abbrev pub OtherKeys : List ℕ → List ℕ → List ℕ → ℕ → ℕ → ℕ → Type 0
+OtherKeys s xs ls key from to = (j : ℕ) → from ≤ j → j < to → keyOf (window s (getD xs j 0) (getD ls j 0)) ≡ key → ⊥

@@ -3,7 +3,7 @@ ghost use mathlib.Core.Path.{_≡_};
 ghost use Prim.Native.Nat.{_≤_, _<_};
 ghost use lib.ListN.{length, getD};
 ghost use Rattle.sources.specs.Uses.{same};
-ghost use Rattle.labels.specs.Labels.{window, placeIn, words, OtherLengths};
+ghost use Rattle.labels.specs.Labels.{window, placeIn, words, keyOf, OtherKeys};
 
 // The byte at a place, 0 past the end.
 fn byte(s: &[u8], i: usize) -> u8
@@ -35,14 +35,34 @@ fn same_name(s: &[u8], a: usize, n: usize, t: &[u8], b: usize, m: usize) -> bool
     true
 }
 
-// The first label from a place on that is so long; how many there are, if none is.
-fn of_length(lengths: &[u8], from: usize, count: usize, size: usize) -> usize
-    requires { ⌜ (from ≤ count) × (count ≤ length (now lengths)) ⌝ }
-    ensures { λ r. ⌜ (from ≤ r) × (r ≤ count) × OtherLengths (now (lengths .entry)) size from r ⌝ }
+// A name's length and first letter, which tell most names apart.
+fn key(s: &[u8], a: usize, n: usize) -> usize
+    requires { ⌜ n < 100000 ⌝ }
+    ensures { λ r. ⌜ r ≡ keyOf (window (now (s .entry)) a n) ⌝ }
+{
+    if n == 0 {
+        return 0;
+    }
+    n * 256 + byte(s, a) as usize
+}
+
+// The first label from a place on that has the key; how many there are, if none has.
+fn of_key(
+    s: &[u8],
+    starts: &[u16],
+    lengths: &[u8],
+    from: usize,
+    count: usize,
+    wanted: usize,
+) -> usize
+    requires { ⌜ (from ≤ count) × (count ≤ length (now starts)) × (count ≤ length (now lengths)) ⌝ }
+    ensures { λ r. ⌜ (from ≤ r) × (r ≤ count) × OtherKeys (now (s .entry)) (now (starts .entry)) (now (lengths .entry)) wanted from r ⌝ }
 {
     let mut i = from;
     while i < count {
-        if lengths[i] as usize == size {
+        let a = starts[i] as usize;
+        let n = lengths[i] as usize;
+        if key(s, a, n) == wanted {
             return i;
         }
         i += 1;
@@ -63,14 +83,15 @@ pub fn find(
     requires { ⌜ (start < 100000) × (size < 100000) × (count ≤ length (now starts)) × (count ≤ length (now lengths)) ⌝ }
     ensures { λ r. ⌜ r ≡ placeIn (window (now (line .entry)) start size) (words (now (s .entry)) (now (starts .entry)) (now (lengths .entry)) count) ⌝ }
 {
-    let mut i = of_length(lengths, 0, count, size);
+    let wanted = key(line, start, size);
+    let mut i = of_key(s, starts, lengths, 0, count, wanted);
     while i < count {
         let a = starts[i] as usize;
         let n = lengths[i] as usize;
         if same_name(s, a, n, line, start, size) {
             return i;
         }
-        i = of_length(lengths, i + 1, count, size);
+        i = of_key(s, starts, lengths, i + 1, count, wanted);
     }
     i
 }

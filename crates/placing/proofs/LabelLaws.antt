@@ -6,7 +6,7 @@ use mathlib.Core.Path.{_≡_, refl, sym, ap, ap₂, _∙_}
 use native.Mathlib.Omega.{arith}
 use lib.Dec.{ltb, leb}
 use lib.ListN.{length, getD, take, drop, set, take-append-drop}
-use lib.Seq.{slice, slice-empty, slice-cons, take-append-le, drop-append-le, length-take-le, length-slice}
+use lib.Seq.{take-append-le, drop-append-le, length-take-le, length-slice}
 use borrow.Author.Tests.{lt-ltb, le-ltb, ltb-true, ltb-false}
 use Rattle.values.specs.declared.LabelIn.the-variants.{Named}
 use Rattle.values.specs.declared.Name.{Name}
@@ -18,28 +18,10 @@ use Rattle.sources.specs.Uses.{same}
 use Rattle.sources.specs.Order.{_on_}
 use Rattle.sources.specs.Assembling.{passes, refused, firstOf, among, nameVerdict, labelVerdict}
 use Rattle.labels.specs.Labels.{window, words, placeIn, zipped}
-use Rattle.labels.proofs.Laws.{length-words, words-snoc}
+use Rattle.labels.proofs.Laws.{length-words, words-snoc, spelled-window}
 use Rattle.placing.specs.State.{stateOf, Fair}
 use Rattle.placing.specs.State as State
 use Rattle.placing.specs.declared.Counters.{Counters}
-
--- ---- a word by its place
-
-window-slice : (l : List ℕ) (n a : ℕ) → a + n ≤ length l → window l a n ≡ slice a (a + n) l
-unfolding window
-window-slice l zero a h = let e : a + 0 ≡ a = omega arith in sym (ap (λ (t : ℕ). slice a t l) e ∙ slice-empty a l)
-window-slice l (suc n) a h =
-    let e : a + suc n ≡ a + 1 + n = omega arith in
-    let f : suc a ≡ a + 1 = omega arith in
-    ap (λ (r : List ℕ). getD l a 0 ∷ r) (window-slice l n (a + 1) (omega arith))
-    ∙ ap₂ (λ (t u : ℕ). getD l a 0 ∷ slice u t l) (sym e) (sym f)
-    ∙ sym (slice-cons a (a + suc n) l 0 (omega arith) (omega arith))
-
-pub spelled-window : (line : List ℕ) (n : Name) → n .start ≤ n .end → n .end ≤ length line
-    → spelled line n ≡ window line (n .start) (n .end - n .start)
-spelled-window line n h k =
-    let e : n .start + (n .end - n .start) ≡ n .end = omega arith in
-    sym (window-slice line (n .end - n .start) (n .start) (omega arith) ∙ ap (λ (t : ℕ). slice (n .start) t line) e)
 
 spelled-length : (line : List ℕ) (n : Name) → n .end ≤ length line → length (spelled line n) ≡ n .end - n .start
 spelled-length line n h = length-slice (n .start) (n .end) line h

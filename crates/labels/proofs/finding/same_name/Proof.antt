@@ -9,16 +9,6 @@ use Rattle.labels.specs.Labels.{window}
 use Rattle.sources.specs.Uses.{same}
 use Rattle.labels.proofs.Laws.{same-other, same-from, same-more, same-stop, same-end}
 use borrow.Author.Needs.{needs}
-use borrow.Author.Tests.{lt-ltb, le-ltb, le-leb, lt-leb, eq-eqb, ne-eqb, leb-true, leb-false, ltb-true, ltb-false}
-use mathlib.Core.Path.{_≡_, refl, sym, ap, ap₂, subst, _∙_}
-use mathlib.Core.List.{List, [], _∷_, _++_}
-use mathlib.Core.Bool.{Bool, true, false}
-use native.Mathlib.Omega.{arith}
-use Prim.Native.Nat.{ℕ, _+_, _*_, _-_, _≤_, _<_}
-use lib.ListN.{length, getD, drop, take, set, replicate, List·getD-eq-default}
-use Rattle.labels.specs.Labels.{window}
-use Rattle.sources.specs.Uses.{same}
-use Rattle.labels.proofs.Laws.{same-other, same-from, same-more, same-stop, same-end}
 use Rattle.labels.proofs.finding.same_name.Statement.{statement}
 use Rattle.labels.proofs.finding.same_name.Tie as tie
 use Rattle.labels.proofs.finding.same_name.Reads as reads
