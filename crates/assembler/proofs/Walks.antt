@@ -58,14 +58,14 @@ module _ (M : ℕ) (s : List ℕ) where
     not-walked r f l H image marks t e h g = refused-as memory map t f l whole image marks g (early-whole (subst (Ends ended H) e h))
 
     -- the rows hold what the work has come to
-    module _ (starts lengths vs ms cells row aways : List ℕ) (labels uses : ℕ) where
-      pub all-walked : (o : Outcome) → ended ≡ passes → Holds s starts lengths vs ms cells row aways (workOf M s) labels uses
-          → o ≡ outcomeBy (usesVerdict (zipped (words s starts lengths labels) vs) (usesHeld s row aways uses)) (filled (zipped (words s starts lengths labels) vs) (usesHeld s row aways uses) cells) ms memory map
+    module _ (starts keys vs ms cells row aways : List ℕ) (labels uses : ℕ) where
+      pub all-walked : (o : Outcome) → ended ≡ passes → Holds s starts keys vs ms cells row aways (workOf M s) labels uses
+          → o ≡ outcomeBy (usesVerdict (zipped (words s starts keys labels) vs) (usesHeld s row aways uses)) (filled (zipped (words s starts keys labels) vs) (usesHeld s row aways uses) cells) ms memory map
           → o ≡ outcomeBy whole (memoryOf (workOf M s)) (workOf M s .place .marks) memory map
       unfolding memoryOf
       all-walked o e h g =
           let w = workOf M s in
-          let a : outcomeBy (usesVerdict (zipped (words s starts lengths labels) vs) (usesHeld s row aways uses)) (filled (zipped (words s starts lengths labels) vs) (usesHeld s row aways uses) cells) ms memory map
+          let a : outcomeBy (usesVerdict (zipped (words s starts keys labels) vs) (usesHeld s row aways uses)) (filled (zipped (words s starts keys labels) vs) (usesHeld s row aways uses) cells) ms memory map
           ≡ outcomeBy (usesVerdict (bindings (w .place)) (w .uses)) (filled (bindings (w .place)) (w .uses) cells) ms memory map =
           ap₂ (λ (bs : List Bound) (us : List Use). outcomeBy (usesVerdict bs us) (filled bs us cells) ms memory map) (h .bound) (h .uses) in
           let b : outcomeBy (usesVerdict (bindings (w .place)) (w .uses)) (filled (bindings (w .place)) (w .uses) cells) ms memory map

@@ -57,7 +57,7 @@ fn accept(cells: &[u16], marks: &[u8], memory: &mut [u16], map: &mut [u8]) -> Re
 fn settle_and_accept(
     s: &[u8],
     starts: &[u16],
-    lengths: &[u8],
+    keys: &[u16],
     values: &[u16],
     labels: usize,
     row: &[u16],
@@ -68,10 +68,10 @@ fn settle_and_accept(
     memory: &mut [u16],
     map: &mut [u8],
 ) -> Reply
-    requires { ⌜ (labels ≤ length (now starts)) × (labels ≤ length (now lengths)) × (labels ≤ length (now values)) × (uses ≤ 100000) × (4 * uses ≤ length (now row)) × (uses ≤ length (now aways)) × (length (now cells) ≡ length (now memory)) × (length (now marks) ≡ length (now map)) ⌝ }
-    ensures { λ r. ⌜ outcome r (now (memory .exit)) (now (map .exit)) ≡ outcomeBy (usesVerdict (zipped (words (now (s .entry)) (now (starts .entry)) (now (lengths .entry)) labels) (now (values .entry))) (usesHeld (now (s .entry)) (now (row .entry)) (now (aways .entry)) uses)) (filled (zipped (words (now (s .entry)) (now (starts .entry)) (now (lengths .entry)) labels) (now (values .entry))) (usesHeld (now (s .entry)) (now (row .entry)) (now (aways .entry)) uses) (now (cells .entry))) (now (marks .entry)) (now (memory .entry)) (now (map .entry)) ⌝ }
+    requires { ⌜ (labels ≤ length (now starts)) × (labels ≤ length (now keys)) × (labels ≤ length (now values)) × (uses ≤ 100000) × (4 * uses ≤ length (now row)) × (uses ≤ length (now aways)) × (length (now cells) ≡ length (now memory)) × (length (now marks) ≡ length (now map)) ⌝ }
+    ensures { λ r. ⌜ outcome r (now (memory .exit)) (now (map .exit)) ≡ outcomeBy (usesVerdict (zipped (words (now (s .entry)) (now (starts .entry)) (now (keys .entry)) labels) (now (values .entry))) (usesHeld (now (s .entry)) (now (row .entry)) (now (aways .entry)) uses)) (filled (zipped (words (now (s .entry)) (now (starts .entry)) (now (keys .entry)) labels) (now (values .entry))) (usesHeld (now (s .entry)) (now (row .entry)) (now (aways .entry)) uses) (now (cells .entry))) (now (marks .entry)) (now (memory .entry)) (now (map .entry)) ⌝ }
 {
-    match settle(s, starts, lengths, values, labels, row, aways, uses, cells) {
+    match settle(s, starts, keys, values, labels, row, aways, uses, cells) {
         Settled::Refused(f, l) => {
             return refused(f, l);
         }
@@ -85,7 +85,7 @@ fn settle_and_accept(
 fn assemble_over(
     s: &[u8],
     starts: &mut [u16],
-    lengths: &mut [u8],
+    keys: &mut [u16],
     values: &mut [u16],
     marks: &mut [u8],
     cells: &mut [u16],
@@ -94,10 +94,10 @@ fn assemble_over(
     memory: &mut [u16],
     map: &mut [u8],
 ) -> Reply
-    requires { ⌜ (length (now s) ≤ 32768) × (length (now starts) ≡ 512) × (length (now lengths) ≡ 512) × (length (now values) ≡ 512) × (length (now marks) ≤ 65536) × (now marks ≡ replicate (length (now marks)) 0) × (now cells ≡ replicate (length (now marks)) 0) × (131080 ≤ length (now row)) × (32770 ≤ length (now aways)) × (length (now memory) ≡ length (now marks)) × (length (now map) ≡ length (now marks)) ⌝ }
+    requires { ⌜ (length (now s) ≤ 32768) × (length (now starts) ≡ 512) × (length (now keys) ≡ 512) × (length (now values) ≡ 512) × (length (now marks) ≤ 65536) × (now marks ≡ replicate (length (now marks)) 0) × (now cells ≡ replicate (length (now marks)) 0) × (131080 ≤ length (now row)) × (32770 ≤ length (now aways)) × (length (now memory) ≡ length (now marks)) × (length (now map) ≡ length (now marks)) ⌝ }
     ensures { λ r. ⌜ outcome r (now (memory .exit)) (now (map .exit)) ≡ outcomeBy (andThen (walkLines (length (now (marks .entry))) 1 (start (length (now (marks .entry)))) (upToEnd (linesOf (now (s .entry))))) (lateVerdict (workOf (length (now (marks .entry))) (now (s .entry))) (length (upToEnd (linesOf (now (s .entry))))))) (memoryOf (workOf (length (now (marks .entry))) (now (s .entry)))) (workOf (length (now (marks .entry))) (now (s .entry)) .place .marks) (now (memory .entry)) (now (map .entry)) ⌝ }
 {
-    match walk(s, starts, lengths, values, marks, cells, row, aways) {
+    match walk(s, starts, keys, values, marks, cells, row, aways) {
         Walked::Refused(f, l) => {
             return refused(f, l);
         }
@@ -105,7 +105,7 @@ fn assemble_over(
             return settle_and_accept(
                 s,
                 starts,
-                lengths,
+                keys,
                 values,
                 labels,
                 row,
@@ -127,7 +127,7 @@ fn assemble_lent(s: &[u8], memory: &mut [u16], map: &mut [u8]) -> Reply
 {
     let m = memory.len();
     let mut starts = [0u16; 512];
-    let mut lengths = [0u8; 512];
+    let mut keys = [0u16; 512];
     let mut values = [0u16; 512];
     let mut marks = [0u8; 65536];
     let mut cells = [0u16; 65536];
@@ -136,7 +136,7 @@ fn assemble_lent(s: &[u8], memory: &mut [u16], map: &mut [u8]) -> Reply
     assemble_over(
         s,
         &mut starts,
-        &mut lengths,
+        &mut keys,
         &mut values,
         &mut marks[..m],
         &mut cells[..m],

@@ -1,5 +1,5 @@
 -- The labels that are held, as words, and a word's place among them.
-use Prim.Native.Nat.{ℕ, zero, suc, _+_, _≤_, _<_}
+use Prim.Native.Nat.{ℕ, zero, suc, _+_, _*_, _/_, _%_, _≤_, _<_}
 use mathlib.Core.Bool.{cond}
 use mathlib.Core.List.{List, [], _∷_}
 use mathlib.Core.Path.{_≡_}
@@ -16,12 +16,24 @@ window s a (suc n) = getD s a 0 ∷ window s (a + 1) n
 abbrev pub Part : List ℕ → ℕ → List ℕ → Type 0
 Part s from line = (a n : ℕ) → a + n ≤ length line → window line a n ≡ window s (from + a) n
 
--- the words at n places, given by their starts and lengths
+-- ---- the words held
+
+-- a word's length and first letter in one number; 0 for no byte
+unfoldable pub keyOf : List ℕ → ℕ
+keyOf [] = 0
+keyOf (b ∷ w) = suc (length w * 256 + b)
+
+-- the word that has such a number: its first letter by the number, the others from the place on
+unfoldable pub wordBy : List ℕ → ℕ → ℕ → List ℕ
+wordBy s a zero = []
+wordBy s a (suc k) = k % 256 ∷ window s (a + 1) (k / 256)
+
+-- n words, by their places and keys
 unfoldable pub words : List ℕ → List ℕ → List ℕ → ℕ → List (List ℕ)
-words s xs ls zero = []
-words s [] ls (suc n) = []
+words s xs ks zero = []
+words s [] ks (suc n) = []
 words s (a ∷ xs) [] (suc n) = []
-words s (a ∷ xs) (l ∷ ls) (suc n) = window s a l ∷ words s xs ls n
+words s (a ∷ xs) (k ∷ ks) (suc n) = wordBy s a k ∷ words s xs ks n
 
 -- how many labels come before the word's; all of them if it is none of them
 unfoldable pub placeIn : List ℕ → List (List ℕ) → ℕ
@@ -34,6 +46,6 @@ zipped [] vs = []
 zipped (w ∷ ws) [] = []
 zipped (w ∷ ws) (v ∷ vs) = record { name = w; value = v } ∷ zipped ws vs
 
--- none of the labels from a place up to another has this length
-abbrev pub OtherLengths : List ℕ → ℕ → ℕ → ℕ → Type 0
-OtherLengths ls size from to = (j : ℕ) → from ≤ j → j < to → getD ls j 0 ≡ size → ⊥
+-- none of the labels from a place up to another has this key
+abbrev pub OtherKeys : List ℕ → ℕ → ℕ → ℕ → Type 0
+OtherKeys ks key from to = (j : ℕ) → from ≤ j → j < to → getD ks j 0 ≡ key → ⊥

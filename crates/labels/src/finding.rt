@@ -1,9 +1,9 @@
 // A name among the labels (specs/Labels.antt).
 ghost use mathlib.Core.Path.{_≡_};
-ghost use Prim.Native.Nat.{_≤_, _<_};
+ghost use Prim.Native.Nat.{_+_, _-_, _≤_, _<_};
 ghost use lib.ListN.{length, getD};
 ghost use Rattle.sources.specs.Uses.{same};
-ghost use Rattle.labels.specs.Labels.{window, placeIn, words, OtherLengths};
+ghost use Rattle.labels.specs.Labels.{window, placeIn, words, keyOf, OtherKeys};
 
 // The byte at a place, 0 past the end.
 fn byte(s: &[u8], i: usize) -> u8
@@ -15,15 +15,12 @@ fn byte(s: &[u8], i: usize) -> u8
     0
 }
 
-// Whether the n bytes of s at a are the m bytes of t at b.
-fn same_name(s: &[u8], a: usize, n: usize, t: &[u8], b: usize, m: usize) -> bool
+// Whether two names of one length that begin alike are the same: n bytes of s at a, and of t at b.
+fn same_rest(s: &[u8], a: usize, t: &[u8], b: usize, n: usize) -> bool
     requires { ⌜ (a < 100000) × (b < 100000) × (n < 100000) ⌝ }
-    ensures { λ r. ⌜ r ≡ same (window (now (s .entry)) a n) (window (now (t .entry)) b m) ⌝ }
+    ensures { λ r. ⌜ r ≡ same (window (now (s .entry)) (a + 1) (n - 1)) (window (now (t .entry)) (b + 1) (n - 1)) ⌝ }
 {
-    if n != m {
-        return false;
-    }
-    let mut i: usize = 0;
+    let mut i: usize = 1;
     while i < n {
         let x = byte(s, a + i);
         let y = byte(t, b + i);
@@ -35,14 +32,25 @@ fn same_name(s: &[u8], a: usize, n: usize, t: &[u8], b: usize, m: usize) -> bool
     true
 }
 
-// The first label from a place on that is so long; how many there are, if none is.
-fn of_length(lengths: &[u8], from: usize, count: usize, size: usize) -> usize
-    requires { ⌜ (from ≤ count) × (count ≤ length (now lengths)) ⌝ }
-    ensures { λ r. ⌜ (from ≤ r) × (r ≤ count) × OtherLengths (now (lengths .entry)) size from r ⌝ }
+// A name's length and first letter.
+pub fn key(s: &[u8], a: usize, n: usize) -> usize
+    requires { ⌜ n < 100000 ⌝ }
+    ensures { λ r. ⌜ r ≡ keyOf (window (now (s .entry)) a n) ⌝ }
+{
+    if n == 0 {
+        return 0;
+    }
+    (n - 1) * 256 + byte(s, a) as usize + 1
+}
+
+// The first label from a place on that has the key; how many there are, if none has.
+fn of_key(keys: &[u16], from: usize, count: usize, wanted: usize) -> usize
+    requires { ⌜ (from ≤ count) × (count ≤ length (now keys)) ⌝ }
+    ensures { λ r. ⌜ (from ≤ r) × (r ≤ count) × OtherKeys (now (keys .entry)) wanted from r × (r < count → getD (now (keys .entry)) r 0 ≡ wanted) ⌝ }
 {
     let mut i = from;
     while i < count {
-        if lengths[i] as usize == size {
+        if keys[i] as usize == wanted {
             return i;
         }
         i += 1;
@@ -54,23 +62,23 @@ fn of_length(lengths: &[u8], from: usize, count: usize, size: usize) -> usize
 pub fn find(
     s: &[u8],
     starts: &[u16],
-    lengths: &[u8],
+    keys: &[u16],
     count: usize,
     line: &[u8],
     start: usize,
     size: usize,
 ) -> usize
-    requires { ⌜ (start < 100000) × (size < 100000) × (count ≤ length (now starts)) × (count ≤ length (now lengths)) ⌝ }
-    ensures { λ r. ⌜ r ≡ placeIn (window (now (line .entry)) start size) (words (now (s .entry)) (now (starts .entry)) (now (lengths .entry)) count) ⌝ }
+    requires { ⌜ (start < 100000) × (size < 100000) × (count ≤ length (now starts)) × (count ≤ length (now keys)) ⌝ }
+    ensures { λ r. ⌜ r ≡ placeIn (window (now (line .entry)) start size) (words (now (s .entry)) (now (starts .entry)) (now (keys .entry)) count) ⌝ }
 {
-    let mut i = of_length(lengths, 0, count, size);
+    let wanted = key(line, start, size);
+    let mut i = of_key(keys, 0, count, wanted);
     while i < count {
         let a = starts[i] as usize;
-        let n = lengths[i] as usize;
-        if same_name(s, a, n, line, start, size) {
+        if same_rest(s, a, line, start, size) {
             return i;
         }
-        i = of_length(lengths, i + 1, count, size);
+        i = of_key(keys, i + 1, count, wanted);
     }
     i
 }

@@ -6,7 +6,7 @@ use mathlib.Core.Path.{_≡_, refl, sym, ap, ap₂, _∙_}
 use native.Mathlib.Omega.{arith}
 use lib.Dec.{ltb, leb}
 use lib.ListN.{length, getD, take, drop, set, take-append-drop}
-use lib.Seq.{slice, slice-empty, slice-cons, take-append-le, drop-append-le, length-take-le, length-slice}
+use lib.Seq.{take-append-le, drop-append-le, length-take-le, length-slice}
 use borrow.Author.Tests.{lt-ltb, le-ltb, ltb-true, ltb-false}
 use Rattle.values.specs.declared.LabelIn.the-variants.{Named}
 use Rattle.values.specs.declared.Name.{Name}
@@ -17,29 +17,11 @@ use Rattle.sources.specs.Placing.{Bound, Place, names, labelled}
 use Rattle.sources.specs.Uses.{same}
 use Rattle.sources.specs.Order.{_on_}
 use Rattle.sources.specs.Assembling.{passes, refused, firstOf, among, nameVerdict, labelVerdict}
-use Rattle.labels.specs.Labels.{window, words, placeIn, zipped}
-use Rattle.labels.proofs.Laws.{length-words, words-snoc}
+use Rattle.labels.specs.Labels.{window, wordBy, words, placeIn, zipped}
+use Rattle.labels.proofs.Laws.{length-words, words-snoc, spelled-window}
 use Rattle.placing.specs.State.{stateOf, Fair}
 use Rattle.placing.specs.State as State
 use Rattle.placing.specs.declared.Counters.{Counters}
-
--- ---- a word by its place
-
-window-slice : (l : List ℕ) (n a : ℕ) → a + n ≤ length l → window l a n ≡ slice a (a + n) l
-unfolding window
-window-slice l zero a h = let e : a + 0 ≡ a = omega arith in sym (ap (λ (t : ℕ). slice a t l) e ∙ slice-empty a l)
-window-slice l (suc n) a h =
-    let e : a + suc n ≡ a + 1 + n = omega arith in
-    let f : suc a ≡ a + 1 = omega arith in
-    ap (λ (r : List ℕ). getD l a 0 ∷ r) (window-slice l n (a + 1) (omega arith))
-    ∙ ap₂ (λ (t u : ℕ). getD l a 0 ∷ slice u t l) (sym e) (sym f)
-    ∙ sym (slice-cons a (a + suc n) l 0 (omega arith) (omega arith))
-
-pub spelled-window : (line : List ℕ) (n : Name) → n .start ≤ n .end → n .end ≤ length line
-    → spelled line n ≡ window line (n .start) (n .end - n .start)
-spelled-window line n h k =
-    let e : n .start + (n .end - n .start) ≡ n .end = omega arith in
-    sym (window-slice line (n .end - n .start) (n .start) (omega arith) ∙ ap (λ (t : ℕ). slice (n .start) t line) e)
 
 spelled-length : (line : List ℕ) (n : Name) → n .end ≤ length line → length (spelled line n) ≡ n .end - n .start
 spelled-length line n h = length-slice (n .start) (n .end) line h
@@ -83,33 +65,33 @@ names-all c ws vs ms l h =
 -- ---- the verdict
 
 -- what `declare` is lent: rows for 512 labels, and a label within its line
-pub record Lent (starts lengths line vs : List ℕ) (c : Counters) (n : Name) : Type 0 where
+pub record Lent (starts keys line vs : List ℕ) (c : Counters) (n : Name) : Type 0 where
   pub fair : Fair c
   pub starts-long : length starts ≡ 512
-  pub lengths-long : length lengths ≡ 512
+  pub keys-long : length keys ≡ 512
   pub values-long : length vs ≡ 512
   pub order : n .start ≤ n .end
   pub within : n .end ≤ length line
 
-module _ (s starts lengths line vs ms : List ℕ) (c : Counters) (n : Name) (k : ℕ) (lent : Lent starts lengths line vs c n) where
+module _ (s starts keys line vs ms : List ℕ) (c : Counters) (n : Name) (k : ℕ) (lent : Lent starts keys line vs c n) where
   abbrev count : ℕ
   count = c .bound + c .waiting
 
   abbrev held : List (List ℕ)
-  held = words s starts lengths count
+  held = words s starts keys count
 
   held-long : length held ≡ count
   held-long =
-      length-words s starts lengths count (omega (arith, lent .fair .few, lent .starts-long)) (omega (arith, lent .fair .few, lent .lengths-long))
+      length-words s starts keys count (omega (arith, lent .fair .few, lent .starts-long)) (omega (arith, lent .fair .few, lent .keys-long))
 
   -- by the tests' answers
   pub label-by : {x y z : Bool} {i : ℕ} → ltb 64 (n .end - n .start) ≡ x → leb 512 count ≡ y
       → i ≡ placeIn (window line (n .start) (n .end - n .start)) held
       → ltb i count ≡ z
-      → labelVerdict k (State.placeIn s starts lengths vs ms c) line (Named n) ≡ cond (x || y) (refused (10 on k)) (cond z (refused (9 on k)) passes)
+      → labelVerdict k (State.placeIn s starts keys vs ms c) line (Named n) ≡ cond (x || y) (refused (10 on k)) (cond z (refused (9 on k)) passes)
   unfolding nameVerdict firstOf
   label-by {z = z} e f o g =
-      let a : names (State.placeIn s starts lengths vs ms c) ≡ held =
+      let a : names (State.placeIn s starts keys vs ms c) ≡ held =
       names-all c held vs ms held-long (omega (arith, lent .fair .few, lent .values-long)) in
       let w : length (spelled line n) ≡ n .end - n .start = spelled-length line n (lent .within) in
       let q : among (spelled line n) held ≡ z =
@@ -121,16 +103,16 @@ module _ (s starts lengths line vs ms : List ℕ) (c : Counters) (n : Name) (k :
 
   -- one label more
   pub label-held : count < 512 → (a m : ℕ)
-      → window line (n .start) (n .end - n .start) ≡ window s a m
-      → State.placeIn s (set starts count a) (set lengths count m) vs ms (record { at = c .at; bound = c .bound; waiting = c .waiting + 1 })
-      ≡ labelled (State.placeIn s starts lengths vs ms c) line (Named n)
+      → window line (n .start) (n .end - n .start) ≡ wordBy s a m
+      → State.placeIn s (set starts count a) (set keys count m) vs ms (record { at = c .at; bound = c .bound; waiting = c .waiting + 1 })
+      ≡ labelled (State.placeIn s starts keys vs ms c) line (Named n)
   label-held h a m e =
       let l = held-long in
       let i : c .bound + (c .waiting + 1) ≡ count + 1 = omega arith in
-      let x = window s a m in
-      let o : words s (set starts count a) (set lengths count m) (c .bound + (c .waiting + 1)) ≡ held ++ (x ∷ []) =
-      ap (words s (set starts count a) (set lengths count m)) i
-      ∙ words-snoc s starts lengths count a m (omega (arith, lent .starts-long)) (omega (arith, lent .lengths-long)) in
+      let x = wordBy s a m in
+      let o : words s (set starts count a) (set keys count m) (c .bound + (c .waiting + 1)) ≡ held ++ (x ∷ []) =
+      ap (words s (set starts count a) (set keys count m)) i
+      ∙ words-snoc s starts keys count a m (omega (arith, lent .starts-long)) (omega (arith, lent .keys-long)) in
       let t : take (c .bound) (held ++ (x ∷ [])) ≡ take (c .bound) held = take-append-le (c .bound) held (x ∷ []) (omega arith) in
       let d : drop (c .bound) (held ++ (x ∷ [])) ≡ drop (c .bound) held ++ (x ∷ []) = drop-append-le (c .bound) held (x ∷ []) (omega arith) in
       let y : x ≡ spelled line n = sym (spelled-window line n (lent .order) (lent .within) ∙ e) in

@@ -99,17 +99,17 @@ as-read M k p bytes of r e h =
     subst (λ (a : LineRead). Tells k (lineVerdict M k p (record { bytes = bytes; read = a })) (after p (record { bytes = bytes; read = a })) of r) e h
 
 -- the names stay where they are
-keeps-of : (s starts lengths vs ms : List ℕ) (k : ℕ) (v : Verdict) (p : Place) (n : ℕ) (r : Did) → Keeps n r
-    → Tells k v p (stateOf (words s starts lengths n) vs ms) r
-    → Tells k v p (placeIn s starts lengths vs ms) r
-keeps-of s starts lengths vs ms k v p n (Go c) e h = (h .0, ap (λ (i : ℕ). stateOf (words s starts lengths i) vs ms c) e ∙ h .1)
-keeps-of s starts lengths vs ms k v p n (No f) e h = h
+keeps-of : (s starts keys vs ms : List ℕ) (k : ℕ) (v : Verdict) (p : Place) (n : ℕ) (r : Did) → Keeps n r
+    → Tells k v p (stateOf (words s starts keys n) vs ms) r
+    → Tells k v p (placeIn s starts keys vs ms) r
+keeps-of s starts keys vs ms k v p n (Go c) e h = (h .0, ap (λ (i : ℕ). stateOf (words s starts keys i) vs ms c) e ∙ h .1)
+keeps-of s starts keys vs ms k v p n (No f) e h = h
 
 -- ---- the line
 
-module _ (M k : ℕ) (s starts lengths starts′ lengths′ vs ms vs′ ms′ bytes : List ℕ) (c : Counters) (read : LineRead) where
+module _ (M k : ℕ) (s starts keys starts′ keys′ vs ms vs′ ms′ bytes : List ℕ) (c : Counters) (read : LineRead) where
   abbrev before : Place
-  before = placeIn s starts lengths vs ms c
+  before = placeIn s starts keys vs ms c
 
   abbrev x : Judged
   x = record { bytes = bytes; read = read }
@@ -119,20 +119,20 @@ module _ (M k : ℕ) (s starts lengths starts′ lengths′ vs ms vs′ ms′ by
 
   -- without a label it is its statement
   pub absent-placed : (r : Did) → read .label ≡ Absent → Keeps (c .bound + c .waiting) r
-      → Tells k (stated before) (acted before (doesRead (read .statement))) (stateOf (words s starts lengths (c .bound + c .waiting)) vs′ ms′) r
-      → Tells k (lineVerdict M k before x) (after before x) (placeIn s starts lengths vs′ ms′) r
+      → Tells k (stated before) (acted before (doesRead (read .statement))) (stateOf (words s starts keys (c .bound + c .waiting)) vs′ ms′) r
+      → Tells k (lineVerdict M k before x) (after before x) (placeIn s starts keys vs′ ms′) r
   absent-placed r e f h =
-      absent-line M k before x (placeIn s starts lengths vs′ ms′) r e
-      (keeps-of s starts lengths vs′ ms′ k (stated before) (acted before (doesRead (read .statement))) (c .bound + c .waiting) r f h)
+      absent-line M k before x (placeIn s starts keys vs′ ms′) r e
+      (keeps-of s starts keys vs′ ms′ k (stated before) (acted before (doesRead (read .statement))) (c .bound + c .waiting) r f h)
 
   -- with a label that passes it is its statement, at the place with that label
   pub named-placed : {n : Name} (d : Counters) (r : Did) → read .label ≡ Named n
-      → Tells k (labelVerdict k before bytes (Named n)) (labelled before bytes (Named n)) (placeIn s starts′ lengths′ vs ms) (Go d)
+      → Tells k (labelVerdict k before bytes (Named n)) (labelled before bytes (Named n)) (placeIn s starts′ keys′ vs ms) (Go d)
       → Keeps (d .bound + d .waiting) r
-      → Tells k (stated (placeIn s starts′ lengths′ vs ms d)) (acted (placeIn s starts′ lengths′ vs ms d) (doesRead (read .statement)))
-      (stateOf (words s starts′ lengths′ (d .bound + d .waiting)) vs′ ms′) r
-      → Tells k (lineVerdict M k before x) (after before x) (placeIn s starts′ lengths′ vs′ ms′) r
+      → Tells k (stated (placeIn s starts′ keys′ vs ms d)) (acted (placeIn s starts′ keys′ vs ms d) (doesRead (read .statement)))
+      (stateOf (words s starts′ keys′ (d .bound + d .waiting)) vs′ ms′) r
+      → Tells k (lineVerdict M k before x) (after before x) (placeIn s starts′ keys′ vs′ ms′) r
   named-placed d r e t f h =
-      let q = placeIn s starts′ lengths′ vs ms d in
-      label-passes M k before x (placeIn s starts′ lengths′ vs′ ms′) q r e (t .0) (t .1)
-      (keeps-of s starts′ lengths′ vs′ ms′ k (stated q) (acted q (doesRead (read .statement))) (d .bound + d .waiting) r f h)
+      let q = placeIn s starts′ keys′ vs ms d in
+      label-passes M k before x (placeIn s starts′ keys′ vs′ ms′) q r e (t .0) (t .1)
+      (keeps-of s starts′ keys′ vs′ ms′ k (stated q) (acted q (doesRead (read .statement))) (d .bound + d .waiting) r f h)

@@ -24,7 +24,7 @@ stateOf ws vs ms c = record { at = c .at .0; bound = zipped (take (c .bound) ws)
 
 -- the same, with the names where they stand in the source
 abbrev pub placeIn : List ℕ → List ℕ → List ℕ → List ℕ → List ℕ → Counters → Place
-placeIn s starts lengths vs ms c = stateOf (words s starts lengths (c .bound + c .waiting)) vs ms c
+placeIn s starts keys vs ms c = stateOf (words s starts keys (c .bound + c .waiting)) vs ms c
 
 pub record Fair (c : Counters) : Type 0 where
   pub low : c .at .0 ≤ mostCells

@@ -11,6 +11,7 @@ ghost use Rattle.placing.specs.State.{Fair, FairDid, Tells, placeIn};
 use super::Counters;
 use super::Did;
 use labels::finding::find;
+use labels::finding::key;
 use values::Name;
 
 // "labels at most 512, a label at most 64 bytes"
@@ -23,12 +24,12 @@ pub(crate) fn declare(
     from: usize,
     line: &[u8],
     starts: &mut [u16],
-    lengths: &mut [u8],
+    keys: &mut [u16],
     c: Counters,
     n: Name,
 ) -> Did
-    requires { ⌜ Fair c × (length (now starts) ≡ 512) × (length (now lengths) ≡ 512) × (n .start ≤ n .end) × (n .end ≤ length (now line)) × (from + n .end ≤ 32768) × (window (now line) (n .start) (n .end - n .start) ≡ window (now s) (from + n .start) (n .end - n .start)) ⌝ }
-    ensures { λ r. ⌜ FairDid r × ((k : ℕ) (vs ms : List ℕ) → length vs ≡ 512 → Tells k (labelVerdict k (placeIn (now (s .entry)) (now (starts .entry)) (now (lengths .entry)) vs ms c) (now (line .entry)) (Named n)) (labelled (placeIn (now (s .entry)) (now (starts .entry)) (now (lengths .entry)) vs ms c) (now (line .entry)) (Named n)) (placeIn (now (s .entry)) (now (starts .exit)) (now (lengths .exit)) vs ms) r) ⌝ }
+    requires { ⌜ Fair c × (length (now starts) ≡ 512) × (length (now keys) ≡ 512) × (n .start ≤ n .end) × (n .end ≤ length (now line)) × (from + n .end ≤ 32768) × (window (now line) (n .start) (n .end - n .start) ≡ window (now s) (from + n .start) (n .end - n .start)) ⌝ }
+    ensures { λ r. ⌜ FairDid r × ((k : ℕ) (vs ms : List ℕ) → length vs ≡ 512 → Tells k (labelVerdict k (placeIn (now (s .entry)) (now (starts .entry)) (now (keys .entry)) vs ms c) (now (line .entry)) (Named n)) (labelled (placeIn (now (s .entry)) (now (starts .entry)) (now (keys .entry)) vs ms c) (now (line .entry)) (Named n)) (placeIn (now (s .entry)) (now (starts .exit)) (now (keys .exit)) vs ms) r) ⌝ }
 {
     let start = n.start;
     let size = n.end - start;
@@ -42,11 +43,11 @@ pub(crate) fn declare(
     if MOST_LABELS <= count {
         return Did::No(10);
     }
-    if find(s, starts, lengths, count, line, start, size) < count {
+    if find(s, starts, keys, count, line, start, size) < count {
         return Did::No(9);
     }
     starts[count] = (from + start) as u16;
-    lengths[count] = size as u8;
+    keys[count] = key(line, start, size) as u16;
     Did::Go(Counters {
         at: at,
         bound: bound,

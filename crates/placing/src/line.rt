@@ -23,16 +23,16 @@ fn place_named(
     read: LineRead,
     n: Name,
     starts: &mut [u16],
-    lengths: &mut [u8],
+    keys: &mut [u16],
     values: &mut [u16],
     marks: &mut [u8],
     c: Counters,
 ) -> Did
-    requires { ⌜ Fair c × (length (now starts) ≡ 512) × (length (now lengths) ≡ 512) × (length (now values) ≡ 512) × (length (now marks) ≤ 65536) × (read ≡ lineRead (now line)) × (from + length (now line) ≤ 32768) × Part (now s) from (now line) × (read .label ≡ Named n) ⌝ }
-    ensures { λ r. ⌜ FairDid r × ((k : ℕ) → Tells k (lineVerdict (length (now (marks .entry))) k (placeIn (now (s .entry)) (now (starts .entry)) (now (lengths .entry)) (now (values .entry)) (now (marks .entry)) c) (readLine (now (line .entry)))) (after (placeIn (now (s .entry)) (now (starts .entry)) (now (lengths .entry)) (now (values .entry)) (now (marks .entry)) c) (readLine (now (line .entry)))) (placeIn (now (s .entry)) (now (starts .exit)) (now (lengths .exit)) (now (values .exit)) (now (marks .exit))) r) ⌝ }
+    requires { ⌜ Fair c × (length (now starts) ≡ 512) × (length (now keys) ≡ 512) × (length (now values) ≡ 512) × (length (now marks) ≤ 65536) × (read ≡ lineRead (now line)) × (from + length (now line) ≤ 32768) × Part (now s) from (now line) × (read .label ≡ Named n) ⌝ }
+    ensures { λ r. ⌜ FairDid r × ((k : ℕ) → Tells k (lineVerdict (length (now (marks .entry))) k (placeIn (now (s .entry)) (now (starts .entry)) (now (keys .entry)) (now (values .entry)) (now (marks .entry)) c) (readLine (now (line .entry)))) (after (placeIn (now (s .entry)) (now (starts .entry)) (now (keys .entry)) (now (values .entry)) (now (marks .entry)) c) (readLine (now (line .entry)))) (placeIn (now (s .entry)) (now (starts .exit)) (now (keys .exit)) (now (values .exit)) (now (marks .exit))) r) ⌝ }
 {
     let st = read.statement;
-    match declare(s, from, line, starts, lengths, c, n) {
+    match declare(s, from, line, starts, keys, c, n) {
         Did::No(f) => Did::No(f),
         Did::Go(d) => place_statement(values, marks, d, st),
     }
@@ -44,18 +44,18 @@ pub fn place_line(
     line: &[u8],
     read: LineRead,
     starts: &mut [u16],
-    lengths: &mut [u8],
+    keys: &mut [u16],
     values: &mut [u16],
     marks: &mut [u8],
     c: Counters,
 ) -> Did
-    requires { ⌜ Fair c × (length (now starts) ≡ 512) × (length (now lengths) ≡ 512) × (length (now values) ≡ 512) × (length (now marks) ≤ 65536) × (read ≡ lineRead (now line)) × (from + length (now line) ≤ 32768) × Part (now s) from (now line) ⌝ }
-    ensures { λ r. ⌜ FairDid r × ((k : ℕ) → Tells k (lineVerdict (length (now (marks .entry))) k (placeIn (now (s .entry)) (now (starts .entry)) (now (lengths .entry)) (now (values .entry)) (now (marks .entry)) c) (readLine (now (line .entry)))) (after (placeIn (now (s .entry)) (now (starts .entry)) (now (lengths .entry)) (now (values .entry)) (now (marks .entry)) c) (readLine (now (line .entry)))) (placeIn (now (s .entry)) (now (starts .exit)) (now (lengths .exit)) (now (values .exit)) (now (marks .exit))) r) ⌝ }
+    requires { ⌜ Fair c × (length (now starts) ≡ 512) × (length (now keys) ≡ 512) × (length (now values) ≡ 512) × (length (now marks) ≤ 65536) × (read ≡ lineRead (now line)) × (from + length (now line) ≤ 32768) × Part (now s) from (now line) ⌝ }
+    ensures { λ r. ⌜ FairDid r × ((k : ℕ) → Tells k (lineVerdict (length (now (marks .entry))) k (placeIn (now (s .entry)) (now (starts .entry)) (now (keys .entry)) (now (values .entry)) (now (marks .entry)) c) (readLine (now (line .entry)))) (after (placeIn (now (s .entry)) (now (starts .entry)) (now (keys .entry)) (now (values .entry)) (now (marks .entry)) c) (readLine (now (line .entry)))) (placeIn (now (s .entry)) (now (starts .exit)) (now (keys .exit)) (now (values .exit)) (now (marks .exit))) r) ⌝ }
 {
     let label = read.label;
     let st = read.statement;
     match label {
         LabelIn::Absent => place_statement(values, marks, c, st),
-        LabelIn::Named(n) => place_named(s, from, line, read, n, starts, lengths, values, marks, c),
+        LabelIn::Named(n) => place_named(s, from, line, read, n, starts, keys, values, marks, c),
     }
 }

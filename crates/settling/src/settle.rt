@@ -14,7 +14,7 @@ use uses::cells::put;
 pub fn settle(
     s: &[u8],
     starts: &[u16],
-    lengths: &[u8],
+    keys: &[u16],
     values: &[u16],
     count: usize,
     row: &[u16],
@@ -22,8 +22,8 @@ pub fn settle(
     uses: usize,
     cells: &mut [u16],
 ) -> Settled
-    requires { ⌜ (count ≤ length (now starts)) × (count ≤ length (now lengths)) × (count ≤ length (now values)) × (uses ≤ 100000) × (4 * uses ≤ length (now row)) × (uses ≤ length (now aways)) ⌝ }
-    ensures { λ r. ⌜ Settles (usesVerdict (zipped (words (now (s .entry)) (now (starts .entry)) (now (lengths .entry)) count) (now (values .entry))) (usesHeld (now (s .entry)) (now (row .entry)) (now (aways .entry)) uses)) (filled (zipped (words (now (s .entry)) (now (starts .entry)) (now (lengths .entry)) count) (now (values .entry))) (usesHeld (now (s .entry)) (now (row .entry)) (now (aways .entry)) uses) (now (cells .entry))) (now (cells .exit)) r ⌝ }
+    requires { ⌜ (count ≤ length (now starts)) × (count ≤ length (now keys)) × (count ≤ length (now values)) × (uses ≤ 100000) × (4 * uses ≤ length (now row)) × (uses ≤ length (now aways)) ⌝ }
+    ensures { λ r. ⌜ Settles (usesVerdict (zipped (words (now (s .entry)) (now (starts .entry)) (now (keys .entry)) count) (now (values .entry))) (usesHeld (now (s .entry)) (now (row .entry)) (now (aways .entry)) uses)) (filled (zipped (words (now (s .entry)) (now (starts .entry)) (now (keys .entry)) count) (now (values .entry))) (usesHeld (now (s .entry)) (now (row .entry)) (now (aways .entry)) uses) (now (cells .entry))) (now (cells .exit)) r ⌝ }
 {
     let mut i: usize = 0;
     while i < uses {
@@ -33,7 +33,7 @@ pub fn settle(
         let cell = row[base + 2] as usize;
         let line = row[base + 3] as usize;
         let away = aways[i] as usize;
-        match word(s, starts, lengths, values, count, start, size, cell, away) {
+        match word(s, starts, keys, values, count, start, size, cell, away) {
             Word::No(f) => {
                 return Settled::Refused(f, Line(line));
             }

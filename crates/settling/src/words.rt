@@ -13,16 +13,16 @@ use labels::finding::find;
 fn look_up(
     s: &[u8],
     starts: &[u16],
-    lengths: &[u8],
+    keys: &[u16],
     values: &[u16],
     count: usize,
     start: usize,
     size: usize,
 ) -> Word
-    requires { ⌜ (start < 100000) × (size < 100000) × (count ≤ length (now starts)) × (count ≤ length (now lengths)) × (count ≤ length (now values)) ⌝ }
-    ensures { λ r. ⌜ Finds (valueOf (zipped (words (now (s .entry)) (now (starts .entry)) (now (lengths .entry)) count) (now (values .entry))) (window (now (s .entry)) start size)) r ⌝ }
+    requires { ⌜ (start < 100000) × (size < 100000) × (count ≤ length (now starts)) × (count ≤ length (now keys)) × (count ≤ length (now values)) ⌝ }
+    ensures { λ r. ⌜ Finds (valueOf (zipped (words (now (s .entry)) (now (starts .entry)) (now (keys .entry)) count) (now (values .entry))) (window (now (s .entry)) start size)) r ⌝ }
 {
-    let k = find(s, starts, lengths, count, s, start, size);
+    let k = find(s, starts, keys, count, s, start, size);
     if k < count {
         return Word::Is(values[k]);
     }
@@ -48,7 +48,7 @@ fn distance(value: u16, next: usize) -> Word
 pub(crate) fn word(
     s: &[u8],
     starts: &[u16],
-    lengths: &[u8],
+    keys: &[u16],
     values: &[u16],
     count: usize,
     start: usize,
@@ -56,10 +56,10 @@ pub(crate) fn word(
     cell: usize,
     away: usize,
 ) -> Word
-    requires { ⌜ (start < 100000) × (size < 100000) × (count ≤ length (now starts)) × (count ≤ length (now lengths)) × (count ≤ length (now values)) × (cell < 65536) × (away < 256) ⌝ }
-    ensures { λ r. ⌜ Tells (λ k. useVerdict (zipped (words (now (s .entry)) (now (starts .entry)) (now (lengths .entry)) count) (now (values .entry))) (useHeld (now (s .entry)) start size cell k away)) (countedWord (countedBy cell away) (valueOf (zipped (words (now (s .entry)) (now (starts .entry)) (now (lengths .entry)) count) (now (values .entry))) (window (now (s .entry)) start size))) r ⌝ }
+    requires { ⌜ (start < 100000) × (size < 100000) × (count ≤ length (now starts)) × (count ≤ length (now keys)) × (count ≤ length (now values)) × (cell < 65536) × (away < 256) ⌝ }
+    ensures { λ r. ⌜ Tells (λ k. useVerdict (zipped (words (now (s .entry)) (now (starts .entry)) (now (keys .entry)) count) (now (values .entry))) (useHeld (now (s .entry)) start size cell k away)) (countedWord (countedBy cell away) (valueOf (zipped (words (now (s .entry)) (now (starts .entry)) (now (keys .entry)) count) (now (values .entry))) (window (now (s .entry)) start size))) r ⌝ }
 {
-    match look_up(s, starts, lengths, values, count, start, size) {
+    match look_up(s, starts, keys, values, count, start, size) {
         Word::No(f) => Word::No(f),
         Word::Is(v) => {
             if away == 0 {

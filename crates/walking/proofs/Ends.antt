@@ -31,20 +31,20 @@ pub refused-early : (v : Verdict) (w : Work) (n : ℕ) (of : Counters → ℕ �
     → andThen v e ≡ refused (f on l .0)
 refused-early v w n of e q h = ap (λ (x : Verdict). andThen x e) (subst (Says v w n of) q h)
 
-module _ (s starts lengths vs ms memory row aways : List ℕ) (v : Verdict) (w : Work) (n : ℕ) {r : Lines} {c : Counters} {named : ℕ} {l : Line}
-    (q : r ≡ L.Passes c named l) (h : Says v w n (workIn s starts lengths vs ms memory row aways) r) (ls : length starts ≡ 512)
-    (ll : length lengths ≡ 512) where
-  told : Says v w n (workIn s starts lengths vs ms memory row aways) (L.Passes c named l)
-  told = subst (Says v w n (workIn s starts lengths vs ms memory row aways)) q h
+module _ (s starts keys vs ms memory row aways : List ℕ) (v : Verdict) (w : Work) (n : ℕ) {r : Lines} {c : Counters} {named : ℕ} {l : Line}
+    (q : r ≡ L.Passes c named l) (h : Says v w n (workIn s starts keys vs ms memory row aways) r) (ls : length starts ≡ 512)
+    (ll : length keys ≡ 512) where
+  told : Says v w n (workIn s starts keys vs ms memory row aways) (L.Passes c named l)
+  told = subst (Says v w n (workIn s starts keys vs ms memory row aways)) q h
 
   pub still-fair : Fair c
   still-fair = told .3
 
   abbrev held : List (List ℕ)
-  held = words s starts lengths (c .bound + c .waiting)
+  held = words s starts keys (c .bound + c .waiting)
 
   all-there : length held ≡ c .bound + c .waiting
-  all-there = length-words s starts lengths (c .bound + c .waiting) (omega (arith, told .3 .few, ls)) (omega (arith, told .3 .few, ll))
+  all-there = length-words s starts keys (c .bound + c .waiting) (omega (arith, told .3 .few, ls)) (omega (arith, told .3 .few, ll))
 
   end-by : {b : Bool} → b ≡ (ltb 0 (c .waiting) && leb 65536 (c .at .0)) → endVerdict n (w .place) ≡ cond b (refused (6 on n)) passes
   unfolding endVerdict firstOf
@@ -68,7 +68,7 @@ module _ (s starts lengths vs ms memory row aways : List ℕ) (v : Verdict) (w :
   -- every label is bound, and the rows hold what the lines have come to
   pub all-held : (vs′ : List ℕ) (d : Counters) → d .bound + d .waiting ≡ c .bound + c .waiting
       → ((ws : List (List ℕ)) (m : List ℕ) → length ws ≡ c .bound + c .waiting → stateOf ws vs′ m d ≡ boundAll (c .at .0) (stateOf ws vs m c))
-      → Holds s starts lengths vs′ ms memory row aways w (d .bound) named
+      → Holds s starts keys vs′ ms memory row aways w (d .bound) named
   all-held vs′ d e g =
       let b = g held ms all-there in
       let z = ap (λ (p : Place). length (p .waiting)) b in
@@ -77,7 +77,7 @@ module _ (s starts lengths vs ms memory row aways : List ℕ) (v : Verdict) (w :
         few = omega (arith, i, told .3 .few);
         enough = told .4;
         bound =
-            ap (λ (k : ℕ). zipped (words s starts lengths k) vs′) i
+            ap (λ (k : ℕ). zipped (words s starts keys k) vs′) i
             ∙ ap (λ (x : List (List ℕ)). zipped x vs′) (sym (take-all (d .bound) held (omega (arith, i, all-there))))
             ∙ ap (λ (p : Place). p .bound) b
             ∙ bindings-of (stateOf held vs ms c)

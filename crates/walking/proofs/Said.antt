@@ -31,8 +31,8 @@ use Rattle.statements.specs.declared.StatementRead.the-variants.{Passes}
 use Rattle.statements.proofs.Labelling.{never}
 use Rattle.statements.proofs.Passing.{instruction-from, words-claimed, operand-labels-within}
 use Rattle.labels.specs.Labels.{Part}
+use Rattle.labels.proofs.Laws.{spelled-window}
 use Rattle.walking.specs.Noting.{Placeable, notedBy, noted}
-use Rattle.placing.proofs.LabelLaws.{spelled-window}
 use Rattle.walking.proofs.Notes.{few-words}
 
 -- an instruction with its operands as they stand

@@ -146,10 +146,10 @@ module _ (M : ℕ) (s : List ℕ) (from k : ℕ) (w : Work) where
 
 -- ---- what holds at each turn
 
-pub record Left (M : ℕ) (s starts lengths values marks cells row aways : List ℕ) (long few far : ℕ) (c : Counters) (from number uses : ℕ) : Type 0 where
+pub record Left (M : ℕ) (s starts keys values marks cells row aways : List ℕ) (long few far : ℕ) (c : Counters) (from number uses : ℕ) : Type 0 where
   pub fair : Fair c
   pub starts-long : length starts ≡ 512
-  pub lengths-long : length lengths ≡ 512
+  pub keys-long : length keys ≡ 512
   pub values-long : length values ≡ 512
   pub marks-long : length marks ≡ M
   pub cells-long : length cells ≡ long
@@ -158,26 +158,26 @@ pub record Left (M : ℕ) (s starts lengths values marks cells row aways : List 
   pub few-lines : number ≤ from
   pub few-uses : from < length s → uses ≤ from
   pub uses-fit : uses ≤ 32769
-  pub left : Same M 1 (startWork M) (linesFrom s 0) (number + 1) (workIn s starts lengths values marks cells row aways c uses) (linesFrom s from)
+  pub left : Same M 1 (startWork M) (linesFrom s 0) (number + 1) (workIn s starts keys values marks cells row aways c uses) (linesFrom s from)
 
 -- before the first line
-start-work : (s starts lengths values marks cells row aways : List ℕ) → marks ≡ replicate (length marks) 0 → cells ≡ replicate (length marks) 0
+start-work : (s starts keys values marks cells row aways : List ℕ) → marks ≡ replicate (length marks) 0 → cells ≡ replicate (length marks) 0
     → startWork (length marks)
-    ≡ workIn s starts lengths values marks cells row aways (record { at = record { 0 = 0 }; bound = 0; waiting = 0 }) 0
+    ≡ workIn s starts keys values marks cells row aways (record { at = record { 0 = 0 }; bound = 0; waiting = 0 }) 0
 unfolding startWork start words zipped usesHeld
-start-work s starts lengths values marks cells row aways e f =
+start-work s starts keys values marks cells row aways e f =
     of-parts (ap (λ (m : List ℕ). record { at = 0; bound = []; waiting = []; marks = m }) (sym e)) (sym f) refl
 
-pub left-at-start : (s starts lengths values marks cells row aways : List ℕ) → length starts ≡ 512 → length lengths ≡ 512 → length values ≡ 512
+pub left-at-start : (s starts keys values marks cells row aways : List ℕ) → length starts ≡ 512 → length keys ≡ 512 → length values ≡ 512
     → marks ≡ replicate (length marks) 0
     → cells ≡ replicate (length marks) 0
-    → Left (length marks) s starts lengths values marks cells row aways (length cells) (length row) (length aways)
+    → Left (length marks) s starts keys values marks cells row aways (length cells) (length row) (length aways)
     (record { at = record { 0 = 0 }; bound = 0; waiting = 0 }) 0 0 0
-left-at-start s starts lengths values marks cells row aways a b d e f =
+left-at-start s starts keys values marks cells row aways a b d e f =
     record {
       fair = record { low = omega arith; few = omega arith };
       starts-long = a;
-      lengths-long = b;
+      keys-long = b;
       values-long = d;
       marks-long = refl;
       cells-long = refl;
@@ -186,7 +186,7 @@ left-at-start s starts lengths values marks cells row aways a b d e f =
       few-lines = omega arith;
       few-uses = λ h. omega arith;
       uses-fit = omega arith;
-      left = same-work (length marks) 1 (linesFrom s 0) (start-work s starts lengths values marks cells row aways e f);
+      left = same-work (length marks) 1 (linesFrom s 0) (start-work s starts keys values marks cells row aways e f);
     }
 
 -- ---- a line that passes has room for its cells
@@ -217,10 +217,10 @@ room-there M k p x e =
 
 -- ---- a turn of the code's loop: `place_line`, `keep_line`, `next_line` on what `Left` says
 
-module _ (M : ℕ) (s starts lengths values marks cells row aways : List ℕ) (long few far : ℕ) (c : Counters) (from number uses : ℕ)
-    (inv : Left M s starts lengths values marks cells row aways long few far c from number uses) where
+module _ (M : ℕ) (s starts keys values marks cells row aways : List ℕ) (long few far : ℕ) (c : Counters) (from number uses : ℕ)
+    (inv : Left M s starts keys values marks cells row aways long few far c from number uses) where
   abbrev now : Work
-  now = workIn s starts lengths values marks cells row aways c uses
+  now = workIn s starts keys values marks cells row aways c uses
 
   -- no line is left
   pub turns-over : length s ≤ from
@@ -266,11 +266,11 @@ module _ (M : ℕ) (s starts lengths values marks cells row aways : List ℕ) (l
           (λ z. let g = room-there M (number + 1) (now .place) (readLine line) line-passes z in omega (arith, g, m))
 
       -- and the loop goes on
-      pub turn-goes : (starts′ lengths′ values′ marks′ cells′ row′ aways′ : List ℕ) {uses′ next : ℕ} {read : LineRead} → read ≡ lineRead line
-          → ((x : Counters) → of x ≡ placeIn s starts′ lengths′ values′ marks′ x)
+      pub turn-goes : (starts′ keys′ values′ marks′ cells′ row′ aways′ : List ℕ) {uses′ next : ℕ} {read : LineRead} → read ≡ lineRead line
+          → ((x : Counters) → of x ≡ placeIn s starts′ keys′ values′ marks′ x)
           → FairDid r
           → length starts′ ≡ length starts
-          → length lengths′ ≡ length lengths
+          → length keys′ ≡ length keys
           → length values′ ≡ length values
           → length marks′ ≡ length marks
           → length cells′ ≡ length cells
@@ -281,20 +281,20 @@ module _ (M : ℕ) (s starts lengths values marks cells row aways : List ℕ) (l
           → usesHeld s row′ aways′ uses′ ≡ usesHeld s row aways uses ++ usesRead (number + 1) line (c .at .0) (read .statement)
           → uses′ ≤ uses + length line + 1
           → next ≡ cond (endsIt (read .statement)) (length s) (end + 1)
-          → Left M s starts′ lengths′ values′ marks′ cells′ row′ aways′ long few far d next (number + 1) uses′
-      turn-goes starts′ lengths′ values′ marks′ cells′ row′ aways′ {uses′} {next} {read} a is fair l₁ l₂ l₃ l₄ l₅ l₆ l₇ short m u n o =
+          → Left M s starts′ keys′ values′ marks′ cells′ row′ aways′ long few far d next (number + 1) uses′
+      turn-goes starts′ keys′ values′ marks′ cells′ row′ aways′ {uses′} {next} {read} a is fair l₁ l₂ l₃ l₄ l₅ l₆ l₇ short m u n o =
           let g = end-within s from e h in
           let long-line = line-long s from end (omega (arith, e)) g in
           let f = further (read .statement) from (length s) (end + 1) (omega (arith, e)) h in
           let few-now = inv .few-uses h in
-          let w′ = workIn s starts′ lengths′ values′ marks′ cells′ row′ aways′ d uses′ in
+          let w′ = workIn s starts′ keys′ values′ marks′ cells′ row′ aways′ d uses′ in
           let st : lineRead line .statement ≡ read .statement = ap (λ (x : LineRead). x .statement) (sym a) in
           let w : w′ ≡ worked (number + 1) now (readLine line) =
           worked-on (number + 1) now line st (sym (is d) ∙ subst (Told of) q t .1) m u in
           record {
             fair = subst FairDid q fair;
             starts-long = l₁ ∙ inv .starts-long;
-            lengths-long = l₂ ∙ inv .lengths-long;
+            keys-long = l₂ ∙ inv .keys-long;
             values-long = l₃ ∙ inv .values-long;
             marks-long = l₄ ∙ inv .marks-long;
             cells-long = l₅ ∙ inv .cells-long;

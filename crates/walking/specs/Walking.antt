@@ -16,8 +16,8 @@ use Rattle.walking.specs.declared.Walked.the-variants as W
 
 -- the labels' rows, the map, the cells and the rows of labels that operands name, with counters
 abbrev pub workIn : List ℕ → List ℕ → List ℕ → List ℕ → List ℕ → List ℕ → List ℕ → List ℕ → Counters → ℕ → Work
-workIn s starts lengths vs ms cells row aways c uses =
-    record { place = placeIn s starts lengths vs ms c; cells = cells; uses = usesHeld s row aways uses }
+workIn s starts keys vs ms cells row aways c uses =
+    record { place = placeIn s starts keys vs ms c; cells = cells; uses = usesHeld s row aways uses }
 
 -- the lines pass and the work has come to this, with so many lines; or the verdict
 abbrev pub Says : Verdict → Work → ℕ → (Counters → ℕ → Work) → Lines → Type 0
@@ -25,10 +25,10 @@ Says v w n of (L.Passes c uses l) = (v ≡ passes) × (of c uses ≡ w) × (l .0
 Says v w n of (L.Refused f l) = v ≡ refused (f on l .0)
 
 -- every label is bound, and the rows hold what the work has come to
-pub record Holds (s starts lengths vs ms memory row aways : List ℕ) (w : Work) (labels named : ℕ) : Type 0 where
+pub record Holds (s starts keys vs ms memory row aways : List ℕ) (w : Work) (labels named : ℕ) : Type 0 where
   pub few : labels ≤ 512
   pub enough : named ≤ 32769
-  pub bound : zipped (words s starts lengths labels) vs ≡ bindings (w .place)
+  pub bound : zipped (words s starts keys labels) vs ≡ bindings (w .place)
   pub marks : ms ≡ w .place .marks
   pub cells : memory ≡ w .cells
   pub uses : usesHeld s row aways named ≡ w .uses

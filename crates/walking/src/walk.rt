@@ -76,15 +76,15 @@ fn keep_line(
 fn walk_lines(
     s: &[u8],
     starts: &mut [u16],
-    lengths: &mut [u8],
+    keys: &mut [u16],
     values: &mut [u16],
     marks: &mut [u8],
     cells: &mut [u16],
     row: &mut [u16],
     aways: &mut [u8],
 ) -> Lines
-    requires { ⌜ (length (now s) ≤ 32768) × (length (now starts) ≡ 512) × (length (now lengths) ≡ 512) × (length (now values) ≡ 512) × (length (now marks) ≤ 65536) × (now marks ≡ replicate (length (now marks)) 0) × (now cells ≡ replicate (length (now marks)) 0) × (131080 ≤ length (now row)) × (32770 ≤ length (now aways)) ⌝ }
-    ensures { λ r. ⌜ Says (walkLines (length (now (marks .entry))) 1 (start (length (now (marks .entry)))) (upToEnd (linesOf (now (s .entry))))) (workOf (length (now (marks .entry))) (now (s .entry))) (length (upToEnd (linesOf (now (s .entry))))) (workIn (now (s .entry)) (now (starts .exit)) (now (lengths .exit)) (now (values .exit)) (now (marks .exit)) (now (cells .exit)) (now (row .exit)) (now (aways .exit))) r ⌝ }
+    requires { ⌜ (length (now s) ≤ 32768) × (length (now starts) ≡ 512) × (length (now keys) ≡ 512) × (length (now values) ≡ 512) × (length (now marks) ≤ 65536) × (now marks ≡ replicate (length (now marks)) 0) × (now cells ≡ replicate (length (now marks)) 0) × (131080 ≤ length (now row)) × (32770 ≤ length (now aways)) ⌝ }
+    ensures { λ r. ⌜ Says (walkLines (length (now (marks .entry))) 1 (start (length (now (marks .entry)))) (upToEnd (linesOf (now (s .entry))))) (workOf (length (now (marks .entry))) (now (s .entry))) (length (upToEnd (linesOf (now (s .entry))))) (workIn (now (s .entry)) (now (starts .exit)) (now (keys .exit)) (now (values .exit)) (now (marks .exit)) (now (cells .exit)) (now (row .exit)) (now (aways .exit))) r ⌝ }
 {
     let mut c = Counters {
         at: Address(0),
@@ -100,7 +100,7 @@ fn walk_lines(
         let read = read_line(line);
         let at = c.at.0;
         number += 1;
-        match place_line(s, from, line, read, starts, lengths, values, marks, c) {
+        match place_line(s, from, line, read, starts, keys, values, marks, c) {
             Did::No(f) => {
                 return Lines::Refused(f, Line(number));
             }
@@ -129,17 +129,17 @@ fn is_late(waiting: usize, at: usize) -> bool
 pub fn walk(
     s: &[u8],
     starts: &mut [u16],
-    lengths: &mut [u8],
+    keys: &mut [u16],
     values: &mut [u16],
     marks: &mut [u8],
     cells: &mut [u16],
     row: &mut [u16],
     aways: &mut [u8],
 ) -> Walked
-    requires { ⌜ (length (now s) ≤ 32768) × (length (now starts) ≡ 512) × (length (now lengths) ≡ 512) × (length (now values) ≡ 512) × (length (now marks) ≤ 65536) × (now marks ≡ replicate (length (now marks)) 0) × (now cells ≡ replicate (length (now marks)) 0) × (131080 ≤ length (now row)) × (32770 ≤ length (now aways)) ⌝ }
-    ensures { λ r. ⌜ Ends (andThen (walkLines (length (now (marks .entry))) 1 (start (length (now (marks .entry)))) (upToEnd (linesOf (now (s .entry))))) (endVerdict (length (upToEnd (linesOf (now (s .entry))))) (workOf (length (now (marks .entry))) (now (s .entry)) .place))) (Holds (now (s .entry)) (now (starts .exit)) (now (lengths .exit)) (now (values .exit)) (now (marks .exit)) (now (cells .exit)) (now (row .exit)) (now (aways .exit)) (workOf (length (now (marks .entry))) (now (s .entry)))) r ⌝ }
+    requires { ⌜ (length (now s) ≤ 32768) × (length (now starts) ≡ 512) × (length (now keys) ≡ 512) × (length (now values) ≡ 512) × (length (now marks) ≤ 65536) × (now marks ≡ replicate (length (now marks)) 0) × (now cells ≡ replicate (length (now marks)) 0) × (131080 ≤ length (now row)) × (32770 ≤ length (now aways)) ⌝ }
+    ensures { λ r. ⌜ Ends (andThen (walkLines (length (now (marks .entry))) 1 (start (length (now (marks .entry)))) (upToEnd (linesOf (now (s .entry))))) (endVerdict (length (upToEnd (linesOf (now (s .entry))))) (workOf (length (now (marks .entry))) (now (s .entry)) .place))) (Holds (now (s .entry)) (now (starts .exit)) (now (keys .exit)) (now (values .exit)) (now (marks .exit)) (now (cells .exit)) (now (row .exit)) (now (aways .exit)) (workOf (length (now (marks .entry))) (now (s .entry)))) r ⌝ }
 {
-    match walk_lines(s, starts, lengths, values, marks, cells, row, aways) {
+    match walk_lines(s, starts, keys, values, marks, cells, row, aways) {
         Lines::Refused(f, l) => Walked::Refused(f, l),
         Lines::Passes(c, uses, last) => {
             let at = c.at.0;

@@ -40,14 +40,14 @@ returns c =
     let p = start .pre in
     let d = declared .declare in
     let starts = d .last .1 .1 .1 .0 in
-    let lengths = d .last .1 .1 .1 .1 .0 in
-    let place = placeIn (a .s .now) (a .starts .now) (a .lengths .now) (a .values .now) (a .marks .now) (a .c) in
+    let keys = d .last .1 .1 .1 .1 .0 in
+    let place = placeIn (a .s .now) (a .starts .now) (a .keys .now) (a .values .now) (a .marks .now) (a .c) in
     let f = c .before .f .given in (
       tt,
       λ k. as-read (length (a .marks .now)) k place (a .line .now) (λ z. place) (No (f .0 .0)) (p .5)
           (label-fails (length (a .marks .now)) k place (record { bytes = a .line .now; read = a .read }) (p .8)
           (tells-by k (labelVerdict k place (a .line .now) (Named (a .n))) (labelled place (a .line .now) (Named (a .n)))
-          (placeIn (a .s .now) starts lengths (a .values .now) (a .marks .now)) (f .1) (d .ensures .1 k (a .values .now) (a .marks .now) (p .3)))),
+          (placeIn (a .s .now) starts keys (a .values .now) (a .marks .now)) (f .1) (d .ensures .1 k (a .values .now) (a .marks .now) (p .3)))),
     )
 
 returns-2 : tie.Need-returns-2
@@ -60,21 +60,21 @@ returns-2 c =
     let p = start .pre in
     let d = declared .declare in
     let starts = d .last .1 .1 .1 .0 in
-    let lengths = d .last .1 .1 .1 .1 .0 in
-    let place = placeIn (a .s .now) (a .starts .now) (a .lengths .now) (a .values .now) (a .marks .now) (a .c) in
+    let keys = d .last .1 .1 .1 .1 .0 in
+    let place = placeIn (a .s .now) (a .starts .now) (a .keys .now) (a .values .now) (a .marks .now) (a .c) in
     let g = did .d .given in
     let fair = subst FairDid (g .1) (d .ensures .0) in
     let n = g .0 .0 .bound + g .0 .0 .waiting in
     let e = placed .place-statement in
-    let long = length-words (a .s .now) starts lengths n (omega (arith, fair .few, p .1, d .kept .1 .1 .1 .0))
+    let long = length-words (a .s .now) starts keys n (omega (arith, fair .few, p .1, d .kept .1 .1 .1 .0))
     (omega (arith, fair .few, p .2, d .kept .1 .1 .1 .1 .0)) in (
       e .ensures .0,
-      λ k. as-read (length (a .marks .now)) k place (a .line .now) (placeIn (a .s .now) starts lengths (e .last .0) (e .last .1 .0)) (e .result) (p .5)
-          (named-placed (length (a .marks .now)) k (a .s .now) (a .starts .now) (a .lengths .now) starts lengths (a .values .now) (a .marks .now)
+      λ k. as-read (length (a .marks .now)) k place (a .line .now) (placeIn (a .s .now) starts keys (e .last .0) (e .last .1 .0)) (e .result) (p .5)
+          (named-placed (length (a .marks .now)) k (a .s .now) (a .starts .now) (a .keys .now) starts keys (a .values .now) (a .marks .now)
           (e .last .0) (e .last .1 .0) (a .line .now) (a .c) (a .read) (g .0 .0) (e .result) (p .8)
           (tells-by k (labelVerdict k place (a .line .now) (Named (a .n))) (labelled place (a .line .now) (Named (a .n)))
-          (placeIn (a .s .now) starts lengths (a .values .now) (a .marks .now)) (g .1) (d .ensures .1 k (a .values .now) (a .marks .now) (p .3)))
-          (e .ensures .1) (e .ensures .2 k (words (a .s .now) starts lengths n) long)),
+          (placeIn (a .s .now) starts keys (a .values .now) (a .marks .now)) (g .1) (d .ensures .1 k (a .values .now) (a .marks .now) (p .3)))
+          (e .ensures .1) (e .ensures .2 k (words (a .s .now) starts keys n) long)),
     )
 
 pub place-named-spec : {M : Type 1} → statement M

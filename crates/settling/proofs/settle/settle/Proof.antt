@@ -14,15 +14,15 @@ use Rattle.settling.proofs.settle.settle.Statement.{statement}
 use Rattle.settling.proofs.settle.settle.Tie as tie
 
 abbrev Inv-loop : tie.InvT-loop
-Inv-loop s starts lengths values count row aways uses cells₀ i₀ cells i =
-    let bs = zipped (words s starts lengths count) values in
+Inv-loop s starts keys values count row aways uses cells₀ i₀ cells i =
+    let bs = zipped (words s starts keys count) values in
     (i ≤ uses)
     × (usesVerdict bs (usesHeld s row aways i) ≡ passes)
     × (cells ≡ filled bs (usesHeld s row aways i) cells₀)
     × (length cells ≡ length cells₀)
 
 abbrev μ-loop : tie.MeasureT-loop
-μ-loop s starts lengths values count row aways uses cells₀ i₀ cells i = uses - i
+μ-loop s starts keys values count row aways uses cells₀ i₀ cells i = uses - i
 
 loop-holds : tie.Need-loop-holds Inv-loop μ-loop
 loop-holds c = (omega arith, nothing-held _ _ _ _, sym (nothing-filled _ _ _ _ _), refl)
@@ -64,7 +64,7 @@ returns : tie.Need-returns Inv-loop μ-loop
 returns c =
     let l = c .before .before .before .before .before .before .before .before .before .before in
     let a = l .before .before .before .before .before .before .before .before .args in
-    let bs = zipped (words (a .s .now) (a .starts .now) (a .lengths .now) (a .count)) (a .values .now) in
+    let bs = zipped (words (a .s .now) (a .starts .now) (a .keys .now) (a .count)) (a .values .now) in
     let w = c .before .before .before .word in
     all-refused bs (a .s .now) (a .row .now) (a .aways .now) (l .loop .i) (a .uses) (c .before .f .given .0 .0) (w .result)
     (c .before .before .before .before .before .before .before .before .before .loop-test .taken) (l .loop .inv .1) (w .ensures) (c .before .f .given .1)
@@ -73,7 +73,7 @@ loop-again : tie.Need-loop-again Inv-loop μ-loop
 loop-again c =
     let l = c .before .before .before .before .before .before .before .before .before .before .before .before .before .before in
     let a = l .before .before .before .before .before .before .before .before .args in
-    let bs = zipped (words (a .s .now) (a .starts .now) (a .lengths .now) (a .count)) (a .values .now) in
+    let bs = zipped (words (a .s .now) (a .starts .now) (a .keys .now) (a .count)) (a .values .now) in
     let i = l .loop .i in
     let v = c .before .before .before .before .before in
     let w = v .before .before .word in
@@ -93,7 +93,7 @@ returns-2 : tie.Need-returns-2 Inv-loop μ-loop
 returns-2 c =
     let l = c .before in
     let a = l .before .before .before .before .before .before .before .before .args in
-    let bs = zipped (words (a .s .now) (a .starts .now) (a .lengths .now) (a .count)) (a .values .now) in
+    let bs = zipped (words (a .s .now) (a .starts .now) (a .keys .now) (a .count)) (a .values .now) in
     let q : l .loop .i ≡ a .uses = omega (arith, c .loop-test .left, l .loop .inv .0) in (
       ap (λ (n : ℕ). usesVerdict bs (usesHeld (a .s .now) (a .row .now) (a .aways .now) n)) (sym q) ∙ l .loop .inv .1,
       l .loop .inv .2 ∙ ap (λ (n : ℕ). filled bs (usesHeld (a .s .now) (a .row .now) (a .aways .now) n) (a .cells .now)) q,

@@ -19,7 +19,7 @@ returns c =
     let start = lent .before .before .before .before .before .before .before .before in
     let l = walked .walk-lines in
     let starts = l .last .1 .0 in
-    let lengths = l .last .1 .1 .0 in
+    let keys = l .last .1 .1 .0 in
     let values = l .last .1 .1 .1 .0 in
     let marks = l .last .1 .1 .1 .1 .0 in
     let cells = l .last .1 .1 .1 .1 .1 .0 in
@@ -33,7 +33,7 @@ returns c =
     let d = did .c .given in
     let h₁ = l .kept .1 .0 ∙ start .pre .1 in
     let h₂ = l .kept .1 .1 .0 ∙ start .pre .2 in
-    refused-late s starts lengths values marks cells row aways v w n (d .1) (l .ensures) h₁ h₂ (c .before .is-late .ensures)
+    refused-late s starts keys values marks cells row aways v w n (d .1) (l .ensures) h₁ h₂ (c .before .is-late .ensures)
     (c .if1 .taken)
 
 bind-here-requires : tie.Need-bind-here-requires
@@ -46,7 +46,7 @@ bind-here-requires c κs =
     let start = lent .before .before .before .before .before .before .before .before in
     let l = walked .walk-lines in
     let starts = l .last .1 .0 in
-    let lengths = l .last .1 .1 .0 in
+    let keys = l .last .1 .1 .0 in
     let values = l .last .1 .1 .1 .0 in
     let marks = l .last .1 .1 .1 .1 .0 in
     let cells = l .last .1 .1 .1 .1 .1 .0 in
@@ -60,9 +60,9 @@ bind-here-requires c κs =
     let d = did .c .given in
     let h₁ = l .kept .1 .0 ∙ start .pre .1 in
     let h₂ = l .kept .1 .1 .0 ∙ start .pre .2 in (
-      still-fair s starts lengths values marks cells row aways v w n (d .1) (l .ensures) h₁ h₂,
+      still-fair s starts keys values marks cells row aways v w n (d .1) (l .ensures) h₁ h₂,
       l .kept .1 .1 .1 .0 ∙ start .pre .3,
-      binds-at-end s starts lengths values marks cells row aways v w n (d .1) (l .ensures) h₁ h₂ (late .is-late .ensures)
+      binds-at-end s starts keys values marks cells row aways v w n (d .1) (l .ensures) h₁ h₂ (late .is-late .ensures)
           (c .before .if1 .left),
     )
 
@@ -74,7 +74,7 @@ returns-2 c =
     let start = lent .before .before .before .before .before .before .before .before in
     let l = walked .walk-lines in
     let starts = l .last .1 .0 in
-    let lengths = l .last .1 .1 .0 in
+    let keys = l .last .1 .1 .0 in
     let values = l .last .1 .1 .1 .0 in
     let marks = l .last .1 .1 .1 .1 .0 in
     let cells = l .last .1 .1 .1 .1 .1 .0 in
@@ -85,7 +85,7 @@ returns-2 c =
     let v = walkLines m 1 (begin m) (upToEnd (linesOf s)) in
     let w = workOf m s in
     let n = length (upToEnd (linesOf s)) in
-    refused-early v w n (workIn s starts lengths values marks cells row aways) (endVerdict n (w .place)) (c .before .f .given .1) (l .ensures)
+    refused-early v w n (workIn s starts keys values marks cells row aways) (endVerdict n (w .place)) (c .before .f .given .1) (l .ensures)
 
 returns-3 : tie.Need-returns-3
 returns-3 c =
@@ -98,7 +98,7 @@ returns-3 c =
     let start = lent .before .before .before .before .before .before .before .before in
     let l = walked .walk-lines in
     let starts = l .last .1 .0 in
-    let lengths = l .last .1 .1 .0 in
+    let keys = l .last .1 .1 .0 in
     let values = l .last .1 .1 .1 .0 in
     let marks = l .last .1 .1 .1 .1 .0 in
     let cells = l .last .1 .1 .1 .1 .1 .0 in
@@ -112,9 +112,9 @@ returns-3 c =
     let d = did .c .given in
     let h₁ = l .kept .1 .0 ∙ start .pre .1 in
     let h₂ = l .kept .1 .1 .0 ∙ start .pre .2 in (
-      passes-end s starts lengths values marks cells row aways v w n (d .1) (l .ensures) h₁ h₂ (late .is-late .ensures)
+      passes-end s starts keys values marks cells row aways v w n (d .1) (l .ensures) h₁ h₂ (late .is-late .ensures)
           (c .before .before .before .before .if1 .left),
-      all-held s starts lengths values marks cells row aways v w n (d .1) (l .ensures) h₁ h₂ (q .last .0) (q .result) (q .ensures .2)
+      all-held s starts keys values marks cells row aways v w n (d .1) (l .ensures) h₁ h₂ (q .last .0) (q .result) (q .ensures .2)
           (q .ensures .3),
     )
 

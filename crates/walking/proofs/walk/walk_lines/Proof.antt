@@ -11,11 +11,11 @@ use Rattle.walking.proofs.walk.walk_lines.Statement.{statement}
 use Rattle.walking.proofs.walk.walk_lines.Tie as tie
 
 abbrev Inv-loop : tie.InvT-loop
-Inv-loop s starts₀ lengths₀ values₀ marks₀ cells₀ row₀ aways₀ c₀ from₀ number₀ uses₀ starts lengths values marks cells row aways c from number uses =
-    Left (length marks₀) s starts lengths values marks cells row aways (length cells₀) (length row₀) (length aways₀) c from number uses
+Inv-loop s starts₀ keys₀ values₀ marks₀ cells₀ row₀ aways₀ c₀ from₀ number₀ uses₀ starts keys values marks cells row aways c from number uses =
+    Left (length marks₀) s starts keys values marks cells row aways (length cells₀) (length row₀) (length aways₀) c from number uses
 
 abbrev μ-loop : tie.MeasureT-loop
-μ-loop s starts₀ lengths₀ values₀ marks₀ cells₀ row₀ aways₀ c₀ from₀ number₀ uses₀ starts lengths values marks cells row aways c from number uses =
+μ-loop s starts₀ keys₀ values₀ marks₀ cells₀ row₀ aways₀ c₀ from₀ number₀ uses₀ starts keys values marks cells row aways c from number uses =
     length s - from
 
 loop-holds : tie.Need-loop-holds Inv-loop μ-loop
@@ -23,7 +23,7 @@ loop-holds c =
     let start = c .before .before .before .before .before .before .before .before in
     let a = start .args in
     let pre = start .pre in
-    left-at-start (a .s .now) (a .starts .now) (a .lengths .now) (a .values .now) (a .marks .now) (a .cells .now) (a .row .now) (a .aways .now)
+    left-at-start (a .s .now) (a .starts .now) (a .keys .now) (a .values .now) (a .marks .now) (a .cells .now) (a .row .now) (a .aways .now)
     (pre .1) (pre .2) (pre .3) (pre .5) (pre .6)
 
 part-line-end : tie.Need-part-line-end Inv-loop μ-loop
@@ -55,11 +55,11 @@ place-line-requires c κs =
     let i = p .inv in (
       i .fair,
       i .starts-long,
-      i .lengths-long,
+      i .keys-long,
       i .values-long,
       omega (arith, i .marks-long, pre .4),
       read .read-line .ensures,
-      line-fits m s (p .starts) (p .lengths) (p .values) (p .marks) (p .cells) (p .row) (p .aways) (length (a .cells .now)) (length (a .row .now))
+      line-fits m s (p .starts) (p .keys) (p .values) (p .marks) (p .cells) (p .row) (p .aways) (length (a .cells .now)) (length (a .row .now))
           (length (a .aways .now)) (p .c) (p .from) (p .number) (p .uses) (p .inv) test e (pre .0),
       line-part s (p .from) (end .line-end .result),
     )
@@ -76,7 +76,7 @@ same-length-2 c =
     let placed = c .before .before .before .before .before .before .before .before .before .before .before in
     let looped = placed .before .before .before .before .before .before .before .before .before in
     let start = looped .before .before .before .before .before .before .before .before .before in
-    placed .place-line .kept .1 .1 .1 .1 .1 .0 ∙ looped .loop .inv .lengths-long ∙ sym (start .pre .2)
+    placed .place-line .kept .1 .1 .1 .1 .1 .0 ∙ looped .loop .inv .keys-long ∙ sym (start .pre .2)
 
 same-length-3 : tie.Need-same-length-3 Inv-loop μ-loop
 same-length-3 c =
@@ -120,12 +120,12 @@ returns c =
     let m = length (a .marks .now) in
     let l = placed .place-line in
     let starts = l .last .1 .1 .1 .1 .0 in
-    let lengths = l .last .1 .1 .1 .1 .1 .0 in
+    let keys = l .last .1 .1 .1 .1 .1 .0 in
     let values = l .last .1 .1 .1 .1 .1 .1 .0 in
     let marks = l .last .1 .1 .1 .1 .1 .1 .1 .0 in
     let f = c .before .f .given in
-    turn-stops m s (p .starts) (p .lengths) (p .values) (p .marks) (p .cells) (p .row) (p .aways) (length (a .cells .now)) (length (a .row .now))
-    (length (a .aways .now)) (p .c) (p .from) (p .number) (p .uses) (p .inv) test e (placeIn s starts lengths values marks) (f .1) (l .ensures .1 (p .number + 1))
+    turn-stops m s (p .starts) (p .keys) (p .values) (p .marks) (p .cells) (p .row) (p .aways) (length (a .cells .now)) (length (a .row .now))
+    (length (a .aways .now)) (p .c) (p .from) (p .number) (p .uses) (p .inv) test e (placeIn s starts keys values marks) (f .1) (l .ensures .1 (p .number + 1))
 
 keep-line-requires : tie.Need-keep-line-requires Inv-loop μ-loop
 keep-line-requires c κs =
@@ -145,18 +145,18 @@ keep-line-requires c κs =
     let i = p .inv in
     let l = placed .place-line in
     let starts = l .last .1 .1 .1 .1 .0 in
-    let lengths = l .last .1 .1 .1 .1 .1 .0 in
+    let keys = l .last .1 .1 .1 .1 .1 .0 in
     let values = l .last .1 .1 .1 .1 .1 .1 .0 in
     let marks = l .last .1 .1 .1 .1 .1 .1 .1 .0 in
     let r = read .read-line .ensures in
     let u = i .few-uses test in (
       ap (λ (x : LineRead). x .statement) (sym r),
-      line-fits m s (p .starts) (p .lengths) (p .values) (p .marks) (p .cells) (p .row) (p .aways) (length (a .cells .now)) (length (a .row .now))
+      line-fits m s (p .starts) (p .keys) (p .values) (p .marks) (p .cells) (p .row) (p .aways) (length (a .cells .now)) (length (a .row .now))
           (length (a .aways .now)) (p .c) (p .from) (p .number) (p .uses) (p .inv) test e (pre .0),
       omega (arith, i .few-lines, test, pre .0),
       i .fair .low,
-      turn-room m s (p .starts) (p .lengths) (p .values) (p .marks) (p .cells) (p .row) (p .aways) (length (a .cells .now)) (length (a .row .now))
-          (length (a .aways .now)) (p .c) (p .from) (p .number) (p .uses) (p .inv) test e (placeIn s starts lengths values marks) (did .d .given .1)
+      turn-room m s (p .starts) (p .keys) (p .values) (p .marks) (p .cells) (p .row) (p .aways) (length (a .cells .now)) (length (a .row .now))
+          (length (a .aways .now)) (p .c) (p .from) (p .number) (p .uses) (p .inv) test e (placeIn s starts keys values marks) (did .d .given .1)
           (l .ensures .1 (p .number + 1)) r (pre .4),
       omega (arith, u, test, pre .0, pre .7, i .row-long),
       omega (arith, u, test, pre .0, pre .8, i .aways-long),
@@ -202,13 +202,13 @@ loop-again c =
     let m = length (a .marks .now) in
     let l = placed .place-line in
     let starts = l .last .1 .1 .1 .1 .0 in
-    let lengths = l .last .1 .1 .1 .1 .1 .0 in
+    let keys = l .last .1 .1 .1 .1 .1 .0 in
     let values = l .last .1 .1 .1 .1 .1 .1 .0 in
     let marks = l .last .1 .1 .1 .1 .1 .1 .1 .0 in
     let k = kept .keep-line in
-    turn-goes m s (p .starts) (p .lengths) (p .values) (p .marks) (p .cells) (p .row) (p .aways) (length (a .cells .now)) (length (a .row .now))
-    (length (a .aways .now)) (p .c) (p .from) (p .number) (p .uses) (p .inv) test e (placeIn s starts lengths values marks) (did .d .given .1)
-    (l .ensures .1 (p .number + 1)) starts lengths values marks (k .last .1 .1 .1 .1 .1 .0) (k .last .1 .1 .1 .1 .1 .1 .0) (k .last .1 .1 .1 .1 .1 .1 .1 .0)
+    turn-goes m s (p .starts) (p .keys) (p .values) (p .marks) (p .cells) (p .row) (p .aways) (length (a .cells .now)) (length (a .row .now))
+    (length (a .aways .now)) (p .c) (p .from) (p .number) (p .uses) (p .inv) test e (placeIn s starts keys values marks) (did .d .given .1)
+    (l .ensures .1 (p .number + 1)) starts keys values marks (k .last .1 .1 .1 .1 .1 .0) (k .last .1 .1 .1 .1 .1 .1 .0) (k .last .1 .1 .1 .1 .1 .1 .1 .0)
     (read .read-line .ensures) (λ x. refl) (l .ensures .0) (l .kept .1 .1 .1 .1 .0) (l .kept .1 .1 .1 .1 .1 .0) (l .kept .1 .1 .1 .1 .1 .1 .0)
     (l .kept .1 .1 .1 .1 .1 .1 .1 .0) (k .kept .1 .1 .1 .1 .1 .0) (k .kept .1 .1 .1 .1 .1 .1 .0) (k .kept .1 .1 .1 .1 .1 .1 .1 .0) (start .pre .0)
     (k .ensures .0) (k .ensures .1 s (line-part s (p .from) (end .line-end .result))) (k .ensures .3) (c .next-line .ensures)
@@ -219,7 +219,7 @@ same-length-8 c =
 
 same-length-9 : tie.Need-same-length-9 Inv-loop μ-loop
 same-length-9 c =
-    c .before .loop .inv .lengths-long ∙ sym (c .before .before .before .before .before .before .before .before .before .before .pre .2)
+    c .before .loop .inv .keys-long ∙ sym (c .before .before .before .before .before .before .before .before .before .before .pre .2)
 
 same-length-10 : tie.Need-same-length-10 Inv-loop μ-loop
 same-length-10 c =
@@ -247,7 +247,7 @@ returns-2 c =
     let a = c .before .before .before .before .before .before .before .before .before .before .args in
     let s = a .s .now in
     let m = length (a .marks .now) in
-    let o = turns-over m s (p .starts) (p .lengths) (p .values) (p .marks) (p .cells) (p .row) (p .aways) (length (a .cells .now)) (length (a .row .now))
+    let o = turns-over m s (p .starts) (p .keys) (p .values) (p .marks) (p .cells) (p .row) (p .aways) (length (a .cells .now)) (length (a .row .now))
     (length (a .aways .now)) (p .c) (p .from) (p .number) (p .uses) (p .inv) (c .loop-test .left) in
     (o .0, o .1, o .2, p .inv .fair, p .inv .uses-fit)
 
