@@ -10,8 +10,8 @@ use Rattle.numerals.specs.declared.Radix.the-variants.{Decimal, Hexadecimal}
 use Rattle.numerals.specs.declared.NumberRead.{NumberRead}
 use Rattle.numerals.specs.declared.NumberRead.the-variants.{Found, Absent}
 
-abbrev pub mostCells : ℕ
-mostCells = 16384
+abbrev pub largestM : ℕ
+largestM = 16384
 
 abbrev pub isDecimal : Radix → Bool
 isDecimal Decimal = true
@@ -19,7 +19,7 @@ isDecimal Hexadecimal = false
 
 -- the number that a word of a length wholly is, and 0 for any other: for no number, a hexadecimal one, and one above 16,384
 abbrev pub sizeIn : ℕ → NumberRead → ℕ
-sizeIn end (Found n c) = cond (eqb (c .at) end && (leb (n .magnitude) mostCells && isDecimal (n .radix))) (n .magnitude) 0
+sizeIn end (Found n c) = cond (eqb (c .at) end && (leb (n .magnitude) largestM && isDecimal (n .radix))) (n .magnitude) 0
 sizeIn end Absent = 0
 
 -- the M that a word names, or 0

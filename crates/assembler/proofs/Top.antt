@@ -35,44 +35,34 @@ module _ {source memory map : List ℕ} where
       (same-reply r r′ (f ∙ ap refusal u ∙ sym f′), g ∙ sym g′, h ∙ sym h′)
 
   module _ {r : Reply} {memory′ map′ : List ℕ} (reply : Replies source memory map r memory′ map′) where
-    -- ---- accepted exactly when the rules give the source a reading that passes every check
-
-    -- The number is 0 exactly then,
-    pub accepted-exactly : (r .refusal ≡ 0) ↔ ((xs : List Said) × Passing (length memory) (length map) source xs)
-    accepted-exactly = (out reply, λ h. back reply (h .1))
+    -- a reply with number 0 accepts: every refusal has a number
+    accepting : r .refusal ≡ 0 → Accepted (length memory) (length map) source memory′ map′ × (told r ≡ acceptance map′)
+    accepting z = out reply
       where
-        out : Replies source memory map r memory′ map′ → r .refusal ≡ 0 → (xs : List Said) × Passing (length memory) (length map) source xs
-        out (accepts a e) z = (a .reading, a .passing)
-        out (refuses why f e g h) z =
+        out : Replies source memory map r memory′ map′ → Accepted (length memory) (length map) source memory′ map′ × (told r ≡ acceptance map′)
+        out (accepts a e) = (a, e)
+        out (refuses why f e g h) =
             let n = sources.refusal-numbered f in
             let q : r .refusal ≡ why .number = ap (λ (t : Told). t .number) e in
             absurd (omega (arith, n .0, q, z))
 
+    -- ---- accepted exactly when the rules give the source a reading that passes every check
+
+    -- The number is 0 exactly then,
+    pub accepted-exactly : (r .refusal ≡ 0) ↔ ((xs : List Said) × Passing (length memory) (length map) source xs)
+    accepted-exactly = (λ z. let a = accepting z .0 in (a .reading, a .passing), λ h. back reply (h .1))
+      where
         back : Replies source memory map r memory′ map′ → {xs : List Said} → Passing (length memory) (length map) source xs → r .refusal ≡ 0
         back (accepts a e) p = ap (λ (t : Told). t .number) e
         back (refuses why f e g h) p = absurd (sources.passing-never (length memory) (length map) source p f)
 
     -- and then memory and map are the image that this reading defines.
     pub accepted-image : r .refusal ≡ 0 → Accepted (length memory) (length map) source memory′ map′
-    accepted-image z = out reply
-      where
-        out : Replies source memory map r memory′ map′ → Accepted (length memory) (length map) source memory′ map′
-        out (accepts a e) = a
-        out (refuses why f e g h) =
-            let n = sources.refusal-numbered f in
-            let q : r .refusal ≡ why .number = ap (λ (t : Told). t .number) e in
-            absurd (omega (arith, n .0, q, z))
+    accepted-image z = accepting z .0
 
     -- The counts are the numbers of cells marked 1 and 2, which are those that the source's instructions and DATA give.
     pub counts-marked : r .refusal ≡ 0 → (r .code ≡ cellsMarked codeMark map′) × (r .data ≡ cellsMarked dataMark map′)
-    counts-marked z = out reply
-      where
-        out : Replies source memory map r memory′ map′ → (r .code ≡ cellsMarked codeMark map′) × (r .data ≡ cellsMarked dataMark map′)
-        out (accepts a e) = (ap (λ (t : Told). t .code-cells) e, ap (λ (t : Told). t .data-cells) e)
-        out (refuses why f e g h) =
-            let n = sources.refusal-numbered f in
-            let q : r .refusal ≡ why .number = ap (λ (t : Told). t .number) e in
-            absurd (omega (arith, n .0, q, z))
+    counts-marked z = let e = accepting z .1 in (ap (λ (t : Told). t .code-cells) e, ap (λ (t : Told). t .data-cells) e)
 
     -- ---- refused: the first check that fails, and nothing lent has changed
 

@@ -1,7 +1,7 @@
 -- Laws of windows, of `same`, of the words held and of a word's place among them.
 use mathlib.Core.Path.{_≡_, refl, sym, ap, ap₂, subst, _∙_}
 use mathlib.Core.List.{List, [], _∷_, _++_, append-assoc}
-use mathlib.Core.Bool.{Bool, true, false, _&&_}
+use mathlib.Core.Bool.{Bool, true, false}
 use Prim.Native.Nat.{ℕ, zero, suc, _+_, _*_, _/_, _%_, _-_, _≤_, _<_}
 use native.Mathlib.Numerals.{add-one}
 use native.Mathlib.Omega.{arith}
@@ -13,7 +13,7 @@ use Rattle.values.specs.declared.Name.{Name}
 use Rattle.sources.specs.Sources.{spelled}
 use Rattle.sources.specs.Uses.{same}
 use Rattle.sources.proofs.Tests.{same-decides}
-use Rattle.labels.specs.Labels.{window, words, placeIn, keyOf, wordBy, OtherKeys}
+use Rattle.labels.specs.Labels.{window, words, labelsBefore, keyOf, wordBy, OtherKeys}
 
 pub length-window : (s : List ℕ) (a n : ℕ) → length (window s a n) ≡ n
 unfolding window
@@ -82,15 +82,15 @@ unfolding keyOf wordBy
 key-of-word s a zero = refl
 key-of-word s a (suc k) = ap (λ (n : ℕ). suc (n * 256 + k % 256)) (length-window s (a + 1) (k / 256)) ∙ ap suc (parted k)
 
+-- a first byte and how many follow, out of their number
+parts : (n b : ℕ) → b < 256 → ((n * 256 + b) % 256 ≡ b) × ((n * 256 + b) / 256 ≡ n)
+parts n b h = (omega (arith, h), omega (arith, h))
+
 -- bytes of a source are held as they are
 pub word-held : (s : List ℕ) (a n : ℕ) → getD s a 0 < 256 → wordBy s a (keyOf (window s a n)) ≡ window s a n
 unfolding keyOf wordBy window
 word-held s a zero h = refl
-word-held s a (suc n) h =
-    let l = length-window s (a + 1) n in
-    let m : (length (window s (a + 1) n) * 256 + getD s a 0) % 256 ≡ getD s a 0 = omega (arith, h) in
-    let d : (length (window s (a + 1) n) * 256 + getD s a 0) / 256 ≡ n = omega (arith, h, l) in
-    ap₂ (λ (b k : ℕ). b ∷ window s (a + 1) k) m d
+word-held s a (suc n) h = let q = parts n (getD s a 0) h in rw (length-window s (a + 1) n, q .0, q .1)
 
 -- a name of a line, kept by its place in the source and its key
 pub word-kept : (s t : List ℕ) (a b n k : ℕ) → getD s a 0 < 256 → window t b n ≡ window s a n → k ≡ keyOf (window t b n) → window t b n ≡ wordBy s a k
@@ -107,11 +107,9 @@ pub key-same : (s t : List ℕ) (a b n k : ℕ) → k ≡ keyOf (window t b n) �
 unfolding keyOf wordBy window same
 key-same s t a b zero k e h = rw e
 key-same s t a b (suc n) k e h =
-    let l = length-window t (b + 1) n in
-    let m : (length (window t (b + 1) n) * 256 + getD t b 0) % 256 ≡ getD t b 0 = omega (arith, h) in
-    let d : (length (window t (b + 1) n) * 256 + getD t b 0) / 256 ≡ n = omega (arith, h, l) in
+    let q = parts n (getD t b 0) h in
     let z : suc n - 1 ≡ n = omega arith in
-    rw (e, m, d, z, eq-eqb (getD t b 0) (getD t b 0) refl)
+    rw (e, length-window t (b + 1) n, q .0, q .1, z, eq-eqb (getD t b 0) (getD t b 0) refl)
 
 -- ---- the same bytes
 
@@ -153,19 +151,19 @@ others-more ks key from i o h j p q e = go (eqb j i) refl
 module _ (s xs ks w : List ℕ) (n : ℕ) where
   -- the word's place among the labels from the i-th on
   abbrev pub from : ℕ → ℕ
-  from i = placeIn w (words s (drop i xs) (drop i ks) (n - i))
+  from i = labelsBefore w (words s (drop i xs) (drop i ks) (n - i))
 
   module _ (i : ℕ) (h : i < length xs) (k : i < length ks) (l : i < n) where
     pub place-here : same (wordBy s (getD xs i 0) (getD ks i 0)) w ≡ true → from i ≡ 0
-    unfolding placeIn
+    unfolding labelsBefore
     place-here e = rw (words-cons s xs ks i n h k l, e)
 
     pub place-more : same (wordBy s (getD xs i 0) (getD ks i 0)) w ≡ false → from i ≡ suc (from (i + 1))
-    unfolding placeIn
+    unfolding labelsBefore
     place-more e = rw (words-cons s xs ks i n h k l, e)
 
   pub place-end : (i : ℕ) → n ≤ i → from i ≡ 0
-  unfolding placeIn words
+  unfolding labelsBefore words
   place-end i h = let e : n - i ≡ 0 = omega arith in rw e
 
   -- labels with another key are passed

@@ -36,9 +36,9 @@ words s (a ∷ xs) [] (suc n) = []
 words s (a ∷ xs) (k ∷ ks) (suc n) = wordBy s a k ∷ words s xs ks n
 
 -- how many labels come before the word's; all of them if it is none of them
-unfoldable pub placeIn : List ℕ → List (List ℕ) → ℕ
-placeIn w [] = 0
-placeIn w (x ∷ xs) = cond (same x w) 0 (suc (placeIn w xs))
+unfoldable pub labelsBefore : List ℕ → List (List ℕ) → ℕ
+labelsBefore w [] = 0
+labelsBefore w (x ∷ xs) = cond (same x w) 0 (suc (labelsBefore w xs))
 
 -- names with their values
 unfoldable pub zipped : List (List ℕ) → List ℕ → List Bound

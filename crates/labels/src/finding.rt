@@ -3,7 +3,7 @@ ghost use mathlib.Core.Path.{_≡_};
 ghost use Prim.Native.Nat.{_+_, _-_, _≤_, _<_};
 ghost use lib.ListN.{length, getD};
 ghost use Rattle.sources.specs.Uses.{same};
-ghost use Rattle.labels.specs.Labels.{window, placeIn, words, keyOf, OtherKeys};
+ghost use Rattle.labels.specs.Labels.{window, labelsBefore, words, keyOf, OtherKeys};
 
 // The byte at a place, 0 past the end.
 fn byte(s: &[u8], i: usize) -> u8
@@ -33,14 +33,13 @@ fn same_rest(s: &[u8], a: usize, t: &[u8], b: usize, n: usize) -> bool
 }
 
 // A name's length and first letter.
-pub fn key(s: &[u8], a: usize, n: usize) -> usize
-    requires { ⌜ n < 100000 ⌝ }
+pub fn key(s: &[u8], a: usize, n: u16) -> usize
     ensures { λ r. ⌜ r ≡ keyOf (window (now (s .entry)) a n) ⌝ }
 {
     if n == 0 {
         return 0;
     }
-    (n - 1) * 256 + byte(s, a) as usize + 1
+    (n as usize - 1) * 256 + byte(s, a) as usize + 1
 }
 
 // The first label from a place on that has the key; how many there are, if none has.
@@ -68,10 +67,10 @@ pub fn find(
     start: usize,
     size: usize,
 ) -> usize
-    requires { ⌜ (start < 100000) × (size < 100000) × (count ≤ length (now starts)) × (count ≤ length (now keys)) ⌝ }
-    ensures { λ r. ⌜ r ≡ placeIn (window (now (line .entry)) start size) (words (now (s .entry)) (now (starts .entry)) (now (keys .entry)) count) ⌝ }
+    requires { ⌜ (start < 100000) × (size < 65536) × (count ≤ length (now starts)) × (count ≤ length (now keys)) ⌝ }
+    ensures { λ r. ⌜ r ≡ labelsBefore (window (now (line .entry)) start size) (words (now (s .entry)) (now (starts .entry)) (now (keys .entry)) count) ⌝ }
 {
-    let wanted = key(line, start, size);
+    let wanted = key(line, start, size as u16);
     let mut i = of_key(keys, 0, count, wanted);
     while i < count {
         let a = starts[i] as usize;

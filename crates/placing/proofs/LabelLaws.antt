@@ -1,11 +1,11 @@
 -- A line's own label, by its place in the source.
-use Prim.Native.Nat.{ℕ, zero, suc, _+_, _-_, _≤_, _<_}
+use Prim.Native.Nat.{ℕ, suc, _+_, _-_, _≤_, _<_}
 use mathlib.Core.Bool.{Bool, true, false, cond, _||_}
 use mathlib.Core.List.{List, [], _∷_, _++_, map}
 use mathlib.Core.Path.{_≡_, refl, sym, ap, ap₂, _∙_}
 use native.Mathlib.Omega.{arith}
 use lib.Dec.{ltb, leb}
-use lib.ListN.{length, getD, take, drop, set, take-append-drop}
+use lib.ListN.{length, take, drop, set, take-append-drop}
 use lib.Seq.{take-append-le, drop-append-le, length-take-le, length-slice}
 use borrow.Author.Tests.{lt-ltb, le-ltb, ltb-true, ltb-false}
 use Rattle.values.specs.declared.LabelIn.the-variants.{Named}
@@ -17,10 +17,9 @@ use Rattle.sources.specs.Placing.{Bound, Place, names, labelled}
 use Rattle.sources.specs.Uses.{same}
 use Rattle.sources.specs.Order.{_on_}
 use Rattle.sources.specs.Assembling.{passes, refused, firstOf, among, nameVerdict, labelVerdict}
-use Rattle.labels.specs.Labels.{window, wordBy, words, placeIn, zipped}
+use Rattle.labels.specs.Labels.{window, wordBy, words, labelsBefore, zipped}
 use Rattle.labels.proofs.Laws.{length-words, words-snoc, spelled-window}
-use Rattle.placing.specs.State.{stateOf, Fair}
-use Rattle.placing.specs.State as State
+use Rattle.placing.specs.State.{stateOf, placeIn, Fair}
 use Rattle.placing.specs.declared.Counters.{Counters}
 
 spelled-length : (line : List ℕ) (n : Name) → n .end ≤ length line → length (spelled line n) ≡ n .end - n .start
@@ -36,14 +35,14 @@ suc-ltb a b = go (ltb a b) refl
     go false e = let h = ltb-false a b e in sym (le-ltb (suc a) (suc b) (omega arith))
 
 -- the code's test of 9
-among-place : (w : List ℕ) (xs : List (List ℕ)) → among w xs ≡ ltb (placeIn w xs) (length xs)
-unfolding among placeIn
+among-place : (w : List ℕ) (xs : List (List ℕ)) → among w xs ≡ ltb (labelsBefore w xs) (length xs)
+unfolding among labelsBefore
 among-place w [] = refl
 among-place w (x ∷ xs) = go (same x w) (among-place w xs)
   where
-    go : (b : Bool) → among w xs ≡ ltb (placeIn w xs) (length xs) → (b || among w xs) ≡ ltb (cond b 0 (suc (placeIn w xs))) (suc (length xs))
+    go : (b : Bool) → among w xs ≡ ltb (labelsBefore w xs) (length xs) → (b || among w xs) ≡ ltb (cond b 0 (suc (labelsBefore w xs))) (suc (length xs))
     go true e = sym (lt-ltb 0 (suc (length xs)) (omega arith))
-    go false e = e ∙ suc-ltb (placeIn w xs) (length xs)
+    go false e = e ∙ suc-ltb (labelsBefore w xs) (length xs)
 
 -- ---- the names of a place
 
@@ -86,17 +85,17 @@ module _ (s starts keys line vs ms : List ℕ) (c : Counters) (n : Name) (k : �
 
   -- by the tests' answers
   pub label-by : {x y z : Bool} {i : ℕ} → ltb 64 (n .end - n .start) ≡ x → leb 512 count ≡ y
-      → i ≡ placeIn (window line (n .start) (n .end - n .start)) held
+      → i ≡ labelsBefore (window line (n .start) (n .end - n .start)) held
       → ltb i count ≡ z
-      → labelVerdict k (State.placeIn s starts keys vs ms c) line (Named n) ≡ cond (x || y) (refused (10 on k)) (cond z (refused (9 on k)) passes)
+      → labelVerdict k (placeIn s starts keys vs ms c) line (Named n) ≡ cond (x || y) (refused (10 on k)) (cond z (refused (9 on k)) passes)
   unfolding nameVerdict firstOf
   label-by {z = z} e f o g =
-      let a : names (State.placeIn s starts keys vs ms c) ≡ held =
+      let a : names (placeIn s starts keys vs ms c) ≡ held =
       names-all c held vs ms held-long (omega (arith, lent .fair .few, lent .values-long)) in
       let w : length (spelled line n) ≡ n .end - n .start = spelled-length line n (lent .within) in
       let q : among (spelled line n) held ≡ z =
       among-place (spelled line n) held
-      ∙ ap₂ (λ (u : List ℕ) (m : ℕ). ltb (placeIn u held) m) (spelled-window line n (lent .order) (lent .within)) held-long
+      ∙ ap₂ (λ (u : List ℕ) (m : ℕ). ltb (labelsBefore u held) m) (spelled-window line n (lent .order) (lent .within)) held-long
       ∙ ap (λ (m : ℕ). ltb m count) (sym o)
       ∙ g in
       rw (a, w, held-long, e, f, q)
@@ -104,8 +103,8 @@ module _ (s starts keys line vs ms : List ℕ) (c : Counters) (n : Name) (k : �
   -- one label more
   pub label-held : count < 512 → (a m : ℕ)
       → window line (n .start) (n .end - n .start) ≡ wordBy s a m
-      → State.placeIn s (set starts count a) (set keys count m) vs ms (record { at = c .at; bound = c .bound; waiting = c .waiting + 1 })
-      ≡ labelled (State.placeIn s starts keys vs ms c) line (Named n)
+      → placeIn s (set starts count a) (set keys count m) vs ms (record { at = c .at; bound = c .bound; waiting = c .waiting + 1 })
+      ≡ labelled (placeIn s starts keys vs ms c) line (Named n)
   label-held h a m e =
       let l = held-long in
       let i : c .bound + (c .waiting + 1) ≡ count + 1 = omega arith in

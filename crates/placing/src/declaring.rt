@@ -47,7 +47,7 @@ pub(crate) fn declare(
         return Did::No(9);
     }
     starts[count] = (from + start) as u16;
-    keys[count] = key(line, start, size) as u16;
+    keys[count] = key(line, start, size as u16) as u16;
     Did::Go(Counters {
         at: at,
         bound: bound,

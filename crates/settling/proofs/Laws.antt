@@ -12,7 +12,7 @@ use Rattle.sources.specs.Uses.{Value, known, unknown, same, valueOf, from, Use,
 use Rattle.sources.specs.Order.{Refusal, _on_}
 use Rattle.sources.specs.Assembling.{Verdict, passes, refused, andThen, firstOf, tooFar, useVerdict, usesVerdict, filled}
 use Rattle.statements.proofs.Labelling.{never}
-use Rattle.labels.specs.Labels.{window, words, placeIn, zipped}
+use Rattle.labels.specs.Labels.{window, words, labelsBefore, zipped}
 use Rattle.labels.proofs.Laws.{length-words}
 use Rattle.uses.specs.Held.{countedBy, useHeld, useAt, usesHeld}
 use Rattle.settling.specs.declared.Word.{Word}
@@ -22,33 +22,33 @@ use Rattle.settling.specs.Settling.{Reaches, Tells}
 -- ---- a label's value
 
 -- a word among the names has the value at its place
-value-there : (w : List ℕ) (ws : List (List ℕ)) (vs : List ℕ) → placeIn w ws < length ws → length ws ≤ length vs
-    → valueOf (zipped ws vs) w ≡ known (getD vs (placeIn w ws) 0)
-unfolding valueOf zipped placeIn
+value-there : (w : List ℕ) (ws : List (List ℕ)) (vs : List ℕ) → labelsBefore w ws < length ws → length ws ≤ length vs
+    → valueOf (zipped ws vs) w ≡ known (getD vs (labelsBefore w ws) 0)
+unfolding valueOf zipped labelsBefore
 value-there w [] vs h k = absurd (omega (arith, h))
 value-there w (x ∷ ws) [] h k = absurd (omega (arith, k))
 value-there w (x ∷ ws) (v ∷ vs) h k = go (same x w) h (λ l. value-there w ws vs l (omega (arith, k)))
   where
-    go : (b : Bool) → cond b 0 (suc (placeIn w ws)) < suc (length ws)
-        → (placeIn w ws < length ws → valueOf (zipped ws vs) w ≡ known (getD vs (placeIn w ws) 0))
-        → cond b (known v) (valueOf (zipped ws vs) w) ≡ known (getD (v ∷ vs) (cond b 0 (suc (placeIn w ws))) 0)
+    go : (b : Bool) → cond b 0 (suc (labelsBefore w ws)) < suc (length ws)
+        → (labelsBefore w ws < length ws → valueOf (zipped ws vs) w ≡ known (getD vs (labelsBefore w ws) 0))
+        → cond b (known v) (valueOf (zipped ws vs) w) ≡ known (getD (v ∷ vs) (cond b 0 (suc (labelsBefore w ws))) 0)
     go true l f = refl
     go false l f = f (omega (arith, l))
 
 -- a word that is none of the names has no value
-value-none : (w : List ℕ) (ws : List (List ℕ)) (vs : List ℕ) → length ws ≤ placeIn w ws → valueOf (zipped ws vs) w ≡ unknown
-unfolding valueOf zipped placeIn
+value-none : (w : List ℕ) (ws : List (List ℕ)) (vs : List ℕ) → length ws ≤ labelsBefore w ws → valueOf (zipped ws vs) w ≡ unknown
+unfolding valueOf zipped labelsBefore
 value-none w [] vs h = refl
 value-none w (x ∷ ws) [] h = refl
 value-none w (x ∷ ws) (v ∷ vs) h = go (same x w) h (value-none w ws vs)
   where
-    go : (b : Bool) → suc (length ws) ≤ cond b 0 (suc (placeIn w ws)) → (length ws ≤ placeIn w ws → valueOf (zipped ws vs) w ≡ unknown)
+    go : (b : Bool) → suc (length ws) ≤ cond b 0 (suc (labelsBefore w ws)) → (length ws ≤ labelsBefore w ws → valueOf (zipped ws vs) w ≡ unknown)
         → cond b (known v) (valueOf (zipped ws vs) w) ≡ unknown
     go true l f = absurd (omega (arith, l))
     go false l f = f (omega (arith, l))
 
 -- both, for the labels that two rows hold
-module _ (s xs ls vs w : List ℕ) (n k : ℕ) (hx : n ≤ length xs) (hl : n ≤ length ls) (e : k ≡ placeIn w (words s xs ls n)) where
+module _ (s xs ls vs w : List ℕ) (n k : ℕ) (hx : n ≤ length xs) (hl : n ≤ length ls) (e : k ≡ labelsBefore w (words s xs ls n)) where
   pub value-is : n ≤ length vs → k < n → valueOf (zipped (words s xs ls n) vs) w ≡ known (getD vs k 0)
   value-is hv h =
       value-there w (words s xs ls n) vs (omega (arith, length-words s xs ls n hx hl, e, h)) (omega (arith, length-words s xs ls n hx hl, hv))

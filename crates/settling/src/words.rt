@@ -19,7 +19,7 @@ fn look_up(
     start: usize,
     size: usize,
 ) -> Word
-    requires { ⌜ (start < 100000) × (size < 100000) × (count ≤ length (now starts)) × (count ≤ length (now keys)) × (count ≤ length (now values)) ⌝ }
+    requires { ⌜ (start < 100000) × (size < 65536) × (count ≤ length (now starts)) × (count ≤ length (now keys)) × (count ≤ length (now values)) ⌝ }
     ensures { λ r. ⌜ Finds (valueOf (zipped (words (now (s .entry)) (now (starts .entry)) (now (keys .entry)) count) (now (values .entry))) (window (now (s .entry)) start size)) r ⌝ }
 {
     let k = find(s, starts, keys, count, s, start, size);
@@ -56,7 +56,7 @@ pub(crate) fn word(
     cell: usize,
     away: usize,
 ) -> Word
-    requires { ⌜ (start < 100000) × (size < 100000) × (count ≤ length (now starts)) × (count ≤ length (now keys)) × (count ≤ length (now values)) × (cell < 65536) × (away < 256) ⌝ }
+    requires { ⌜ (start < 100000) × (size < 65536) × (count ≤ length (now starts)) × (count ≤ length (now keys)) × (count ≤ length (now values)) × (cell < 65536) × (away < 256) ⌝ }
     ensures { λ r. ⌜ Tells (λ k. useVerdict (zipped (words (now (s .entry)) (now (starts .entry)) (now (keys .entry)) count) (now (values .entry))) (useHeld (now (s .entry)) start size cell k away)) (countedWord (countedBy cell away) (valueOf (zipped (words (now (s .entry)) (now (starts .entry)) (now (keys .entry)) count) (now (values .entry))) (window (now (s .entry)) start size))) r ⌝ }
 {
     match look_up(s, starts, keys, values, count, start, size) {

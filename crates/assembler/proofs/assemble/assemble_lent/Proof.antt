@@ -1,6 +1,6 @@
 use native.Mathlib.Omega.{arith}
 use Prim.Native.Nat.{ℕ}
-use mathlib.Core.Path.{_≡_, refl, sym, ap, _∙_}
+use mathlib.Core.Path.{refl, sym, ap, _∙_}
 use lib.ListN.{length, length-replicate}
 use Rattle.sources.specs.Assembling.{workOf, memoryOf}
 use Rattle.assembler.specs.Parts.{outcomeBy}

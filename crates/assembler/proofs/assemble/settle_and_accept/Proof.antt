@@ -1,7 +1,6 @@
 use Rattle.labels.specs.Labels.{words, zipped}
 use Rattle.uses.specs.Held.{usesHeld}
 use Rattle.sources.specs.Assembling.{usesVerdict, filled}
-use Rattle.assembler.specs.Parts.{outcome}
 use Rattle.assembler.proofs.Outcomes.{not-settled, all-settled}
 use borrow.Author.Needs.{needs}
 use Rattle.assembler.proofs.assemble.settle_and_accept.Statement.{statement}

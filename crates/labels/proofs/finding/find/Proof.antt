@@ -4,7 +4,7 @@ use mathlib.Core.Path.{_≡_, sym, subst, _∙_}
 use native.Mathlib.Omega.{arith}
 use native.Mathlib.Nat.{sub-zero}
 use lib.ListN.{drop, getD}
-use Rattle.labels.specs.Labels.{window, words, placeIn, keyOf, OtherKeys}
+use Rattle.labels.specs.Labels.{window, words, labelsBefore, OtherKeys}
 use Rattle.labels.proofs.Laws.{key-same, place-here, place-more, place-end, place-passed}
 use Rattle.labels.proofs.finding.find.Statement.{statement}
 use Rattle.labels.proofs.finding.find.Tie as tie
@@ -15,12 +15,15 @@ use Rattle.labels.proofs.finding.of_key.Reads as of-key-reads
 use Rattle.labels.proofs.finding.same_rest.Reads as same-rest-reads
 
 abbrev Inv-loop : tie.InvT-loop
-Inv-loop s starts keys count line start size wanted i₀ i = (i ≤ count) × (i < count → getD keys i 0 ≡ wanted) × (placeIn (window line start size) (words s starts keys count) ≡ i + placeIn (window line start size) (words s (drop i starts) (drop i keys) (count - i)))
+Inv-loop s starts keys count line start size wanted i₀ i = (i ≤ count) × (i < count → getD keys i 0 ≡ wanted) × (labelsBefore (window line start size) (words s starts keys count) ≡ i + labelsBefore (window line start size) (words s (drop i starts) (drop i keys) (count - i)))
 
 abbrev μ-loop : tie.MeasureT-loop
 μ-loop s starts keys count line start size wanted i₀ i = count - i
 
 -- src/finding.rt:74:9
+cast-key : tie.Need-cast-key Inv-loop μ-loop
+cast-key c = search needs
+
 key-requires : tie.Need-key-requires Inv-loop μ-loop
 key-requires c κs = search needs
 
@@ -32,7 +35,7 @@ of-key-requires c κs = search needs
 loop-holds : tie.Need-loop-holds Inv-loop μ-loop
 loop-holds c =
     let w = window (c .before .before .before .before .before .before .args .line .now) (c .before .before .before .before .before .before .args .start) (c .before .before .before .before .before .before .args .size) in
-    let z : placeIn w (words (c .before .before .before .before .before .before .args .s .now) (c .before .before .before .before .before .before .args .starts .now) (c .before .before .before .before .before .before .args .keys .now) (c .before .before .before .before .before .before .args .count)) ≡ placeIn w (words (c .before .before .before .before .before .before .args .s .now) (drop 0 (c .before .before .before .before .before .before .args .starts .now)) (drop 0 (c .before .before .before .before .before .before .args .keys .now)) ((c .before .before .before .before .before .before .args .count) - 0)) = rw (sub-zero (c .before .before .before .before .before .before .args .count)) in
+    let z : labelsBefore w (words (c .before .before .before .before .before .before .args .s .now) (c .before .before .before .before .before .before .args .starts .now) (c .before .before .before .before .before .before .args .keys .now) (c .before .before .before .before .before .before .args .count)) ≡ labelsBefore w (words (c .before .before .before .before .before .before .args .s .now) (drop 0 (c .before .before .before .before .before .before .args .starts .now)) (drop 0 (c .before .before .before .before .before .before .args .keys .now)) ((c .before .before .before .before .before .before .args .count) - 0)) = rw (sub-zero (c .before .before .before .before .before .before .args .count)) in
     let p = place-passed (c .before .before .before .before .before .before .args .s .now) (c .before .before .before .before .before .before .args .starts .now) (c .before .before .before .before .before .before .args .keys .now) w (c .before .before .before .before .before .before .args .count) 0 (c .of-key .result) (c .before .before .before .before .before .before .pre .2) (c .before .before .before .before .before .before .pre .3) (c .of-key .ensures .0) (c .of-key .ensures .1) (subst (λ (k : ℕ). OtherKeys (c .before .before .before .before .before .before .args .keys .now) k 0 (c .of-key .result)) (c .before .key .ensures) (c .of-key .ensures .2)) in
     ((c .of-key .ensures .1), (c .of-key .ensures .3), omega (arith, z, p))
 
@@ -91,6 +94,7 @@ find-spec =
     (tie.spec
     Inv-loop
     μ-loop
+    cast-key
     key-requires
     of-key-requires
     loop-holds

@@ -8,31 +8,31 @@ use Rattle.labels.proofs.finding.key.Reads as reads
 use Rattle.labels.proofs.finding.key.Lts as lts
 use Rattle.labels.proofs.finding.byte.Reads as byte-reads
 
--- src/finding.rt:41:9
+-- src/finding.rt:40:9
 returns : tie.Need-returns
 returns c = key-none (c .before .before .args .s .now) (c .before .before .args .a) (c .before .before .args .n) (c .if1 .taken)
 
--- src/finding.rt:43:6
+-- src/finding.rt:42:6
 sub-result : tie.Need-sub-result
 sub-result c = search needs
 
--- src/finding.rt:43:5
+-- src/finding.rt:42:5
 mul-result : tie.Need-mul-result
 mul-result c = search needs
 
--- src/finding.rt:43:21
+-- src/finding.rt:42:30
 byte-requires : tie.Need-byte-requires
 byte-requires c κs = search needs
 
--- src/finding.rt:43:21
+-- src/finding.rt:42:30
 cast-result : tie.Need-cast-result
 cast-result c = search needs
 
--- src/finding.rt:43:5
+-- src/finding.rt:42:5
 add-result : tie.Need-add-result
 add-result c = search needs
 
--- src/finding.rt:43:5
+-- src/finding.rt:42:5
 add-result-2 : tie.Need-add-result-2
 add-result-2 c = search needs
 

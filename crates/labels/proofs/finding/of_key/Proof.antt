@@ -1,8 +1,6 @@
 use borrow.Author.Needs.{needs}
-use Prim.Native.Nat.{_≤_, _<_, _-_}
-use mathlib.Core.Path.{_≡_, _∙_}
+use Prim.Native.Nat.{_≤_, _-_}
 use native.Mathlib.Omega.{arith}
-use lib.ListN.{getD}
 use Rattle.labels.specs.Labels.{OtherKeys}
 use Rattle.labels.proofs.Laws.{others-none, others-more}
 use Rattle.labels.proofs.finding.of_key.Statement.{statement}

@@ -98,6 +98,7 @@ declare-spec =
     (λ c. search needs)
     (λ c. search needs)
     (λ c. search needs)
+    (λ c. search needs)
     (λ c κs. search needs)
     cast-keys
     (λ c. search needs)
