@@ -5,13 +5,13 @@ use mathlib.Core.Path.{_≡_, sym, ap₂, subst, _∙_}
 use Rattle.sources.specs.Limits.{codeMark, dataMark}
 use Rattle.sources.specs.Order.{_on_}
 use Rattle.sources.specs.Image.{cellsMarked}
-use Rattle.sources.specs.Assembling.{Verdict, passes, refused}
+use Rattle.sources.specs.Inner.Assembling.{Verdict, passes, refused}
 use Rattle.sources.specs.declared.Line.{Line}
-use Rattle.settling.specs.Settling.{Settles}
+use Rattle.settling.specs.Inner.Settling.{Settles}
 use Rattle.settling.specs.declared.Settled.{Settled}
 use Rattle.settling.specs.declared.Settled.the-variants as S
 use Rattle.assembler.specs.Promise.{Told, refusal}
-use Rattle.assembler.specs.Parts.{Outcome, outcomeBy}
+use Rattle.assembler.specs.Inner.Parts.{Outcome, outcomeBy}
 
 module _ (memory map : List ℕ) where
   abbrev pub with : Told → List ℕ → List ℕ → Outcome

@@ -8,13 +8,13 @@ use lib.ListN.{length}
 use Rattle.statements.specs.FirstFailing.{Pass, First}
 use Rattle.sources.specs.Order.{_on_, loanChecks, of-loans}
 use Rattle.sources.specs.Image.{Accepted}
-use Rattle.sources.specs.Assembling.{Verdict, passes, refused, loanVerdict, workOf, verdictOf, memoryOf, refuses, assembledBy, assembleOf}
+use Rattle.sources.specs.Inner.Assembling.{Verdict, passes, refused, loanVerdict, workOf, verdictOf, memoryOf, refuses, assembledBy, assembleOf}
 use Rattle.sources.proofs.Verdicts.{tells-pass}
 use Rattle.sources.proofs.LateDecided.{loans-tell}
 use Rattle.sources.proofs.Top as sources
 use Rattle.assembler.specs.Promise.{told, acceptance, refusal, Replies, accepts}
 use Rattle.assembler.specs.Promise as Promise
-use Rattle.assembler.specs.Parts.{Outcome, outcome, outcomeBy}
+use Rattle.assembler.specs.Inner.Parts.{Outcome, outcome, outcomeBy}
 use Rattle.assembler.specs.declared.Reply.{Reply}
 use Rattle.assembler.proofs.Walks.{whole}
 

@@ -9,14 +9,14 @@ use Rattle.statements.proofs.Labelling.{never}
 use Rattle.sources.specs.Placing.{Bound, start, bindings}
 use Rattle.sources.specs.Uses.{Use}
 use Rattle.sources.specs.Order.{Refusal, _on_}
-use Rattle.sources.specs.Assembling.{Verdict, passes, refused, andThen, upToEnd, walkLines, workOf, endVerdict, usesVerdict, filled, lateVerdict, memoryOf}
+use Rattle.sources.specs.Inner.Assembling.{Verdict, passes, refused, andThen, upToEnd, walkLines, workOf, endVerdict, usesVerdict, filled, lateVerdict, memoryOf}
 use Rattle.sources.specs.declared.Line.{Line}
-use Rattle.uses.specs.Held.{usesHeld}
-use Rattle.walking.specs.Walking.{Holds, Ends}
+use Rattle.uses.specs.Inner.Held.{usesHeld}
+use Rattle.walking.specs.Inner.Walking.{Holds, Ends}
 use Rattle.walking.specs.declared.Walked.{Walked}
 use Rattle.walking.specs.declared.Walked.the-variants as W
 use Rattle.assembler.specs.Promise.{Told, refusal}
-use Rattle.assembler.specs.Parts.{Outcome, outcomeBy}
+use Rattle.assembler.specs.Inner.Parts.{Outcome, outcomeBy}
 use Rattle.assembler.proofs.Outcomes.{with, refused-as}
 
 -- three groups of checks: the first two decide, or the third does

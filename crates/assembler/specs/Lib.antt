@@ -1,3 +1,3 @@
--- Promise.antt is what `assemble` promises; Parts.antt what its parts promise one another.
+-- Promise.antt is what `assemble` promises. Below `Inner`: what its parts promise one another.
 pub mod Promise
-pub mod Parts
+pub mod Inner

@@ -14,7 +14,7 @@ use Rattle.tokens.specs.declared.Token.{Token}
 use Rattle.expressions.specs.Grammar.{one-product, sum, one-factor, product, literal as numeral, parentheses}
 use Rattle.expressions.specs.Trees.{Tree, literal, node, enclosed, depth, Expression}
 use Rattle.expressions.specs.Reading.{kindSymbol}
-use Rattle.expressions.specs.Scanning.{passes}
+use Rattle.expressions.specs.Inner.Scanning.{passes}
 use Rattle.expressions.specs.declared.Operation.{Operation}
 use Rattle.expressions.specs.declared.Symbol.the-variants as Y
 use Rattle.expressions.proofs.Meanings.{sum-mark, product-mark, open-mark, shut-mark}

@@ -11,7 +11,7 @@ use Rattle.expressions.specs.Grammar.{Sum}
 use Rattle.expressions.specs.Trees.{Tree, literal, node, enclosed, depth, deepest, Expression}
 use Rattle.expressions.specs.Worths.{worthOf}
 use Rattle.expressions.specs.Reading.{nothing, Outcome, reads, wrong, operand, treeRead, judged, expressionRead}
-use Rattle.expressions.specs.Scanning.{rightForm, passes}
+use Rattle.expressions.specs.Inner.Scanning.{rightForm, passes}
 use Rattle.expressions.specs.declared.Operation.{Operation}
 use Rattle.expressions.specs.declared.Worth.{Worth}
 use Rattle.expressions.specs.declared.ExpressionRead.{ExpressionRead}

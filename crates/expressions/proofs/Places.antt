@@ -11,8 +11,8 @@ use Rattle.tokens.specs.declared.Kind.the-variants as K
 use Rattle.tokens.specs.declared.Token.{Token}
 use Rattle.tokens.proofs.Places.{EndsAt, token-placed, row-unfolds}
 use Rattle.expressions.specs.Reading.{kindSymbol}
-use Rattle.expressions.specs.Parts as P
-use Rattle.expressions.specs.Parts.{Level, factors, products, sums, Ends, isEnd}
+use Rattle.expressions.specs.Inner.Parts as P
+use Rattle.expressions.specs.Inner.Parts.{Level, factors, products, sums, Ends, isEnd}
 use Rattle.expressions.specs.declared.Symbol.{Symbol}
 use Rattle.expressions.specs.declared.Symbol.the-variants as Y
 

@@ -10,8 +10,8 @@ use lib.ListN.{length}
 use Rattle.tokens.specs.Reading.{tokenAt, tokensFrom}
 use Rattle.tokens.specs.declared.Token.{Token}
 use Rattle.expressions.specs.Reading.{kindSymbol, Waiting, nothing, waits, Outcome, reads, wrong, joined, Frame, atOperand, atOperator, operand, operator}
-use Rattle.expressions.specs.Scanning.{scanStep, scanEnd, scanOn, rightForm}
-use Rattle.expressions.specs.Parts.{isEnd}
+use Rattle.expressions.specs.Inner.Scanning.{scanStep, scanEnd, scanOn, rightForm}
+use Rattle.expressions.specs.Inner.Parts.{isEnd}
 use Rattle.expressions.specs.declared.Operation.{Operation}
 use Rattle.expressions.specs.declared.ScanStep.{ScanStep}
 use Rattle.expressions.specs.declared.ScanStep.the-variants.{On, Wrong}

@@ -9,7 +9,7 @@ use Rattle.tokens.specs.Reading.{tokenAt}
 use Rattle.tokens.specs.declared.Token.{Token}
 use Rattle.expressions.specs.Worths.{ofNumber}
 use Rattle.expressions.specs.Reading.{kindSymbol}
-use Rattle.expressions.specs.Parts.{startOf, joinedPart, closedPart, Level, factors, sums, Says}
+use Rattle.expressions.specs.Inner.Parts.{startOf, joinedPart, closedPart, Level, factors, sums, Says}
 use Rattle.expressions.specs.declared.Operation.{Operation}
 use Rattle.expressions.specs.declared.Worth.{Worth}
 use Rattle.expressions.specs.declared.Mark.{Mark}

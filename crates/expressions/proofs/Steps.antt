@@ -9,8 +9,8 @@ use Rattle.tokens.specs.Reading.{tokenAt, tokensFrom}
 use Rattle.tokens.specs.declared.Token.{Token}
 use Rattle.expressions.specs.Worths.{ofNumber, operate}
 use Rattle.expressions.specs.Reading.{kindSymbol, nothing, waits, atOperator, operator}
-use Rattle.expressions.specs.Scanning.{passes}
-use Rattle.expressions.specs.Parts.{sumMark, productMark, joinedPart, Level, factors, products, sums, Wait, Stack, Left, before, after, EndsAt, Ends, Says, Answer, operandW, operatorW}
+use Rattle.expressions.specs.Inner.Scanning.{passes}
+use Rattle.expressions.specs.Inner.Parts.{sumMark, productMark, joinedPart, Level, factors, products, sums, Wait, Stack, Left, before, after, EndsAt, Ends, Says, Answer, operandW, operatorW}
 use Rattle.expressions.specs.declared.Operation.{Operation}
 use Rattle.expressions.specs.declared.Worth.{Worth}
 use Rattle.expressions.specs.declared.Mark.{Mark}

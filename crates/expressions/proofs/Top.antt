@@ -10,7 +10,7 @@ use Rattle.expressions.specs.Grammar.{Sum}
 use Rattle.expressions.specs.Trees.{Tree, node, depth, deepest, Expression}
 use Rattle.expressions.specs.Worths.{operation, operate, worthOf}
 use Rattle.expressions.specs.Reading.{nothing, reads, wrong, operand, treeRead, expressionRead, refusalOf}
-use Rattle.expressions.specs.Scanning.{rightForm, passes}
+use Rattle.expressions.specs.Inner.Scanning.{rightForm, passes}
 use Rattle.expressions.specs.declared.Operation.{Operation}
 use Rattle.expressions.specs.declared.Worth.{Worth}
 use Rattle.expressions.specs.declared.Worth.the-variants.{Is, OutOfRange, ByZero}

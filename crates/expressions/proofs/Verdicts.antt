@@ -11,8 +11,8 @@ use Rattle.tokens.specs.declared.Token.{Token}
 use Rattle.expressions.specs.Trees.{Tree, literal, node, enclosed, depth, deepest}
 use Rattle.expressions.specs.Worths.{ofNumber, operate, worthOf}
 use Rattle.expressions.specs.Reading.{nothing, Outcome, reads, wrong, operator, treeRead, judged, expressionRead}
-use Rattle.expressions.specs.Scanning.{rightForm, passes}
-use Rattle.expressions.specs.Parts.{isEnd, sums, Says, Answer, operandW, operatorW}
+use Rattle.expressions.specs.Inner.Scanning.{rightForm, passes}
+use Rattle.expressions.specs.Inner.Parts.{isEnd, sums, Says, Answer, operandW, operatorW}
 use Rattle.expressions.specs.declared.Worth.{Worth}
 use Rattle.expressions.specs.declared.ExpressionRead.the-variants.{Read, TooDeep, WrongForm}
 use Rattle.expressions.specs.declared.Part.{Part}

@@ -6,5 +6,4 @@ pub mod Grammar
 pub mod Trees
 pub mod Worths
 pub mod Reading
-pub mod Scanning
-pub mod Parts
+pub mod Inner

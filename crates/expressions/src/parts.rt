@@ -1,6 +1,6 @@
-// Sums, products and factors (specs/Parts.antt). The three readers call each other; the room for parentheses falls.
+// Sums, products and factors (specs/Inner/Parts.antt). The three readers call each other; the room for parentheses falls.
 ghost use mathlib.Core.Path.{_≡_};
-ghost use Rattle.expressions.specs.Parts.{factors, products, sums, joinedPart, closedPart, Says};
+ghost use Rattle.expressions.specs.Inner.Parts.{factors, products, sums, joinedPart, closedPart, Says};
 use super::Mark;
 use super::Operation;
 use super::Part;

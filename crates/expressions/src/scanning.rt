@@ -1,9 +1,9 @@
-// The form of a row of tokens in constant space, however many parentheses are open (specs/Scanning.antt).
+// The form of a row of tokens in constant space, however many parentheses are open (specs/Inner/Scanning.antt).
 ghost use mathlib.Core.Bool.{true};
 ghost use mathlib.Core.Path.{_≡_};
 ghost use Prim.Native.Nat.{_<_};
 ghost use Rattle.tokens.specs.Reading.{tokensFrom};
-ghost use Rattle.expressions.specs.Scanning.{scanStep, shutStep, scanEnd, rightForm};
+ghost use Rattle.expressions.specs.Inner.Scanning.{scanStep, shutStep, scanEnd, rightForm};
 use super::ScanStep;
 use super::Symbol;
 use super::symbols::is_end;

@@ -1,7 +1,7 @@
-// What a token is to an expression (specs/Reading.antt), and what that is to each reader (specs/Parts.antt).
+// What a token is to an expression (specs/Reading.antt), and what that is to each reader (specs/Inner/Parts.antt).
 ghost use mathlib.Core.Path.{_≡_};
 ghost use Rattle.expressions.specs.Reading.{markSymbol, kindSymbol};
-ghost use Rattle.expressions.specs.Parts.{startOf, sumMark, productMark, isShut, isEnd};
+ghost use Rattle.expressions.specs.Inner.Parts.{startOf, sumMark, productMark, isShut, isEnd};
 use super::Mark;
 use super::Operation;
 use super::Start;

@@ -11,7 +11,7 @@ use Rattle.numerals.specs.Writing.{decimal, written}
 use Rattle.numerals.specs.declared.Written.{Written}
 use Rattle.numerals.proofs.Filling.{written-text, length-decimal}
 use Rattle.image.specs.Image.{cellLines, claimed, headLines, textOf, imageText}
-use Rattle.image.specs.Pieces.{piece, cellsText, Wrote}
+use Rattle.image.specs.Inner.Pieces.{piece, cellsText, Wrote}
 use Rattle.image.proofs.Texts.{text-append, left, left-more, left-none, left-length}
 use Rattle.ports.specs.Overwriting.{overwrite}
 use Rattle.ports.specs.Input.{Passed, passed}

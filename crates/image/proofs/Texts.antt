@@ -14,7 +14,7 @@ use Rattle.numerals.specs.Writing.{decimal}
 use Rattle.numerals.proofs.Filling.{length-decimal}
 use Rattle.image.specs.Image.{kind, cellLine, cellLines, claimed, headLines, LF, textOf, imageText}
 use Rattle.image.specs.Printing.{knownMarks}
-use Rattle.image.specs.Pieces.{piece, kindAndValue, cellsText}
+use Rattle.image.specs.Inner.Pieces.{piece, kindAndValue, cellsText}
 
 pub both-true : (a b : Bool) → a && b ≡ true → (a ≡ true) × (b ≡ true)
 both-true true b e = (refl, e)

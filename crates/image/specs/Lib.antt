@@ -1,5 +1,5 @@
 -- The printed image (01, "The printed image"): Image.antt is the text, Printing.antt what printing answers and leaves in the room.
--- Pieces.antt serves the inner functions alone.
+-- Below `Inner`: what the inner functions promise one another.
 pub mod Image
 pub mod Printing
-pub mod Pieces
+pub mod Inner

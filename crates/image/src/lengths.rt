@@ -4,7 +4,7 @@ ghost use Prim.Native.Nat.{_≤_};
 ghost use lib.ListN.{length};
 ghost use Rattle.numerals.specs.Writing.{decimal};
 ghost use Rattle.image.specs.Image.{claimed, imageText};
-ghost use Rattle.image.specs.Pieces.{piece, cellsText};
+ghost use Rattle.image.specs.Inner.Pieces.{piece, cellsText};
 
 fn decimal_length(n: u32) -> usize
     ensures { λ r. ⌜ r ≡ length (decimal n) ⌝ }

@@ -6,7 +6,7 @@ ghost use lib.ListN.{length};
 ghost use Rattle.numerals.specs.Writing.{decimal};
 ghost use Rattle.ports.specs.Overwriting.{overwrite};
 ghost use Rattle.image.specs.Image.{headLines, textOf, imageText};
-ghost use Rattle.image.specs.Pieces.{kindAndValue, piece, cellsText, Wrote};
+ghost use Rattle.image.specs.Inner.Pieces.{kindAndValue, piece, cellsText, Wrote};
 use super::lengths::claimed_in;
 use ports::output::put_text;
 

@@ -13,7 +13,7 @@ use Rattle.tokens.proofs.Parted.{comma-moves}
 use Rattle.values.proofs.Walks.{never, un-cons}
 use Rattle.items.specs.Items.{Item, itemCells, cellsOf}
 use Rattle.items.specs.Reading.{item, reads, walk}
-use Rattle.items.specs.Turns.{Standing, stands, none, itemAt, measured}
+use Rattle.items.specs.Inner.Turns.{Standing, stands, none, itemAt, measured}
 use Rattle.items.proofs.Measures.{found-item}
 use Rattle.items.proofs.Walks.{itemOn, followsOn, item-turn, done-turn}
 

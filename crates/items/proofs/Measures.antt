@@ -27,7 +27,7 @@ use Rattle.values.proofs.Finds.{value-stands}
 use Rattle.tokens.proofs.Heads.{ends-of}
 use Rattle.items.specs.Items.{Item, itemCells, itemInRange}
 use Rattle.items.specs.Reading.{characters}
-use Rattle.items.specs.Turns.{Standing, stands, none, stringBy, stringAt, itemBy, itemAt, measured}
+use Rattle.items.specs.Inner.Turns.{Standing, stands, none, stringBy, stringAt, itemBy, itemAt, measured}
 use Rattle.items.specs.declared.ItemRead.{ItemRead}
 use Rattle.items.specs.declared.ItemRead.the-variants.{Found, Absent}
 use Rattle.items.proofs.Counts.{characters-of, characters-fit}

@@ -28,7 +28,7 @@ use Rattle.values.proofs.Walks.{turned, finished}
 use Rattle.values.proofs.Begins.{value-cases, digits-cases, digits-read, digits-row}
 use Rattle.items.specs.Items.{Item, number, itemCells, itemInRange, cellsOf, allInRange}
 use Rattle.items.specs.Reading.{State, item, digits, done, Step, to, halt, Result, reads, wrong, onText, cons, finish, stringOf, step, walk, judged, itemsRead}
-use Rattle.items.specs.Turns.{Standing, stands, none, stringAt, itemBy, itemAt, measured, verdict}
+use Rattle.items.specs.Inner.Turns.{Standing, stands, none, stringAt, itemBy, itemAt, measured, verdict}
 use Rattle.items.specs.declared.ItemRead.the-variants.{Absent}
 use Rattle.items.specs.declared.ItemsRead.the-variants.{Cells, WrongForm, OutOfRange}
 use Rattle.items.proofs.Measures.{FoundItem, no-item}

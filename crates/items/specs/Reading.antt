@@ -11,8 +11,8 @@ use Rattle.tokens.specs.declared.Kind.{Kind}
 use Rattle.tokens.specs.declared.Kind.the-variants as K
 use Rattle.tokens.specs.declared.Token.{Token}
 use Rattle.values.specs.Reading.{valueBy, digitsBy}
-use Rattle.values.specs.Walks as Walks
-pub use Rattle.values.specs.Walks.{to, emit, halt, reads, wrong, cons}
+use Rattle.values.specs.Inner.Walks as Walks
+pub use Rattle.values.specs.Inner.Walks.{to, emit, halt, reads, wrong, cons}
 use Rattle.items.specs.Items.{Item, number, string, cellsOf, allInRange}
 use Rattle.items.specs.declared.ItemsRead.{ItemsRead}
 use Rattle.items.specs.declared.ItemsRead.the-variants.{Cells, WrongForm, OutOfRange}

@@ -5,7 +5,7 @@ use mathlib.Core.List.{List, []}
 use Rattle.tokens.specs.declared.Token.{Token}
 use Rattle.items.specs.Items.{itemCells, itemInRange, cellsOf, allInRange}
 use Rattle.items.specs.Reading.{item, Result, reads, wrong, walk}
-use Rattle.items.specs.Turns.{Standing, stands, none}
+use Rattle.items.specs.Inner.Turns.{Standing, stands, none}
 
 -- the cells of the items that follow DATA; none where these are refused
 abbrev pub acceptedCells : Result → List ℕ

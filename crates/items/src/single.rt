@@ -1,8 +1,8 @@
-// One item (specs/Turns.antt).
+// One item (specs/Inner/Turns.antt).
 ghost use mathlib.Core.Path.{_≡_};
 ghost use Rattle.numerals.specs.Numbers.{valueOf, inRange};
 ghost use Rattle.tokens.specs.Reading.{tokenAt};
-ghost use Rattle.items.specs.Turns.{stringAt, itemAt, measured};
+ghost use Rattle.items.specs.Inner.Turns.{stringAt, itemAt, measured};
 use super::ItemRead;
 use super::strings::character_count;
 use numerals::Cursor;

@@ -8,7 +8,7 @@ ghost use lib.Seq.{sets};
 ghost use Rattle.tokens.specs.Strings.{Characters};
 ghost use Rattle.tokens.specs.Reading.{tokenAt, tokensFrom};
 ghost use Rattle.items.specs.Reading.{item, walk};
-ghost use Rattle.items.specs.Turns.{stringAt, itemAt};
+ghost use Rattle.items.specs.Inner.Turns.{stringAt, itemAt};
 ghost use Rattle.items.specs.Writing.{cellsFrom, accepted, cellsAt};
 use super::ItemRead;
 use super::ItemsRead;

@@ -9,7 +9,7 @@ use Rattle.ports.specs.declared.Moved.the-variants.{Short}
 use Rattle.ports.proofs.Laws.{Keeps}
 use Rattle.machine.specs.States.{state, machine, withStop}
 use Rattle.machine.specs.Stops.{answer, isStored, refuses}
-use Rattle.machine.specs.Inner.{running, left}
+use Rattle.machine.specs.Inner.Lent.{running, left}
 use Rattle.machine.specs.declared.Inner.{Inner}
 
 -- a refusal: 2 to 6 are left as the stop code

@@ -9,7 +9,7 @@ use borrow.Author.Tests.{ne-eqb}
 use Rattle.machine.specs.States.{State, state, machine}
 use Rattle.machine.specs.Stops.{Answer, answer, goodLoan}
 use Rattle.machine.specs.Steps.{runsOn, stepOf, Reply, reply, replyOf}
-use Rattle.machine.specs.Inner.{running, codeAfter, left}
+use Rattle.machine.specs.Inner.Lent.{running, codeAfter, left}
 use Rattle.machine.specs.Runs.{Ending, ending, oneMore, follows, runOf}
 use Rattle.machine.specs.declared.Inner.{Inner}
 use Rattle.machine.specs.declared.Registers.{Registers}

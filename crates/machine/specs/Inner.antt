@@ -1,20 +1,2 @@
--- The inner step's promise in one equation: what it is lent, as a state, and what it leaves, as an answer.
-use Prim.Native.Nat.{ℕ}
-use mathlib.Core.Bool.{Bool, true, false, cond}
-use mathlib.Core.List.{List}
-use Rattle.machine.specs.States.{State, state, machine}
-use Rattle.machine.specs.Stops.{none, isStored, Answer, answer}
-use Rattle.machine.specs.declared.Inner.{Inner}
-
--- a machine that runs
-abbrev pub running : List ℕ → List ℕ → List ℕ → ℕ → ℕ → State
-running r m out taken written = state (machine r none taken written) m out
-
--- the stop code that a machine that ran is left with
-abbrev pub codeAfter : Bool → ℕ → ℕ
-codeAfter true k = k
-codeAfter false k = cond (isStored k) k none
-
--- registers, memory and output as they are left, with the answer
-abbrev pub left : List ℕ → List ℕ → List ℕ → Inner → Answer
-left r m out a = answer (state (machine r (codeAfter (a .completed) (a .stop)) (a .taken) (a .written)) m out) (a .stop) (a .completed)
+-- What the inner functions promise one another. Nothing here has to be believed: the promises of `step` and `run` cite Steps.antt and Runs.antt alone.
+pub mod Lent

@@ -2,5 +2,5 @@
 pub mod States
 pub mod Stops
 pub mod Steps
-pub mod Inner
 pub mod Runs
+pub mod Inner

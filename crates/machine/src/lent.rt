@@ -5,7 +5,7 @@ ghost use Prim.Native.Nat.{ℕ};
 ghost use lib.ListN.{length};
 ghost use Rattle.effects.specs.Effects.{performOf};
 ghost use Rattle.machine.specs.Steps.{stopAt, does, halts, takes, goesOn, fills, prints, asks, performed, runsOn};
-ghost use Rattle.machine.specs.Inner.{running, codeAfter, left};
+ghost use Rattle.machine.specs.Inner.Lent.{running, codeAfter, left};
 use super::Inner;
 use effects::Effect;
 use effects::Flags;

@@ -17,7 +17,7 @@ use Rattle.isa.proofs.Numbers.{same-number, each}
 use Rattle.names.specs.declared.Word.{Word}
 use Rattle.names.specs.declared.Word.the-variants.{Instructs, Org, Equ, Res, Data, End, Unknown}
 use Rattle.names.specs.Names.{capital, same, isNamed, Entry, statementWords, wordIn, wordOf, registers, placeIn, registerCode}
-use Rattle.names.specs.Packing.{wordAt, directives}
+use Rattle.names.specs.Inner.Packing.{wordAt, directives}
 use Rattle.names.proofs.Places.{statementNames, word-at-place}
 
 -- ---- case plays no part

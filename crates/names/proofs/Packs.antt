@@ -15,7 +15,7 @@ use borrow.Author.Tests.{lt-ltb, le-ltb, ltb-true, leb-true, leb-false, lt-leb, 
 use Rattle.isa.proofs.Tests.{and-false, both-true}
 use Rattle.numerals.specs.Bytes.{bytes, between}
 use Rattle.names.specs.Names.{capital, same, isNamed, placeIn}
-use Rattle.names.specs.Packing.{pack, digit, numberOf, placeOf}
+use Rattle.names.specs.Inner.Packing.{pack, digit, numberOf, placeOf}
 
 -- ---- a search
 

@@ -12,7 +12,7 @@ use Rattle.isa.specs.declared.Opcode.{Opcode}
 use Rattle.isa.specs.declared.Opcode.the-variants.{NOP}
 use Rattle.names.specs.declared.Word.the-variants.{Instructs, Unknown}
 use Rattle.names.specs.Names.{isNamed, Entry, statementWords, wordIn, wordOf, registers, placeIn, registerCode}
-use Rattle.names.specs.Packing.{numberOf, placeOf, wordAt, directives, directiveAt}
+use Rattle.names.specs.Inner.Packing.{numberOf, placeOf, wordAt, directives, directiveAt}
 use Rattle.names.proofs.Packs.{numbers, place-number}
 
 -- the names of the 44 words

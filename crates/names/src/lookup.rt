@@ -1,11 +1,11 @@
 // A word of the line among the names (specs/Names.antt): its capitals packed into a number, and that number searched among the
-// names' own (specs/Packing.antt).
+// names' own (specs/Inner/Packing.antt).
 ghost use mathlib.Core.Path.{_≡_};
 ghost use Prim.Native.Nat.{_≤_};
 ghost use lib.ListN.{length};
 ghost use lib.Seq.{slice};
 ghost use Rattle.names.specs.Names.{capital, wordOf, registerCode};
-ghost use Rattle.names.specs.Packing.{digit, numberOf, placeOf, wordAt, directiveAt};
+ghost use Rattle.names.specs.Inner.Packing.{digit, numberOf, placeOf, wordAt, directiveAt};
 use super::Word;
 use isa::FoundOpcode;
 use isa::opcodes::opcode;

@@ -2,7 +2,7 @@
 ghost use mathlib.Core.Path.{_≡_};
 ghost use Rattle.tokens.specs.Reading.{tokensFrom};
 ghost use Rattle.operands.specs.Checks.{wordOf, given, ranged, instructionRead};
-ghost use Rattle.operands.specs.Peeks.{fitsListed, judgedListed};
+ghost use Rattle.operands.specs.Inner.Peeks.{fitsListed, judgedListed};
 use super::FirstTwo;
 use super::Given;
 use super::InstructionRead;

@@ -13,7 +13,7 @@ use Rattle.sources.specs.Placing.{does}
 use Rattle.sources.specs.declared.Act.{Act}
 use Rattle.sources.specs.declared.Gives.the-variants.{Start}
 use Rattle.sources.specs.declared.Moves.the-variants.{On}
-use Rattle.placing.specs.State.{Sound}
+use Rattle.placing.specs.Inner.State.{Sound}
 
 -- an opcode has two operands at most
 present-small : (k : Kinds) → presentIn k ≤ 1

@@ -8,7 +8,7 @@ use lib.Dec.{eqb}
 use lib.ListN.{getD, set, replicate}
 use lib.Seq.{sets}
 use borrow.Author.Tests.{eq-eqb, ne-eqb, eqb-true, eqb-false}
-use Rattle.sources.specs.Assembling.{taken}
+use Rattle.sources.specs.Inner.Assembling.{taken}
 
 -- ---- a cell with a mark
 

@@ -16,10 +16,10 @@ use Rattle.sources.specs.Sources.{spelled}
 use Rattle.sources.specs.Placing.{Bound, Place, names, labelled}
 use Rattle.sources.specs.Uses.{same}
 use Rattle.sources.specs.Order.{_on_}
-use Rattle.sources.specs.Assembling.{passes, refused, firstOf, among, nameVerdict, labelVerdict}
+use Rattle.sources.specs.Inner.Assembling.{passes, refused, firstOf, among, nameVerdict, labelVerdict}
 use Rattle.labels.specs.Labels.{window, wordBy, words, labelsBefore, zipped}
 use Rattle.labels.proofs.Laws.{length-words, words-snoc, spelled-window}
-use Rattle.placing.specs.State.{stateOf, placeIn, Fair}
+use Rattle.placing.specs.Inner.State.{stateOf, placeIn, Fair}
 use Rattle.placing.specs.declared.Counters.{Counters}
 
 spelled-length : (line : List ℕ) (n : Name) → n .end ≤ length line → length (spelled line n) ≡ n .end - n .start

@@ -13,10 +13,10 @@ use Rattle.statements.specs.declared.StatementRead.{StatementRead}
 use Rattle.statements.specs.declared.StatementRead.the-variants.{Passes, Fails}
 use Rattle.sources.specs.Placing.{Place, does, doesRead, labelled, acted, after, Judged}
 use Rattle.sources.specs.Order.{_on_}
-use Rattle.sources.specs.Assembling.{Verdict, passes, refused, andThen, labelVerdict, ownVerdict, actVerdict, lineVerdict}
+use Rattle.sources.specs.Inner.Assembling.{Verdict, passes, refused, andThen, labelVerdict, ownVerdict, actVerdict, lineVerdict}
 use Rattle.sources.specs.declared.Act.{Act}
 use Rattle.labels.specs.Labels.{words}
-use Rattle.placing.specs.State.{stateOf, placeIn, Keeps, Tells}
+use Rattle.placing.specs.Inner.State.{stateOf, placeIn, Keeps, Tells}
 use Rattle.placing.specs.declared.Counters.{Counters}
 use Rattle.placing.specs.declared.Did.{Did}
 use Rattle.placing.specs.declared.Did.the-variants.{Go, No}

@@ -8,7 +8,7 @@ use lib.Seq.{take-all, length-take-le, drop-length}
 use Rattle.sources.specs.Placing.{Bound, Place, boundTo, boundAll}
 use Rattle.statements.proofs.Labelling.{never}
 use Rattle.labels.specs.Labels.{zipped}
-use Rattle.placing.specs.State.{stateOf}
+use Rattle.placing.specs.Inner.State.{stateOf}
 use Rattle.placing.specs.declared.Counters.{Counters}
 
 -- as many values of one kind as names

@@ -12,11 +12,11 @@ use Rattle.isa.specs.declared.Address.{Address}
 use Rattle.labels.specs.Labels.{zipped}
 use Rattle.sources.specs.Placing.{Bound, Place, boundTo, boundAll, boundBy, movedBy, marked, acted}
 use Rattle.sources.specs.Order.{_on_}
-use Rattle.sources.specs.Assembling.{passes, refused, firstOf, givesStart, reservesTooFar, taken, actVerdict}
+use Rattle.sources.specs.Inner.Assembling.{passes, refused, firstOf, givesStart, reservesTooFar, taken, actVerdict}
 use Rattle.sources.specs.declared.Act.{Act}
 use Rattle.sources.specs.declared.Gives.{Gives}
 use Rattle.sources.specs.declared.Gives.the-variants.{Waits, Number, Start}
-use Rattle.placing.specs.State.{stateOf, pastAt, BindsFine}
+use Rattle.placing.specs.Inner.State.{stateOf, pastAt, BindsFine}
 use Rattle.placing.specs.declared.Counters.{Counters}
 
 -- ---- binding

@@ -6,12 +6,12 @@ use native.Mathlib.Omega.{arith}
 use lib.Dec.{ltb, leb}
 use borrow.Author.Tests.{lt-ltb, le-ltb, ltb-true, ltb-false}
 use Rattle.sources.specs.Placing.{movedBy}
-use Rattle.sources.specs.Assembling.{givesStart, reservesTooFar}
+use Rattle.sources.specs.Inner.Assembling.{givesStart, reservesTooFar}
 use Rattle.sources.specs.declared.Gives.{Gives}
 use Rattle.sources.specs.declared.Gives.the-variants.{Start}
 use Rattle.sources.specs.declared.Moves.{Moves}
 use Rattle.sources.specs.declared.Moves.the-variants.{On, Reserving, To}
-use Rattle.placing.specs.State.{Sound, pastAt}
+use Rattle.placing.specs.Inner.State.{Sound, pastAt}
 
 -- ---- 11: past the memory's end
 

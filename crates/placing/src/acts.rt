@@ -3,7 +3,7 @@ ghost use mathlib.Core.Path.{_≡_};
 ghost use Rattle.sources.specs.Placing.{does};
 ghost use Rattle.sources.specs.declared.Gives.the-variants.{Start};
 ghost use Rattle.sources.specs.declared.Moves.the-variants.{On};
-ghost use Rattle.placing.specs.State.{Sound};
+ghost use Rattle.placing.specs.Inner.State.{Sound};
 use isa::opcodes::operand_count;
 use sources::Act;
 use sources::Gives;

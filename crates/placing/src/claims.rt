@@ -3,7 +3,7 @@ ghost use mathlib.Core.Path.{_≡_};
 ghost use Prim.Native.Nat.{_+_, _≤_, _<_};
 ghost use lib.ListN.{length, replicate};
 ghost use lib.Seq.{sets};
-ghost use Rattle.sources.specs.Assembling.{taken};
+ghost use Rattle.sources.specs.Inner.Assembling.{taken};
 
 pub(crate) fn is_taken(marks: &[u8], at: usize, n: usize) -> bool
     requires { ⌜ (0 < n → at + n ≤ length (now marks)) ⌝ }

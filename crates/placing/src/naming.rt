@@ -5,7 +5,7 @@ ghost use Prim.Native.Nat.{ℕ, _+_};
 ghost use lib.ListN.{length};
 ghost use Rattle.sources.specs.Placing.{boundAll, boundBy};
 ghost use Rattle.sources.specs.declared.Gives.the-variants.{Start};
-ghost use Rattle.placing.specs.State.{stateOf, Fair, BindsFine};
+ghost use Rattle.placing.specs.Inner.State.{stateOf, Fair, BindsFine};
 use super::Counters;
 use labels::bound::fill;
 use sources::Gives;

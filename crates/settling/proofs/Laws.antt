@@ -10,14 +10,14 @@ use borrow.Author.Tests.{eq-eqb, ne-eqb, lt-ltb, le-ltb}
 use Rattle.sources.specs.Placing.{Bound}
 use Rattle.sources.specs.Uses.{Value, known, unknown, same, valueOf, from, Use, countedWord}
 use Rattle.sources.specs.Order.{Refusal, _on_}
-use Rattle.sources.specs.Assembling.{Verdict, passes, refused, andThen, firstOf, tooFar, useVerdict, usesVerdict, filled}
+use Rattle.sources.specs.Inner.Assembling.{Verdict, passes, refused, andThen, firstOf, tooFar, useVerdict, usesVerdict, filled}
 use Rattle.statements.proofs.Labelling.{never}
 use Rattle.labels.specs.Labels.{window, words, labelsBefore, zipped}
 use Rattle.labels.proofs.Laws.{length-words}
-use Rattle.uses.specs.Held.{countedBy, useHeld, useAt, usesHeld}
+use Rattle.uses.specs.Inner.Held.{countedBy, useHeld, useAt, usesHeld}
 use Rattle.settling.specs.declared.Word.{Word}
 use Rattle.settling.specs.declared.Word.the-variants as W
-use Rattle.settling.specs.Settling.{Reaches, Tells}
+use Rattle.settling.specs.Inner.Settling.{Reaches, Tells}
 
 -- ---- a label's value
 

@@ -1,2 +1,2 @@
 -- Labels replaced by their words, in code: what the answers say.
-pub mod Settling
+pub mod Inner

@@ -2,9 +2,9 @@
 ghost use Prim.Native.Nat.{_*_, _≤_};
 ghost use lib.ListN.{length};
 ghost use Rattle.labels.specs.Labels.{words, zipped};
-ghost use Rattle.sources.specs.Assembling.{usesVerdict, filled};
-ghost use Rattle.uses.specs.Held.{usesHeld};
-ghost use Rattle.settling.specs.Settling.{Settles};
+ghost use Rattle.sources.specs.Inner.Assembling.{usesVerdict, filled};
+ghost use Rattle.uses.specs.Inner.Held.{usesHeld};
+ghost use Rattle.settling.specs.Inner.Settling.{Settles};
 use super::Settled;
 use super::Word;
 use super::words::word;

@@ -3,9 +3,9 @@ ghost use Prim.Native.Nat.{_+_, _≤_, _<_};
 ghost use lib.ListN.{length};
 ghost use Rattle.labels.specs.Labels.{window, words, zipped};
 ghost use Rattle.sources.specs.Uses.{valueOf, countedWord};
-ghost use Rattle.sources.specs.Assembling.{useVerdict};
-ghost use Rattle.uses.specs.Held.{countedBy, useHeld};
-ghost use Rattle.settling.specs.Settling.{Finds, Reaches, Tells};
+ghost use Rattle.sources.specs.Inner.Assembling.{useVerdict};
+ghost use Rattle.uses.specs.Inner.Held.{countedBy, useHeld};
+ghost use Rattle.settling.specs.Inner.Settling.{Finds, Reaches, Tells};
 use super::Word;
 use labels::finding::find;
 

@@ -14,7 +14,7 @@ use Rattle.statements.specs.Reading.{lineRead}
 use Rattle.statements.specs.declared.LineRead.{LineRead}
 use Rattle.statements.proofs.Top as statements
 use Rattle.sources.specs.Placing.{start}
-use Rattle.sources.specs.Assembling.{Verdict, passes, andThen, readLine, endsIt, upToEnd, loanVerdict, walkLines, Work, startWork, workAfter, lateVerdict, verdictOf, memoryOf, assembledBy, assembleOf}
+use Rattle.sources.specs.Inner.Assembling.{Verdict, passes, andThen, readLine, endsIt, upToEnd, loanVerdict, walkLines, Work, startWork, workAfter, lateVerdict, verdictOf, memoryOf, assembledBy, assembleOf}
 
 -- the assembler by the lines up to END
 module _ (M : ℕ) where

@@ -29,7 +29,7 @@ use Rattle.sources.specs.Limits.{longestSource}
 use Rattle.sources.specs.Placing.{does, Bound, Place, start, Judged, acted, after, bindings}
 use Rattle.sources.specs.Uses.{Use, useBy, useOf, usesBy, usesRead}
 use Rattle.sources.specs.Order.{_on_}
-use Rattle.sources.specs.Assembling.{Test, test, Verdict, passes, refused, firstOf, andThen, readLine, endsIt, upToEnd, loanVerdict, taken, nameVerdict, labelVerdict, ownVerdict, actVerdict, lineVerdict, walkLines, Work, workOf, startWork, worked, workAfter, endVerdict, useVerdict, usesVerdict, filled, lateVerdict, verdictOf, memoryOf, assembledBy, Assembled, accepted, refuses, assembleOf}
+use Rattle.sources.specs.Inner.Assembling.{Test, test, Verdict, passes, refused, firstOf, andThen, readLine, endsIt, upToEnd, loanVerdict, taken, nameVerdict, labelVerdict, ownVerdict, actVerdict, lineVerdict, walkLines, Work, workOf, startWork, worked, workAfter, endVerdict, useVerdict, usesVerdict, filled, lateVerdict, verdictOf, memoryOf, assembledBy, Assembled, accepted, refuses, assembleOf}
 use Rattle.sources.specs.declared.Act.{Act}
 use Rattle.sources.proofs.Spacing.{SameTokens, tokens, read-alike, says-ends, ends-same, verdict-same, after-same, worked-same, loans-same}
 

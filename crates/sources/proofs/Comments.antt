@@ -42,7 +42,7 @@ use Rattle.statements.proofs.Top.{says-exactly}
 use Rattle.sources.specs.Limits.{mostCells, longestSource}
 use Rattle.sources.specs.Placing.{doesRead, Place, start, labelled, after}
 use Rattle.sources.specs.Order.{Refusal, _on_}
-use Rattle.sources.specs.Assembling.{Verdict, passes, refused, firstOf, andThen, readLine, endsIt, upToEnd, loanVerdict, labelVerdict, ownVerdict, actVerdict, lineVerdict, walkLines, workOf, verdictOf, lateVerdict, memoryOf, assembledBy, accepted, assembleOf}
+use Rattle.sources.specs.Inner.Assembling.{Verdict, passes, refused, firstOf, andThen, readLine, endsIt, upToEnd, loanVerdict, labelVerdict, ownVerdict, actVerdict, lineVerdict, walkLines, workOf, verdictOf, lateVerdict, memoryOf, assembledBy, accepted, assembleOf}
 use Rattle.sources.proofs.Spacing.{Lists, cut-alike, ends-same, loans-same, parts-same}
 use Rattle.sources.proofs.CommentLines.{comment-line-same}
 use Rattle.sources.proofs.WholeLines.{line-whole}

@@ -49,7 +49,7 @@ use Rattle.sources.specs.Limits.{free}
 use Rattle.sources.specs.Placing.{does, movedBy, Bound}
 use Rattle.sources.specs.Uses.{Use, useBy, useOf, secondCell, usesBy}
 use Rattle.sources.specs.Image.{wordBy, wordIn, codeOf, codeRead, givenBy}
-use Rattle.sources.specs.Assembling.{rawBy, filled}
+use Rattle.sources.specs.Inner.Assembling.{rawBy, filled}
 use Rattle.sources.proofs.Stores.{set-inside}
 
 -- ---- which reading passes as which statement

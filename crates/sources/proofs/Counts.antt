@@ -14,7 +14,7 @@ use Rattle.sources.specs.Sources.{Said}
 use Rattle.sources.specs.Placing.{doesRead, Bound, Place, start, acted, judgedLine, after, placeAfter, placeOf, bindings}
 use Rattle.sources.specs.Order.{Passed}
 use Rattle.sources.specs.Image.{Block, blockOf, blocksOf, blocks, Accepted, cellsMarked}
-use Rattle.sources.specs.Assembling.{startWork, workAfter}
+use Rattle.sources.specs.Inner.Assembling.{startWork, workAfter}
 use Rattle.sources.proofs.Filling.{Read, all-read, fits, marks-long, work-marks}
 use Rattle.sources.proofs.Images.{image-there, one-image}
 

@@ -11,7 +11,7 @@ use Rattle.sources.specs.Placing.{Place, names, act}
 use Rattle.sources.specs.Uses.{known, plainly, from, countedWord, same}
 use Rattle.sources.specs.Order.{_on_}
 use Rattle.sources.specs.Image.{cellsMarked}
-use Rattle.sources.specs.Assembling.{passes, refused, firstOf, loanVerdict, among, nameVerdict, taken, actVerdict, endVerdict, tooFar}
+use Rattle.sources.specs.Inner.Assembling.{passes, refused, firstOf, loanVerdict, among, nameVerdict, taken, actVerdict, endVerdict, tooFar}
 use Rattle.sources.specs.declared.Gives.the-variants.{Waits, Number, Start}
 use Rattle.sources.specs.declared.Moves.the-variants.{On, Reserving}
 

@@ -25,7 +25,7 @@ use Rattle.statements.specs.declared.Statement.{Statement}
 use Rattle.statements.specs.declared.Statement.the-variants.{Org, Equ, Res, Data}
 use Rattle.statements.specs.declared.StatementRead.the-variants.{Passes, Fails}
 use Rattle.statements.proofs.Labelling.{never}
-use Rattle.sources.specs.Assembling.{isEnd, endsIt}
+use Rattle.sources.specs.Inner.Assembling.{isEnd, endsIt}
 
 -- a statement that is no END, whatever its expression comes to
 module _ (least : ℤ) (makes : ℕ → Statement) (on : (v : ℕ) → isEnd (makes v) ≡ false) where

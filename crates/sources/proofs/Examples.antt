@@ -19,8 +19,8 @@ use Rattle.values.specs.Ranges.{displacementOf}
 use Rattle.expressions.specs.Trees.{depth}
 use Rattle.expressions.specs.Worths.{within32, ofNumber, operation, operate, worthOf}
 use Rattle.expressions.specs.Reading.{markSymbol, operand, operator, expressionRead}
-use Rattle.operands.specs.Walk.{starts, indexStep, operandsOf}
-use Rattle.operands.specs.Walk as Walk
+use Rattle.operands.specs.Inner.Walk.{starts, indexStep, operandsOf}
+use Rattle.operands.specs.Inner.Walk as Walk
 use Rattle.operands.specs.Checks.{fits, labelIn, instructionRead}
 use Rattle.operands.specs.Checks as Operands
 use Rattle.items.specs.Items.{cellsOf, allInRange}
@@ -33,7 +33,7 @@ use Rattle.items.specs.Writing.{cellsFrom}
 use Rattle.sources.specs.Placing.{does, start, names, boundTo, acted, after, bindings}
 use Rattle.sources.specs.Uses.{same, valueOf, usesBy}
 use Rattle.sources.specs.Order.{_on_}
-use Rattle.sources.specs.Assembling.{passes, firstOf, upToEnd, loanVerdict, among, nameVerdict, taken, actVerdict, lineVerdict, walkLines, startWork, worked, workAfter, endVerdict, useVerdict, usesVerdict, filled, lateVerdict, verdictOf, memoryOf, Assembled, accepted, refuses, assembleOf}
+use Rattle.sources.specs.Inner.Assembling.{passes, firstOf, upToEnd, loanVerdict, among, nameVerdict, taken, actVerdict, lineVerdict, walkLines, startWork, worked, workAfter, endVerdict, useVerdict, usesVerdict, filled, lateVerdict, verdictOf, memoryOf, Assembled, accepted, refuses, assembleOf}
 
 -- the texts as lines, each with its LF
 abbrev sourceOf : List String → List ℕ

@@ -18,7 +18,7 @@ use Rattle.sources.specs.Placing.{does, doesRead, movedBy, Bound, Place,
 use Rattle.sources.specs.Uses.{valueOf, Use, usesBy, usesRead, usesOf, countedWord}
 use Rattle.sources.specs.Order.{lineChecks, Passed}
 use Rattle.sources.specs.Image.{givenBy, blockOf}
-use Rattle.sources.specs.Assembling.{rawRead, Work, startWork, worked, workAfter, filled, memoryOf}
+use Rattle.sources.specs.Inner.Assembling.{rawRead, Work, startWork, worked, workAfter, filled, memoryOf}
 use Rattle.sources.proofs.Works.{place-of-work, uses-of-work}
 use Rattle.sources.proofs.Passing.{passing-says, passed-line}
 use Rattle.sources.proofs.Stores.{Outside, sets-other, sets-same, set-sets}

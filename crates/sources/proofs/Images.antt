@@ -17,7 +17,7 @@ use Rattle.sources.specs.Sources.{Said}
 use Rattle.sources.specs.Placing.{doesRead, Bound, Place, start, acted, judgedLine, after, placeAfter, placeOf, nextFrom, bindings}
 use Rattle.sources.specs.Order.{lineChecks, Passed}
 use Rattle.sources.specs.Image.{Block, blockOf, blocksOf, blocks, Has, Apart, Image}
-use Rattle.sources.specs.Assembling.{startWork, workAfter, memoryOf}
+use Rattle.sources.specs.Inner.Assembling.{startWork, workAfter, memoryOf}
 use Rattle.sources.proofs.Stores.{Outside, sets-other, sets-same}
 use Rattle.sources.proofs.Filling.{Read, fits, gets-mark, marks-long, written, memory-written, work-marks}
 

@@ -9,7 +9,7 @@ use Rattle.sources.specs.Limits.{mostCells, longestSource}
 use Rattle.sources.specs.Placing.{Bound, Place, bindings}
 use Rattle.sources.specs.Uses.{valueOf, Use}
 use Rattle.sources.specs.Order.{_on_, loanChecks, endChecks, useChecks}
-use Rattle.sources.specs.Assembling.{loanVerdict, Work, endVerdict, useVerdict, usesVerdict, lateVerdict}
+use Rattle.sources.specs.Inner.Assembling.{loanVerdict, Work, endVerdict, useVerdict, usesVerdict, lateVerdict}
 use Rattle.sources.proofs.Tests.{lt-decides, eq-decides, or-decides, not-decides, waiting-decides, unknown-decides, far-decides}
 use Rattle.sources.proofs.Verdicts.{Tells, tells-none, tells-test, tells-join}
 

@@ -23,7 +23,7 @@ use Rattle.sources.specs.Limits.{mostLabels, longestLabel}
 use Rattle.sources.specs.Sources.{spelled}
 use Rattle.sources.specs.Placing.{does, doesRead, Place, names, labelled}
 use Rattle.sources.specs.Order.{Refusal, _on_, LabelOut, ReservesTooFar, PastEnd, ClaimedTwice, OfLabel, OfAct, lineChecks}
-use Rattle.sources.specs.Assembling.{passes, test, readLine, among, nameVerdict, labelVerdict, ownVerdict, actVerdict, lineVerdict}
+use Rattle.sources.specs.Inner.Assembling.{passes, test, readLine, among, nameVerdict, labelVerdict, ownVerdict, actVerdict, lineVerdict}
 use Rattle.sources.specs.declared.Act.{Act}
 use Rattle.sources.proofs.Tests.{Decides, lt-decides, le-decides, or-decides, among-decides, label-decides, reserves-decides, past-decides, taken-decides}
 use Rattle.sources.proofs.Verdicts.{Tells, tells-none, tells-test, tells-join}

@@ -8,7 +8,7 @@ use lib.ListN.{length, take, drop}
 use Rattle.tokens.specs.Reading.{lineLength, linesOf}
 use Rattle.tokens.proofs.Top.{next-line, no-more-lines}
 use Rattle.statements.specs.Reading.{lineRead}
-use Rattle.sources.specs.Assembling.{endsIt, upToEnd}
+use Rattle.sources.specs.Inner.Assembling.{endsIt, upToEnd}
 
 -- the line at a place, and where the loop goes on: the source's end behind END
 abbrev pub lineAt : List ℕ → ℕ → List ℕ

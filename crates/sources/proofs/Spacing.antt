@@ -42,7 +42,7 @@ use Rattle.statements.proofs.Top.{read-judged}
 use Rattle.sources.specs.Limits.{longestSource}
 use Rattle.sources.specs.Placing.{does, doesRead, Place, start, labelIn, labelled, after}
 use Rattle.sources.specs.Uses.{useBy, useOf, usesBy, usesRead}
-use Rattle.sources.specs.Assembling.{readLine, endsIt, upToEnd, loanVerdict, labelVerdict, ownVerdict, lineVerdict, walkLines, rawRead, Work, startWork, worked, workAfter, verdictOf, assembleOf}
+use Rattle.sources.specs.Inner.Assembling.{readLine, endsIt, upToEnd, loanVerdict, labelVerdict, ownVerdict, lineVerdict, walkLines, rawRead, Work, startWork, worked, workAfter, verdictOf, assembleOf}
 
 -- ---- what is the same of two lines that read alike
 

@@ -13,7 +13,7 @@ use Rattle.sources.specs.Limits.{mostCells, free}
 use Rattle.sources.specs.Placing.{Place}
 use Rattle.sources.specs.Uses.{Value, known, unknown, same, Counted, plainly, from}
 use Rattle.sources.specs.Order.{LabelOut, ReservesTooFar, PastEnd, TooFar}
-use Rattle.sources.specs.Assembling.{among, givesStart, labelOut, reservesTooFar, pastEnd, taken, isUnknown, tooFar}
+use Rattle.sources.specs.Inner.Assembling.{among, givesStart, labelOut, reservesTooFar, pastEnd, taken, isUnknown, tooFar}
 use Rattle.sources.specs.declared.Act.{Act}
 use Rattle.sources.specs.declared.Gives.{Gives}
 use Rattle.sources.specs.declared.Gives.the-variants.{Waits, Number, Start}

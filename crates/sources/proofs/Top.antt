@@ -19,7 +19,7 @@ use Rattle.sources.specs.Sources.{Said, SourceText}
 use Rattle.sources.specs.Placing.{Judged, judgedLine}
 use Rattle.sources.specs.Order.{Refusal, loanChecks, FirstFailing, Passing}
 use Rattle.sources.specs.Image.{blocks, Apart, Image, Accepted, cellsMarked}
-use Rattle.sources.specs.Assembling.{Verdict, passes, refused, startWork, workAfter, linesRead, verdictOf, memoryOf, Assembled, accepted, refuses, assembledBy, assembleOf}
+use Rattle.sources.specs.Inner.Assembling.{Verdict, passes, refused, startWork, workAfter, linesRead, verdictOf, memoryOf, Assembled, accepted, refuses, assembledBy, assembleOf}
 use Rattle.sources.proofs.Verdicts.{tells-pass}
 use Rattle.sources.proofs.LateDecided.{loans-tell}
 use Rattle.sources.proofs.Whole as Whole

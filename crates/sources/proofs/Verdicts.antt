@@ -8,7 +8,7 @@ use Rattle.statements.specs.FirstFailing.{Check, check, Pass, First}
 use Rattle.statements.proofs.FirstFails.{first-once, pass-none}
 use Rattle.statements.proofs.Labelling.{never}
 use Rattle.sources.specs.Order.{Refusal}
-use Rattle.sources.specs.Assembling.{Test, test, Verdict, passes, refused, firstOf, andThen}
+use Rattle.sources.specs.Inner.Assembling.{Test, test, Verdict, passes, refused, firstOf, andThen}
 use Rattle.sources.proofs.Tests.{Decides}
 
 -- all pass, or this one is the first that fails

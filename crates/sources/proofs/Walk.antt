@@ -17,7 +17,7 @@ use Rattle.statements.proofs.Top as Lines
 use Rattle.sources.specs.Sources.{Said, said, UpToEnd, over, ends, more, Before, at-start, further}
 use Rattle.sources.specs.Placing.{Place, judgedLine, after, placeAfter}
 use Rattle.sources.specs.Order.{Refusal, lineChecks, Passed}
-use Rattle.sources.specs.Assembling.{Verdict, passes, refused, andThen, readLine, endsIt, upToEnd, lineVerdict, walkLines}
+use Rattle.sources.specs.Inner.Assembling.{Verdict, passes, refused, andThen, readLine, endsIt, upToEnd, lineVerdict, walkLines}
 use Rattle.sources.proofs.Verdicts.{Tells, tells-pass, tells-first}
 use Rattle.sources.proofs.Passing.{passing-says}
 use Rattle.sources.proofs.LineDecided.{line-tells}

@@ -14,7 +14,7 @@ use Rattle.sources.specs.Sources.{Said, said, UpToEnd, over, ends, more,
 use Rattle.sources.specs.Placing.{Place, start, Judged, judgedLine, placeAfter, placeOf, bindings}
 use Rattle.sources.specs.Uses.{Use, usesOf}
 use Rattle.sources.specs.Order.{Refusal, loanChecks, Passed, endChecks, useChecks, lateChecks, FirstFailing, of-loans, of-line, of-labels, Passing}
-use Rattle.sources.specs.Assembling.{Verdict, passes, refused, andThen, readLine, upToEnd, loanVerdict, walkLines, linesRead, workOf, lateVerdict, verdictOf}
+use Rattle.sources.specs.Inner.Assembling.{Verdict, passes, refused, andThen, readLine, upToEnd, loanVerdict, walkLines, linesRead, workOf, lateVerdict, verdictOf}
 use Rattle.sources.proofs.Verdicts.{Tells, tells-pass, tells-first}
 use Rattle.sources.proofs.Works.{place-of-start, uses-of-start}
 use Rattle.sources.proofs.LateDecided.{loans-tell, late-tells}

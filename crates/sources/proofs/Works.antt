@@ -4,7 +4,7 @@ use mathlib.Core.List.{List, [], _∷_, _++_, append-assoc, append-nil}
 use mathlib.Core.Path.{_≡_, refl, sym, _∙_}
 use Rattle.sources.specs.Placing.{start, acted, Judged, nextFrom, after, placeAfter}
 use Rattle.sources.specs.Uses.{usesRead, usesOf}
-use Rattle.sources.specs.Assembling.{Work, startWork, worked, workAfter}
+use Rattle.sources.specs.Inner.Assembling.{Work, startWork, worked, workAfter}
 
 -- the place after the k-th line and those behind it
 pub place-of-work : (k : ℕ) (w : Work) (xs : List Judged) → workAfter k w xs .place ≡ placeAfter (w .place) xs

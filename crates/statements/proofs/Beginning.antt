@@ -19,7 +19,7 @@ use Rattle.tokens.proofs.Colons.{colon-within, colon-token, no-colon-token}
 use Rattle.values.specs.declared.LabelIn.the-variants.{Named}
 use Rattle.operands.specs.Operands.{wordAt}
 use Rattle.statements.specs.Reading.{isWord, isColon, labelled, labelRead, afterLabel, byWord, statementRead}
-use Rattle.statements.specs.Parts.{colonAt, begunBy, noLabel, LabelDone}
+use Rattle.statements.specs.Inner.Parts.{colonAt, begunBy, noLabel, LabelDone}
 use Rattle.statements.specs.declared.Labelled.{Labelled}
 use Rattle.statements.specs.declared.Failure.the-variants.{WrongForm}
 use Rattle.statements.specs.declared.Statement.the-variants.{Nothing}

@@ -25,7 +25,7 @@ use Rattle.items.proofs.Top as Items
 use Rattle.statements.specs.Statements.{cells, Body, items, LineText, labelled, unlabelled, Says}
 use Rattle.statements.specs.Reading.{isWord, afterLabel}
 use Rattle.statements.specs.Cells.{isData, bodyCells, cellsIn}
-use Rattle.statements.specs.Parts.{begunBy}
+use Rattle.statements.specs.Inner.Parts.{begunBy}
 use Rattle.statements.proofs.Beginning.{row-by}
 use Rattle.statements.proofs.Labelling.{never, word-kind, Labels, label-is, none-is, labels, label-after, behind-label}
 

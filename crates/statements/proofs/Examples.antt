@@ -23,8 +23,8 @@ use Rattle.values.specs.declared.LabelIn.the-variants.{Absent, Named}
 use Rattle.expressions.specs.Trees.{depth}
 use Rattle.expressions.specs.Worths.{within32, ofNumber, operation, operate, worthOf}
 use Rattle.expressions.specs.Reading.{markSymbol, operand, operator, expressionRead}
-use Rattle.operands.specs.Walk.{starts, indexStep, operandsOf}
-use Rattle.operands.specs.Walk as Walk
+use Rattle.operands.specs.Inner.Walk.{starts, indexStep, operandsOf}
+use Rattle.operands.specs.Inner.Walk as Walk
 use Rattle.operands.specs.Checks.{fits, labelIn, instructionRead}
 use Rattle.operands.specs.Checks as Operands
 use Rattle.operands.specs.declared.Given.{Given}

@@ -15,7 +15,7 @@ use Rattle.expressions.specs.declared.Worth.the-variants as W
 use Rattle.statements.specs.Checks.{resultIn}
 use Rattle.statements.specs.Judging.{resultOf, worthResult}
 use Rattle.statements.specs.Reading.{expressionResult}
-use Rattle.statements.specs.Parts.{cellIn, worthOutcome, outcomeOf, said}
+use Rattle.statements.specs.Inner.Parts.{cellIn, worthOutcome, outcomeOf, said}
 use Rattle.statements.specs.declared.Failure.the-variants.{OutOfRange}
 use Rattle.statements.specs.declared.Outcome.{Outcome}
 use Rattle.statements.specs.declared.Outcome.the-variants.{Value, Fails}

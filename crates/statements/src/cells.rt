@@ -2,7 +2,7 @@
 ghost use mathlib.Core.Path.{_≡_};
 ghost use lib.Seq.{sets};
 ghost use Rattle.statements.specs.Cells.{isData, bodyCells, cellsIn};
-ghost use Rattle.statements.specs.Parts.{begunBy};
+ghost use Rattle.statements.specs.Inner.Parts.{begunBy};
 use super::labels::is_word;
 use super::labels::label;
 use names::Word;

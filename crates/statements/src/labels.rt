@@ -1,7 +1,7 @@
-// A line's label, and the token after it (specs/Reading.antt, specs/Parts.antt).
+// A line's label, and the token after it (specs/Reading.antt, specs/Inner/Parts.antt).
 ghost use mathlib.Core.Path.{_≡_};
 ghost use Rattle.statements.specs.Reading.{isWord};
-ghost use Rattle.statements.specs.Parts.{colonAt, noLabel, LabelDone};
+ghost use Rattle.statements.specs.Inner.Parts.{colonAt, noLabel, LabelDone};
 use super::Labelled;
 use numerals::Cursor;
 use tokens::Kind;

@@ -2,7 +2,7 @@
 ghost use mathlib.Core.Path.{_≡_};
 ghost use Rattle.tokens.specs.Reading.{tokensFrom};
 ghost use Rattle.statements.specs.Reading.{byWord, statementRead, lineRead};
-ghost use Rattle.statements.specs.Parts.{begunBy};
+ghost use Rattle.statements.specs.Inner.Parts.{begunBy};
 use super::Failure;
 use super::LineRead;
 use super::Statement;

@@ -1,4 +1,4 @@
-// What an expression, an opcode's operands and DATA's items come to as a statement (specs/Judging.antt, specs/Reading.antt, specs/Parts.antt).
+// What an expression, an opcode's operands and DATA's items come to as a statement (specs/Judging.antt, specs/Reading.antt, specs/Inner/Parts.antt).
 ghost use mathlib.Core.Path.{_≡_};
 ghost use Prim.Native.Nat.{_<_};
 ghost use lib.Signed.{mag};
@@ -9,7 +9,7 @@ ghost use Rattle.items.specs.Reading.{itemsRead};
 ghost use Rattle.statements.specs.Checks.{leastUnsigned, leastSigned};
 ghost use Rattle.statements.specs.Judging.{instructionResult};
 ghost use Rattle.statements.specs.Reading.{expressionResult, itemsResult};
-ghost use Rattle.statements.specs.Parts.{cellIn, outcomeOf};
+ghost use Rattle.statements.specs.Inner.Parts.{cellIn, outcomeOf};
 ghost use Rattle.statements.specs.declared.Statement.the-variants.{Org, Equ, Res};
 use super::Failure;
 use super::Outcome;

@@ -6,7 +6,7 @@ use native.Mathlib.Omega.{arith}
 use lib.ListN.{length, getD, set, length-set}
 use lib.Seq.{getD-set-same, getD-set-other}
 use Rattle.sources.specs.Uses.{Use}
-use Rattle.uses.specs.Held.{useHeld, usesHeld}
+use Rattle.uses.specs.Inner.Held.{useHeld, usesHeld}
 
 -- what is held does not depend on what stands behind it
 same-below : (s row row′ aways aways′ : List ℕ) (n : ℕ) → ((i : ℕ) → i < 4 * n → getD row′ i 0 ≡ getD row i 0)

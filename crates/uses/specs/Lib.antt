@@ -1,2 +1,2 @@
 -- The labels that operands name, as two lent rows hold them.
-pub mod Held
+pub mod Inner

@@ -1,11 +1,11 @@
-// The labels that operands name, one after the other in two lent rows (specs/Held.antt): four cells each in the first, the name's place
+// The labels that operands name, one after the other in two lent rows (specs/Inner/Held.antt): four cells each in the first, the name's place
 // and length in the source, the cell of the operand's word, and the line; in the second how far the address after the instruction lies
 // behind that cell, 0 where the label's value stands as it is.
 ghost use mathlib.Core.Path.{_≡_};
 ghost use mathlib.Core.List.{List, [], _∷_, _++_};
 ghost use Prim.Native.Nat.{ℕ, _+_, _*_, _≤_, _<_};
 ghost use lib.ListN.{length};
-ghost use Rattle.uses.specs.Held.{useHeld, usesHeld};
+ghost use Rattle.uses.specs.Inner.Held.{useHeld, usesHeld};
 
 // One more.
 pub fn keep(

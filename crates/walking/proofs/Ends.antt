@@ -9,15 +9,15 @@ use lib.ListN.{length, drop, length-drop}
 use lib.Seq.{take-all}
 use Rattle.sources.specs.Placing.{Place, boundTo, boundAll, bindings}
 use Rattle.sources.specs.Order.{_on_}
-use Rattle.sources.specs.Assembling.{Verdict, passes, refused, firstOf, andThen, Work, endVerdict}
+use Rattle.sources.specs.Inner.Assembling.{Verdict, passes, refused, firstOf, andThen, Work, endVerdict}
 use Rattle.sources.specs.declared.Gives.the-variants.{Start}
 use Rattle.sources.specs.declared.Line.{Line}
 use Rattle.labels.specs.Labels.{words, zipped}
 use Rattle.labels.proofs.Laws.{length-words}
-use Rattle.placing.specs.State.{stateOf, Fair, BindsFine}
+use Rattle.placing.specs.Inner.State.{stateOf, Fair, BindsFine}
 use Rattle.placing.specs.declared.Counters.{Counters}
 use Rattle.placing.proofs.PlaceLaws.{binds-fine}
-use Rattle.walking.specs.Walking.{workIn, Says, Holds}
+use Rattle.walking.specs.Inner.Walking.{workIn, Says, Holds}
 use Rattle.walking.specs.declared.Lines.{Lines}
 use Rattle.walking.specs.declared.Lines.the-variants as L
 

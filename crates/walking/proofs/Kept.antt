@@ -10,7 +10,7 @@ use Rattle.statements.specs.declared.StatementRead.{StatementRead}
 use Rattle.statements.specs.declared.StatementRead.the-variants.{Passes}
 use Rattle.sources.specs.Placing.{does, doesRead}
 use Rattle.sources.specs.Uses.{Use, usesRead}
-use Rattle.sources.specs.Assembling.{rawRead}
+use Rattle.sources.specs.Inner.Assembling.{rawRead}
 
 claims-said : (s : Statement) → does s .claims ≡ claimOf s
 unfolding does

@@ -15,8 +15,8 @@ use Rattle.operands.specs.declared.Given.{Given}
 use Rattle.statements.specs.declared.Statement.{Statement}
 use Rattle.labels.specs.Labels.{window}
 use Rattle.sources.specs.Uses.{Counted, from, Use, countedFor, secondCell, usesBy}
-use Rattle.uses.specs.Held.{countedBy, useHeld}
-use Rattle.walking.specs.Noting.{awayFor, Placeable, notedBy, noted}
+use Rattle.uses.specs.Inner.Held.{countedBy, useHeld}
+use Rattle.walking.specs.Inner.Noting.{awayFor, Placeable, notedBy, noted}
 
 -- what is asked of a label that is named
 pub placeable : (start cell next : ℕ) {l : LabelIn} {n : Name} → l ≡ Named n → Placeable start cell next l

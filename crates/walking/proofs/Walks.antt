@@ -15,19 +15,19 @@ use Rattle.statements.proofs.Labelling.{never}
 use Rattle.sources.specs.Placing.{Place, doesRead, start, labelled, Judged, after}
 use Rattle.sources.specs.Uses.{Use, usesRead}
 use Rattle.sources.specs.Order.{Refusal, _on_}
-use Rattle.sources.specs.Assembling.{Verdict, passes, refused, firstOf, andThen, readLine, endsIt, labelVerdict, ownVerdict, labelOut, reservesTooFar}
-use Rattle.sources.specs.Assembling.{pastEnd, actVerdict, lineVerdict, walkLines, rawRead, Work, startWork, worked, workAfter}
+use Rattle.sources.specs.Inner.Assembling.{Verdict, passes, refused, firstOf, andThen, readLine, endsIt, labelVerdict, ownVerdict, labelOut, reservesTooFar}
+use Rattle.sources.specs.Inner.Assembling.{pastEnd, actVerdict, lineVerdict, walkLines, rawRead, Work, startWork, worked, workAfter}
 use Rattle.sources.specs.declared.Act.{Act}
 use Rattle.sources.proofs.Loop.{lineAt, linesFrom, goesOn, lines-over, lines-on}
 use Rattle.labels.specs.Labels.{words, zipped, Part}
 use Rattle.labels.proofs.Laws.{window-part}
-use Rattle.uses.specs.Held.{usesHeld}
-use Rattle.placing.specs.State.{placeIn, Fair, FairDid, Tells}
+use Rattle.uses.specs.Inner.Held.{usesHeld}
+use Rattle.placing.specs.Inner.State.{placeIn, Fair, FairDid, Tells}
 use Rattle.placing.specs.declared.Counters.{Counters}
 use Rattle.placing.specs.declared.Did.{Did}
 use Rattle.placing.specs.declared.Did.the-variants.{Go, No}
 use Rattle.placing.proofs.TestLaws.{not-past}
-use Rattle.walking.specs.Walking.{workIn}
+use Rattle.walking.specs.Inner.Walking.{workIn}
 
 -- ---- the line
 

@@ -12,7 +12,7 @@ use Rattle.isa.specs.declared.Encoded.the-variants.{One, Two, Three}
 use Rattle.isa.specs.declared.Instruction.{Instruction}
 use Rattle.isa.proofs.Top.{encoder-words}
 use Rattle.statements.specs.declared.Statement.{Statement}
-use Rattle.sources.specs.Assembling.{rawBy}
+use Rattle.sources.specs.Inner.Assembling.{rawBy}
 
 module _ (i : Instruction) {r : Encoded} (t : allowed i ≡ true) (p : r ≡ encodeOf i) (m : List ℕ) (at : ℕ) where
   -- by the encoder's answer

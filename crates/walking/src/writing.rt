@@ -1,4 +1,4 @@
-// A statement's cells, with 0 in the places of labels (sources/specs/Assembling.antt, `rawBy`).
+// A statement's cells, with 0 in the places of labels (sources/specs/Inner/Assembling.antt, `rawBy`).
 ghost use mathlib.Core.Bool.{true};
 ghost use mathlib.Core.Path.{_≡_};
 ghost use Prim.Native.Nat.{_≤_};
@@ -6,7 +6,7 @@ ghost use lib.Seq.{sets};
 ghost use Rattle.isa.specs.Encoding.{wordsOf, allowed};
 ghost use Rattle.statements.specs.Reading.{lineRead};
 ghost use Rattle.statements.specs.declared.StatementRead.the-variants.{Passes};
-ghost use Rattle.sources.specs.Assembling.{rawBy};
+ghost use Rattle.sources.specs.Inner.Assembling.{rawBy};
 use isa::Encoded;
 use isa::Instruction;
 use isa::encoding::encode;

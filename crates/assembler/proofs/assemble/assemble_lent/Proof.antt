@@ -2,8 +2,8 @@ use native.Mathlib.Omega.{arith}
 use Prim.Native.Nat.{ℕ}
 use mathlib.Core.Path.{refl, sym, ap, _∙_}
 use lib.ListN.{length, length-replicate}
-use Rattle.sources.specs.Assembling.{workOf, memoryOf}
-use Rattle.assembler.specs.Parts.{outcomeBy}
+use Rattle.sources.specs.Inner.Assembling.{workOf, memoryOf}
+use Rattle.assembler.specs.Inner.Parts.{outcomeBy}
 use Rattle.assembler.proofs.Rows.{zeros-count, zeros-alone}
 use Rattle.assembler.proofs.Walks.{whole}
 use borrow.Author.Needs.{needs}

@@ -2,8 +2,8 @@ use Prim.Native.Nat.{ℕ}
 use mathlib.Core.Path.{_≡_, ap, _∙_}
 use native.Mathlib.Omega.{arith}
 use lib.ListN.{length, length-replicate}
-use Rattle.sources.specs.Assembling.{workOf, memoryOf}
-use Rattle.walking.specs.Walking.{Holds}
+use Rattle.sources.specs.Inner.Assembling.{workOf, memoryOf}
+use Rattle.walking.specs.Inner.Walking.{Holds}
 use Rattle.assembler.proofs.Walks.{not-walked, all-walked, walk-passed}
 use borrow.Author.Needs.{needs}
 use Rattle.assembler.proofs.assemble.assemble_over.Statement.{statement}

@@ -7,7 +7,7 @@ use Prim.Native.Nat.{ℕ, _+_, _*_, _-_, _<_}
 use mathlib.Core.Path.{subst}
 use native.Mathlib.Omega.{arith}
 use lib.ListN.{length}
-use Rattle.expressions.specs.Parts.{factors, products, sums, Says}
+use Rattle.expressions.specs.Inner.Parts.{factors, products, sums, Says}
 use Rattle.expressions.specs.declared.Part.{Part}
 use Rattle.expressions.proofs.Steps.{in-products, in-sums, left, part-first}
 use Rattle.expressions.proofs.Seen.{seen-neither, seen-number, seen-deep, seen-closed, seen-stop, seen-next, seen-less}

@@ -1,7 +1,7 @@
 -- The arms are the definition's clauses, and the test is on the token that follows.
 use borrow.Author.Needs.{needs}
 use mathlib.Core.Path.{sym, ap, _∙_}
-use Rattle.expressions.specs.Parts.{isShut}
+use Rattle.expressions.specs.Inner.Parts.{isShut}
 use Rattle.expressions.proofs.Operands.{closed-is}
 use Rattle.expressions.proofs.parts.closed.Statement.{statement}
 use Rattle.expressions.proofs.parts.closed.Tie as tie

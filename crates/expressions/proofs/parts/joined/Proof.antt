@@ -1,7 +1,7 @@
 -- The arms are the definition's clauses.
 use borrow.Author.Needs.{needs}
 use mathlib.Core.Path.{sym, ap, _∙_}
-use Rattle.expressions.specs.Parts.{joinedPart}
+use Rattle.expressions.specs.Inner.Parts.{joinedPart}
 use Rattle.expressions.specs.declared.Worth.{Worth}
 use Rattle.expressions.specs.declared.Part.the-variants.{Done}
 use Rattle.expressions.proofs.parts.joined.Statement.{statement}

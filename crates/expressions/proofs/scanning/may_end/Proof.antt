@@ -2,7 +2,7 @@
 use borrow.Author.Needs.{needs}
 use mathlib.Core.Bool.{Bool}
 use mathlib.Core.Path.{sym, ap}
-use Rattle.expressions.specs.Scanning.{scanEnd}
+use Rattle.expressions.specs.Inner.Scanning.{scanEnd}
 use Rattle.expressions.proofs.scanning.may_end.Statement.{statement}
 use Rattle.expressions.proofs.scanning.may_end.Tie as tie
 

@@ -6,7 +6,7 @@ use mathlib.Core.Path.{_≡_, refl, sym, _∙_}
 use native.Mathlib.Omega.{arith}
 use lib.ListN.{length}
 use Rattle.tokens.specs.Reading.{tokensFrom}
-use Rattle.expressions.specs.Scanning.{rightForm}
+use Rattle.expressions.specs.Inner.Scanning.{rightForm}
 use Rattle.expressions.proofs.Scans.{scan-ended, scan-wrong, scan-on, scan-moves}
 use Rattle.expressions.proofs.scanning.right_form.Statement.{statement}
 use Rattle.expressions.proofs.scanning.right_form.Tie as tie

@@ -2,7 +2,7 @@
 use borrow.Author.Needs.{needs}
 use mathlib.Core.Bool.{Bool}
 use mathlib.Core.Path.{sym, ap₂, _∙_}
-use Rattle.expressions.specs.Scanning.{scanStep}
+use Rattle.expressions.specs.Inner.Scanning.{scanStep}
 use Rattle.expressions.specs.declared.Symbol.{Symbol}
 use Rattle.expressions.proofs.scanning.scan_step.Statement.{statement}
 use Rattle.expressions.proofs.scanning.scan_step.Tie as tie

@@ -1,7 +1,7 @@
 -- The arms are the definition's clauses.
 use borrow.Author.Needs.{needs}
 use mathlib.Core.Path.{sym, ap}
-use Rattle.expressions.specs.Parts.{startOf}
+use Rattle.expressions.specs.Inner.Parts.{startOf}
 use Rattle.expressions.proofs.symbols.start_of.Statement.{statement}
 use Rattle.expressions.proofs.symbols.start_of.Tie as tie
 

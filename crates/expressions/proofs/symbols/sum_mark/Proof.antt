@@ -1,7 +1,7 @@
 -- The arms are the definition's clauses.
 use borrow.Author.Needs.{needs}
 use mathlib.Core.Path.{sym, ap}
-use Rattle.expressions.specs.Parts.{sumMark}
+use Rattle.expressions.specs.Inner.Parts.{sumMark}
 use Rattle.expressions.proofs.symbols.sum_mark.Statement.{statement}
 use Rattle.expressions.proofs.symbols.sum_mark.Tie as tie
 

@@ -4,7 +4,7 @@ use native.Mathlib.Omega.{arith}
 use mathlib.Core.Path.{_≡_, ap}
 use Prim.Native.Nat.{_+_, _-_}
 use lib.ListN.{length}
-use Rattle.image.specs.Pieces.{cellsText}
+use Rattle.image.specs.Inner.Pieces.{cellsText}
 use Rattle.image.proofs.Texts.{left, left-length, left-none, cells-bound}
 use Rattle.image.proofs.lengths.cells_length.Statement.{statement}
 use Rattle.image.proofs.lengths.cells_length.Tie as tie

@@ -8,7 +8,7 @@ use lib.ListN.{length}
 use Rattle.tokens.specs.Reading.{tokensFrom}
 use Rattle.tokens.proofs.Parted.{comma-moves}
 use Rattle.items.specs.Reading.{item, walk, itemsRead}
-use Rattle.items.specs.Turns.{verdict}
+use Rattle.items.specs.Inner.Turns.{verdict}
 use Rattle.items.proofs.Measures.{found-item}
 use Rattle.items.proofs.Walks.{verdict-start, turn-absent, turn-over, turn-neither, turn-comma}
 use Rattle.items.proofs.reading.items.Statement.{statement}

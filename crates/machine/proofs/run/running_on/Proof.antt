@@ -6,7 +6,7 @@ use lib.ListN.{length}
 use borrow.Author.Needs.{needs}
 use borrow.Author.Tests.{not-true, not-false}
 use Rattle.machine.specs.Stops.{goodLoan}
-use Rattle.machine.specs.Inner.{running}
+use Rattle.machine.specs.Inner.Lent.{running}
 use Rattle.machine.specs.Runs.{runOf}
 use Rattle.machine.proofs.Runs.{later}
 use Rattle.machine.proofs.Turns.{is-running, running-good, turn-first, turn-none, turn-refused, turn-ended, turn-more, turn-good}

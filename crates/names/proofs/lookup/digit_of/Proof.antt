@@ -1,7 +1,7 @@
 -- The tests are the two of the definition. Assumes nothing.
 use borrow.Author.Tests.{le-leb, lt-leb}
 use borrow.Author.Needs.{needs}
-use Rattle.names.specs.Packing.{digit}
+use Rattle.names.specs.Inner.Packing.{digit}
 use Rattle.names.proofs.lookup.digit_of.Statement.{statement}
 use Rattle.names.proofs.lookup.digit_of.Tie as tie
 

@@ -3,7 +3,7 @@ use mathlib.Core.Path.{sym}
 use lib.ListN.{List·getD-eq-default}
 use Rattle.isa.proofs.Past.{past}
 use Rattle.names.specs.declared.Word.the-variants.{Unknown}
-use Rattle.names.specs.Packing.{directives, directiveAt}
+use Rattle.names.specs.Inner.Packing.{directives, directiveAt}
 use Rattle.names.proofs.lookup.directive.Statement.{statement}
 use Rattle.names.proofs.lookup.directive.Tie as tie
 

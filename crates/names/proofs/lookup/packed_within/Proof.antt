@@ -5,7 +5,7 @@ use mathlib.Core.List.{map}
 use mathlib.Core.Path.{_≡_, sym, _∙_}
 use native.Mathlib.Omega.{arith}
 use lib.Seq.{slice, slice-empty}
-use Rattle.names.specs.Packing.{pack, digit}
+use Rattle.names.specs.Inner.Packing.{pack, digit}
 use Rattle.names.proofs.Packs.{number-none, number-long, number-short, room, room-six, room-step, pack-step}
 use Rattle.names.proofs.lookup.packed_within.Statement.{statement}
 use Rattle.names.proofs.lookup.packed_within.Tie as tie

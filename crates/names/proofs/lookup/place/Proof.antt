@@ -4,7 +4,7 @@ use Prim.Native.Nat.{_+_, _-_, _≤_}
 use mathlib.Core.Path.{_≡_}
 use native.Mathlib.Omega.{arith}
 use lib.ListN.{length, drop}
-use Rattle.names.specs.Packing.{placeOf}
+use Rattle.names.specs.Inner.Packing.{placeOf}
 use Rattle.names.proofs.Packs.{place-more, place-here, place-end}
 use Rattle.names.proofs.lookup.place.Statement.{statement}
 use Rattle.names.proofs.lookup.place.Tie as tie

@@ -5,7 +5,7 @@ use mathlib.Core.Path.{sym, ap, _∙_}
 use native.Mathlib.Omega.{arith}
 use lib.Seq.{slice}
 use Rattle.names.specs.Names.{registers}
-use Rattle.names.specs.Packing.{pack, placeOf}
+use Rattle.names.specs.Inner.Packing.{pack, placeOf}
 use Rattle.names.proofs.Packs.{numbers, place-most}
 use Rattle.names.proofs.Places.{register-found}
 use borrow.Author.Needs.{needs}

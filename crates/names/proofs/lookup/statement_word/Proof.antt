@@ -6,7 +6,7 @@ use native.Mathlib.Omega.{arith}
 use lib.Seq.{slice}
 use Rattle.isa.specs.Opcodes.{table, opcodes}
 use Rattle.names.specs.Names.{statementWords}
-use Rattle.names.specs.Packing.{pack, placeOf, wordAt}
+use Rattle.names.specs.Inner.Packing.{pack, placeOf, wordAt}
 use Rattle.names.proofs.Packs.{numbers, place-most}
 use Rattle.names.proofs.Places.{statementNames, word-found}
 use borrow.Author.Needs.{needs}

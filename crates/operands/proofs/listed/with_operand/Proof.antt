@@ -1,6 +1,6 @@
 -- The tests are the definition's.
 use borrow.Author.Tests.{eq-eqb, ne-eqb}
-use Rattle.operands.specs.Peeks.{keep}
+use Rattle.operands.specs.Inner.Peeks.{keep}
 use Rattle.operands.proofs.listed.with_operand.Statement.{statement}
 use Rattle.operands.proofs.listed.with_operand.Tie as tie
 

@@ -5,7 +5,7 @@ use native.Mathlib.Omega.{arith}
 use lib.ListN.{length}
 use Rattle.labels.specs.Labels.{words}
 use Rattle.labels.proofs.Laws.{length-words}
-use Rattle.placing.specs.State.{placeIn}
+use Rattle.placing.specs.Inner.State.{placeIn}
 use Rattle.placing.proofs.LineLaws.{as-read, absent-placed}
 use Rattle.placing.proofs.line.place_line.Statement.{statement}
 use Rattle.placing.proofs.line.place_line.Tie as tie

@@ -7,10 +7,10 @@ use lib.ListN.{length}
 use Rattle.values.specs.declared.LabelIn.the-variants.{Named}
 use Rattle.statements.specs.declared.LineRead.{LineRead}
 use Rattle.sources.specs.Placing.{labelled}
-use Rattle.sources.specs.Assembling.{labelVerdict}
+use Rattle.sources.specs.Inner.Assembling.{labelVerdict}
 use Rattle.labels.specs.Labels.{words}
 use Rattle.labels.proofs.Laws.{length-words}
-use Rattle.placing.specs.State.{placeIn, FairDid}
+use Rattle.placing.specs.Inner.State.{placeIn, FairDid}
 use Rattle.placing.specs.declared.Did.the-variants.{No}
 use Rattle.placing.proofs.LabelLaws.{label-within}
 use Rattle.placing.proofs.LineLaws.{as-read, tells-by, label-fails, named-placed}

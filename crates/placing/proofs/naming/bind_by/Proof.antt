@@ -2,7 +2,7 @@
 use borrow.Author.Needs.{needs}
 use mathlib.Core.Path.{refl, subst}
 use Rattle.placing.proofs.PlaceLaws.{waits-as, number-as, start-as}
-use Rattle.placing.specs.State.{BindsFine}
+use Rattle.placing.specs.Inner.State.{BindsFine}
 use Rattle.placing.proofs.naming.bind_by.Statement.{statement}
 use Rattle.placing.proofs.naming.bind_by.Tie as tie
 

@@ -1,7 +1,7 @@
 -- What fails has its own number; what passes is placed.
 use borrow.Author.Needs.{needs}
 use lib.ListN.{length}
-use Rattle.placing.specs.State.{stateOf}
+use Rattle.placing.specs.Inner.State.{stateOf}
 use Rattle.placing.proofs.LineLaws.{own-fails, own-passes}
 use Rattle.placing.proofs.placing.place_statement.Statement.{statement}
 use Rattle.placing.proofs.placing.place_statement.Tie as tie

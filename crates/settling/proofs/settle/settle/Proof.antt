@@ -6,9 +6,9 @@ use mathlib.Core.Path.{_≡_, refl, sym, ap, _∙_}
 use Prim.Native.Nat.{ℕ, _+_, _*_, _-_, _≤_}
 use lib.ListN.{length, getD, set}
 use Rattle.sources.specs.Order.{_on_}
-use Rattle.sources.specs.Assembling.{passes, usesVerdict, filled}
+use Rattle.sources.specs.Inner.Assembling.{passes, usesVerdict, filled}
 use Rattle.labels.specs.Labels.{words, zipped}
-use Rattle.uses.specs.Held.{usesHeld}
+use Rattle.uses.specs.Inner.Held.{usesHeld}
 use Rattle.settling.proofs.Laws.{nothing-held, nothing-filled, one-passes, all-refused, one-filled}
 use Rattle.settling.proofs.settle.settle.Statement.{statement}
 use Rattle.settling.proofs.settle.settle.Tie as tie

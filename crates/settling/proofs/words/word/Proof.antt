@@ -4,7 +4,7 @@ use mathlib.Core.Path.{subst}
 use Rattle.sources.specs.Uses.{valueOf}
 use Rattle.labels.specs.Labels.{window, words, zipped}
 use Rattle.settling.specs.declared.Word.{Word}
-use Rattle.settling.specs.Settling.{Finds}
+use Rattle.settling.specs.Inner.Settling.{Finds}
 use Rattle.settling.proofs.Laws.{tells-none, tells-plain, tells-far}
 use Rattle.settling.proofs.words.word.Statement.{statement}
 use Rattle.settling.proofs.words.word.Tie as tie

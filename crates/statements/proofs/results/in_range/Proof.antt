@@ -7,7 +7,7 @@ use lib.Signed.{mag}
 use mir.Syntax.{w16, w32}
 use mir.Val.{toZ, ofZ}
 use mir.ValLaws.{toZ-pos, toZ-ofZ}
-use Rattle.statements.specs.Parts.{cellIn}
+use Rattle.statements.specs.Inner.Parts.{cellIn}
 use Rattle.statements.specs.declared.Outcome.the-variants.{Value}
 use Rattle.statements.proofs.Ranges.{below, above, inside, near, cell-raised, cell-as-is, cell-small}
 use Rattle.statements.proofs.results.in_range.Statement.{statement}

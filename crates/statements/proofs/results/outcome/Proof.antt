@@ -3,7 +3,7 @@ use borrow.Author.Needs.{needs}
 use mathlib.Core.Path.{sym, ap, ap₂, _∙_}
 use mir.Syntax.{w32}
 use mir.Facts.{toZ-ofZ}
-use Rattle.statements.specs.Parts.{cellIn, worthOutcome, outcomeOf}
+use Rattle.statements.specs.Inner.Parts.{cellIn, worthOutcome, outcomeOf}
 use Rattle.statements.proofs.results.outcome.Statement.{statement}
 use Rattle.statements.proofs.results.outcome.Tie as tie
 

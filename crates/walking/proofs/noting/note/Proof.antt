@@ -2,7 +2,7 @@
 use borrow.Author.Needs.{needs}
 use Prim.Native.Nat.{_+_}
 use native.Mathlib.Omega.{arith}
-use Rattle.uses.specs.Held.{usesHeld}
+use Rattle.uses.specs.Inner.Held.{usesHeld}
 use Rattle.walking.proofs.Notes.{placeable, noted-none, noted-one}
 use Rattle.walking.proofs.noting.note.Statement.{statement}
 use Rattle.walking.proofs.noting.note.Tie as tie

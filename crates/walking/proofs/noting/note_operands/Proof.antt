@@ -3,8 +3,8 @@ use borrow.Author.Needs.{needs}
 use native.Mathlib.Omega.{arith}
 use Prim.Native.Nat.{ℕ}
 use mathlib.Core.Path.{subst}
-use Rattle.uses.specs.Held.{usesHeld}
-use Rattle.walking.specs.Noting.{Placeable}
+use Rattle.uses.specs.Inner.Held.{usesHeld}
+use Rattle.walking.specs.Inner.Noting.{Placeable}
 use Rattle.walking.proofs.Notes.{few-words, second-cell, both-noted}
 use Rattle.walking.proofs.noting.note_operands.Statement.{statement}
 use Rattle.walking.proofs.noting.note_operands.Tie as tie

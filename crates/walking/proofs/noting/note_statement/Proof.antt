@@ -9,7 +9,7 @@ use Rattle.statements.specs.Judging.{claimOf}
 use Rattle.statements.specs.declared.Statement.{Statement}
 use Rattle.statements.specs.declared.StatementRead.the-variants.{Passes}
 use Rattle.sources.specs.Uses.{usesBy}
-use Rattle.uses.specs.Held.{usesHeld}
+use Rattle.uses.specs.Inner.Held.{usesHeld}
 use Rattle.walking.proofs.Notes.{none-named}
 use Rattle.walking.proofs.Said.{some-byte, first-placeable, second-placeable, uses-noted}
 use Rattle.walking.proofs.noting.note_statement.Statement.{statement}

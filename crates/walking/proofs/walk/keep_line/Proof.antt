@@ -3,7 +3,7 @@ use borrow.Author.Needs.{needs}
 use native.Mathlib.Omega.{arith}
 use mathlib.Core.List.{append-nil}
 use mathlib.Core.Path.{refl, sym, _∙_}
-use Rattle.uses.specs.Held.{usesHeld}
+use Rattle.uses.specs.Inner.Held.{usesHeld}
 use Rattle.walking.proofs.Kept.{room-said, cells-read, uses-read}
 use Rattle.walking.proofs.walk.keep_line.Statement.{statement}
 use Rattle.walking.proofs.walk.keep_line.Tie as tie

@@ -4,8 +4,8 @@ use mathlib.Core.Path.{_∙_}
 use lib.ListN.{length}
 use Rattle.tokens.specs.Reading.{linesOf}
 use Rattle.sources.specs.Placing.{start as begin}
-use Rattle.sources.specs.Assembling.{upToEnd, walkLines, workOf, endVerdict}
-use Rattle.walking.specs.Walking.{workIn}
+use Rattle.sources.specs.Inner.Assembling.{upToEnd, walkLines, workOf, endVerdict}
+use Rattle.walking.specs.Inner.Walking.{workIn}
 use Rattle.walking.proofs.Ends.{refused-early, still-fair, refused-late, passes-end, binds-at-end, all-held}
 use Rattle.walking.proofs.walk.walk.Statement.{statement}
 use Rattle.walking.proofs.walk.walk.Tie as tie

@@ -5,7 +5,7 @@ use Prim.Native.Nat.{_+_, _-_, _≤_}
 use mathlib.Core.Path.{refl, sym, ap, _∙_}
 use lib.ListN.{length}
 use Rattle.statements.specs.declared.LineRead.{LineRead}
-use Rattle.placing.specs.State.{placeIn}
+use Rattle.placing.specs.Inner.State.{placeIn}
 use Rattle.walking.proofs.Walks.{Left, left-at-start, end-within, line-part, further, line-fits, turns-over, turn-stops, turn-room, turn-goes}
 use Rattle.walking.proofs.walk.walk_lines.Statement.{statement}
 use Rattle.walking.proofs.walk.walk_lines.Tie as tie

@@ -14,7 +14,7 @@ use Rattle.tokens.specs.Reading.{tokensFrom}
 use Rattle.tokens.specs.declared.Kind.{Kind}
 use Rattle.tokens.specs.declared.Kind.the-variants as K
 use Rattle.tokens.specs.declared.Token.{Token}
-use Rattle.operands.specs.Walk.{State, done, Result, reads, wrong, codeAt, walk}
+use Rattle.operands.specs.Inner.Walk.{State, done, Result, reads, wrong, codeAt, walk}
 use Rattle.operands.specs.Checks.{operandWith, wordOf, ranged}
 use Rattle.operands.specs.declared.InstructionRead.{InstructionRead}
 use Rattle.operands.specs.declared.InstructionRead.the-variants.{WrongOperands}

@@ -9,7 +9,7 @@ use Rattle.labels.specs.Labels.{words, zipped}
 use Rattle.sources.specs.Limits.{mostCells, mostLabels}
 use Rattle.sources.specs.Placing.{Place}
 use Rattle.sources.specs.Order.{_on_}
-use Rattle.sources.specs.Assembling.{Verdict, passes, refused}
+use Rattle.sources.specs.Inner.Assembling.{Verdict, passes, refused}
 use Rattle.sources.specs.declared.Gives.{Gives}
 use Rattle.sources.specs.declared.Gives.the-variants.{Waits, Number, Start}
 use Rattle.sources.specs.declared.Moves.{Moves}

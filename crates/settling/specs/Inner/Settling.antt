@@ -1,11 +1,11 @@
--- What the answers say, as verdicts and cells (sources/specs/Assembling.antt).
+-- What the answers say, as verdicts and cells (sources/specs/Inner/Assembling.antt).
 use Prim.Native.Nat.{ℕ}
 use mathlib.Core.Bool.{true, false}
 use mathlib.Core.List.{List}
 use mathlib.Core.Path.{_≡_}
 use Rattle.sources.specs.Uses.{Value, known, unknown, from, countedWord}
 use Rattle.sources.specs.Order.{_on_}
-use Rattle.sources.specs.Assembling.{Verdict, passes, refused, tooFar}
+use Rattle.sources.specs.Inner.Assembling.{Verdict, passes, refused, tooFar}
 use Rattle.settling.specs.declared.Word.{Word}
 use Rattle.settling.specs.declared.Word.the-variants as W
 use Rattle.settling.specs.declared.Settled.{Settled}

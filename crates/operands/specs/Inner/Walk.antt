@@ -14,8 +14,8 @@ use Rattle.tokens.specs.declared.Kind.the-variants as K
 use Rattle.tokens.specs.declared.Token.{Token}
 use Rattle.values.specs.Values.{nameAt}
 use Rattle.values.specs.Reading.{valueBy, digitsBy}
-use Rattle.values.specs.Walks as Walks
-pub use Rattle.values.specs.Walks.{to, emit, halt, reads, wrong, cons}
+use Rattle.values.specs.Inner.Walks as Walks
+pub use Rattle.values.specs.Inner.Walks.{to, emit, halt, reads, wrong, cons}
 use Rattle.values.specs.declared.Value.{Value}
 use Rattle.values.specs.declared.Value.the-variants.{Number, Label}
 use Rattle.operands.specs.Operands.{wordAt}

@@ -1,7 +1,7 @@
 -- What the parts of `assemble` promise one another: reply, memory and map by a verdict.
 use Prim.Native.Nat.{ℕ}
 use mathlib.Core.List.{List}
-use Rattle.sources.specs.Assembling.{Verdict, passes, refused}
+use Rattle.sources.specs.Inner.Assembling.{Verdict, passes, refused}
 use Rattle.assembler.specs.Promise.{Told, told, acceptance, refusal}
 use Rattle.assembler.specs.declared.Reply.{Reply}
 

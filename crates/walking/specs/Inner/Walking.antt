@@ -5,9 +5,9 @@ use mathlib.Core.Path.{_≡_}
 use Rattle.labels.specs.Labels.{words, zipped}
 use Rattle.sources.specs.Placing.{bindings}
 use Rattle.sources.specs.Order.{_on_}
-use Rattle.sources.specs.Assembling.{Verdict, passes, refused, Work}
-use Rattle.uses.specs.Held.{usesHeld}
-use Rattle.placing.specs.State.{Fair, placeIn}
+use Rattle.sources.specs.Inner.Assembling.{Verdict, passes, refused, Work}
+use Rattle.uses.specs.Inner.Held.{usesHeld}
+use Rattle.placing.specs.Inner.State.{Fair, placeIn}
 use Rattle.placing.specs.declared.Counters.{Counters}
 use Rattle.walking.specs.declared.Lines.{Lines}
 use Rattle.walking.specs.declared.Lines.the-variants as L

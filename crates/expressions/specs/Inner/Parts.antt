@@ -11,7 +11,7 @@ use Rattle.tokens.specs.declared.Kind.the-variants as K
 use Rattle.tokens.specs.declared.Token.{Token}
 use Rattle.expressions.specs.Worths.{ofNumber, operate}
 use Rattle.expressions.specs.Reading.{kindSymbol, Waiting, nothing, joined, Outcome, wrong, Frame, operand, operator}
-use Rattle.expressions.specs.Scanning.{passes}
+use Rattle.expressions.specs.Inner.Scanning.{passes}
 use Rattle.expressions.specs.declared.Operation.{Operation}
 use Rattle.expressions.specs.declared.Worth.{Worth}
 use Rattle.expressions.specs.declared.Start.{Start}
