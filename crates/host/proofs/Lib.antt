@@ -1,2 +1,2 @@
--- The host's step: the promise restated (Top).
+-- The host's step and run: the promises restated (Top).
 pub mod Top

@@ -1,19 +1,35 @@
--- What the host's step promises, restated for a reader: "one step in which the host lends the register set and finds it changed where it
--- lies" (01). The promise of `ens2025_step` stands in src/lib.rt, one equation with machine's meaning; the argument is the walk of its code
--- in ens2025_step/. Whatever is lent gets a reply: the promise has no premise.
+-- What the host's step and run promise, restated for a reader: "one step in which the host lends the register set and finds it changed where
+-- it lies" (01), and a run likewise. The promises of `ens2025_step` and `ens2025_run` stand in src/, each one equation with machine's meaning;
+-- the arguments are the walks of their code in step/ and run/. Whatever is lent gets a reply: no promise has a premise.
 use mathlib.Core.Path.{_≡_, refl, sym, ap, _∙_}
 use mathlib.Core.Bool.{Bool, true, false, cond}
 use mathlib.Core.List.{List, [], _∷_}
-use Prim.Native.Nat.{ℕ, _<_}
+use Prim.Native.Nat.{ℕ, zero, suc, _+_, _≤_, _<_}
 use native.Mathlib.Omega.{arith}
-use lib.ListN.{length, getD, replicate}
+use borrow.Author.Tests.{leb-true, leb-false}
+use lib.Dec.{leb}
+use lib.ListN.{length, getD, replicate, List·getD-eq-default}
 use Rattle.machine.specs.declared.Registers.{Registers}
 use Rattle.machine.specs.declared.Stepped.{Stepped}
+use Rattle.machine.specs.declared.Ran.{Ran}
 use Rattle.machine.specs.States.{State, state, machine, register}
-use Rattle.machine.specs.Stops.{Answer, goodLoan, isStored}
+use Rattle.machine.specs.Stops.{Answer, answer, goodLoan, isStored}
 use Rattle.machine.specs.Steps.{Reply, reply, stepOf, replyOf}
+use Rattle.machine.specs.Runs.{Ending, ending, follows, runOf, limitedRun}
 use Rattle.machine.proofs.Top as machines
 use Rattle.machine.proofs.Standings.{step-never-seven}
+use Rattle.machine.proofs.Runs.{run-more, run-bad, run-stopped}
+use Rattle.machine.proofs.Counts.{Ends, spent, ended, refused, Counted, after}
+
+-- ---- one step
+
+-- a number other than 0 that is read at an address stands in a cell: past the end 0 is read
+is-cell : (m : List ℕ) (i w : ℕ) → getD m i 0 ≡ w → (w ≡ 0 → ⊥) → i < length m
+is-cell m i w reads other = go (leb (length m) i) refl
+  where
+    go : (t : Bool) → leb (length m) i ≡ t → i < length m
+    go true e = absurd (other (sym reads ∙ List·getD-eq-default m 0 (leb-true _ _ e)))
+    go false e = leb-false _ _ e
 
 -- what the host lends, and what it finds where that lies, with the stop that the call returns
 module _ (input : List ℕ) (g : Registers) (m out : List ℕ) where
@@ -101,10 +117,10 @@ module _ (input : List ℕ) (g : Registers) (m out : List ℕ) where
   -- ---- what the promise shuts out, whatever the code and its walk
 
   -- a step that leaves the registers as they were: it does not meet the promise where HALT stands at PC, register 15
-  pub registers-change : goodLoan input (state g m out) ≡ true → g .stop ≡ 0 → register (state g m out) 15 < length m →
-      getD m (register (state g m out) 15) 0 ≡ 64 → (m′ out′ : List ℕ) (k : ℕ) → Found g m′ out′ k → ⊥
-  registers-change good runs there word m′ out′ k p =
-      let halts = machines.HALT-completes input (state g m out) good runs there word in
+  pub registers-change : goodLoan input (state g m out) ≡ true → g .stop ≡ 0 → getD m (register (state g m out) 15) 0 ≡ 64 →
+      (m′ out′ : List ℕ) (k : ℕ) → Found g m′ out′ k → ⊥
+  registers-change good runs word m′ out′ k p =
+      let halts = machines.HALT-completes input (state g m out) good runs (is-cell m (register (state g m out) 15) 64 word (λ z. omega (arith, z))) word in
       let one : g .stop ≡ 1 =
       ap (λ (t : State). t .registers .stop) (found-is g m′ out′ k p .0) ∙ ap (λ (a : Answer). a .after .registers .stop) halts in
       omega (arith, one, runs)
@@ -120,8 +136,174 @@ new = machine (replicate 16 0) 0 0 0
 
 pub registers-change-at-HALT : (m′ out′ : List ℕ) (k : ℕ) → Found [] new (64 ∷ []) [] new m′ out′ k → ⊥
 unfolding goodLoan
-registers-change-at-HALT = registers-change [] new (64 ∷ []) [] refl refl (omega arith) refl
+registers-change-at-HALT = registers-change [] new (64 ∷ []) [] refl refl refl
 
 pub stop-10-of-no-cell : (g′ : Registers) (m′ out′ : List ℕ) → Found [] new [] [] g′ m′ out′ (g′ .stop) → ⊥
 unfolding goodLoan
 stop-10-of-no-cell = stop-is-the-steps [] new [] [] refl (λ e. omega (arith, e))
+
+-- ---- a run
+
+-- what the meaning of a run is where no step is taken
+module _ (budget : ℕ) (input : List ℕ) (s : State) where
+  limited-bad : goodLoan input s ≡ false → limitedRun budget input s ≡ ending s 10 0
+  unfolding limitedRun
+  limited-bad bad = go (leb budget 1000000)
+    where
+      go : (t : Bool) → cond t (runOf budget input s) (ending s 10 0) ≡ ending s 10 0
+      go true = run-bad input s bad budget
+      go false = refl
+
+  limited-stopped : budget ≤ 1000000 → goodLoan input s ≡ true → (s .registers .stop ≡ 0 → ⊥) → limitedRun budget input s ≡ ending s (s .registers .stop) 0
+  limited-stopped within good stopped = machines.budget-within budget input s within ∙ run-stopped input s good stopped budget
+
+-- a run whose first step completes with a stop
+runs-once : (input : List ℕ) (s : State) (budget : ℕ) → 0 < budget → (t : State) → stepOf input s ≡ answer t 1 true → runOf budget input s ≡ ending t 1 1
+runs-once input s zero some t e = absurd (omega (arith, some))
+runs-once input s (suc n) some t e = run-more input s n ∙ ap (λ (a : Answer). follows a (runOf n input (a .after))) e
+
+-- so many steps keep a loan good, and so does a run
+steps-keep-good : (n : ℕ) (input : List ℕ) (s : State) → goodLoan input s ≡ true → goodLoan input (after input n s) ≡ true
+steps-keep-good zero input s good = good
+steps-keep-good (suc n) input s good = steps-keep-good n input (stepOf input s .after) (machines.stays-good input s good)
+
+run-keeps-good : (budget : ℕ) (input : List ℕ) (s : State) → goodLoan input s ≡ true → goodLoan input (limitedRun budget input s .after) ≡ true
+unfolding limitedRun
+run-keeps-good budget input s good = go (leb budget 1000000)
+  where
+    step-good : (n : ℕ) (t : State) → stepOf input (after input n s) .after ≡ t → goodLoan input t ≡ true
+    step-good n t e = ap (goodLoan input) (sym e) ∙ machines.stays-good input (after input n s) (steps-keep-good n input s good)
+
+    ends-good : Ends budget input s (runOf budget input s) → goodLoan input (runOf budget input s .after) ≡ true
+    ends-good (spent c k a) = ap (goodLoan input) a ∙ steps-keep-good (runOf budget input s .count) input s good
+    ends-good (ended last c a k) = step-good last (runOf budget input s .after) (ap (λ (x : Answer). x .after) a)
+    ends-good (refused a) = step-good (runOf budget input s .count) (runOf budget input s .after) (ap (λ (x : Answer). x .after) a)
+
+    go : (t : Bool) → goodLoan input (cond t (runOf budget input s) (ending s 10 0) .after) ≡ true
+    go true = ends-good (machines.run-counts budget input s .ends)
+    go false = good
+
+-- what the host lends, and what it finds where that lies, with the stop that the call returns and the count that it leaves
+module _ (budget : ℕ) (input : List ℕ) (g : Registers) (m out : List ℕ) where
+  -- the promise of `ens2025_run`
+  abbrev pub RunFound : Registers → List ℕ → List ℕ → ℕ → ℕ → Type 0
+  RunFound g′ m′ out′ k n = ending (state g′ m′ out′) k n ≡ limitedRun budget input (state g m out)
+
+  module _ (g′ : Registers) (m′ out′ : List ℕ) (k n : ℕ) where
+    -- what the call leaves is what the run's meaning gives: registers, memory, output, stop and count
+    pub run-found-is : RunFound g′ m′ out′ k n →
+        (state g′ m′ out′ ≡ limitedRun budget input (state g m out) .after) × (k ≡ limitedRun budget input (state g m out) .stop) ×
+        (n ≡ limitedRun budget input (state g m out) .count)
+    run-found-is p = (ap (λ (e : Ending). e .after) p, ap (λ (e : Ending). e .stop) p, ap (λ (e : Ending). e .count) p)
+
+    -- and nothing but that meets the promise
+    pub run-is-found : state g′ m′ out′ ≡ limitedRun budget input (state g m out) .after → k ≡ limitedRun budget input (state g m out) .stop →
+        n ≡ limitedRun budget input (state g m out) .count → RunFound g′ m′ out′ k n
+    run-is-found after stop count =
+        let e = limitedRun budget input (state g m out) in
+        ap (λ (t : State). ending t k n) after ∙ ap (λ (j : ℕ). ending (e .after) j n) stop ∙ ap (λ (j : ℕ). ending (e .after) (e .stop) j) count
+
+    -- it is what the by-value run hands back, with the memory and output that this one leaves
+    pub run-as-by-value : RunFound g′ m′ out′ k n → (r : Ran) (c off : List ℕ) →
+        ending (state (r .registers) c off) (r .stop) (r .count) ≡ limitedRun budget input (state g m out) →
+        (g′ ≡ r .registers) × (k ≡ r .stop) × (n ≡ r .count) × (m′ ≡ c) × (out′ ≡ off)
+    run-as-by-value p r c off q =
+        let same = p ∙ sym q in (
+          ap (λ (e : Ending). e .after .registers) same,
+          ap (λ (e : Ending). e .stop) same,
+          ap (λ (e : Ending). e .count) same,
+          ap (λ (e : Ending). e .after .memory) same,
+          ap (λ (e : Ending). e .after .output) same,
+        )
+
+    -- where the meaning is that nothing changes, nothing changes where it lies
+    kept : (j : ℕ) → RunFound g′ m′ out′ k n → limitedRun budget input (state g m out) ≡ ending (state g m out) j 0 →
+        (g′ ≡ g) × (m′ ≡ m) × (out′ ≡ out) × (k ≡ j) × (n ≡ 0)
+    kept j p q =
+        let same = p ∙ q in (
+          ap (λ (e : Ending). e .after .registers) same,
+          ap (λ (e : Ending). e .after .memory) same,
+          ap (λ (e : Ending). e .after .output) same,
+          ap (λ (e : Ending). e .stop) same,
+          ap (λ (e : Ending). e .count) same,
+        )
+
+    -- "A larger budget is 10 with count 0": nothing at all changes
+    pub run-budget-past : RunFound g′ m′ out′ k n → 1000000 < budget → (g′ ≡ g) × (m′ ≡ m) × (out′ ≡ out) × (k ≡ 10) × (n ≡ 0)
+    run-budget-past p past = kept 10 p (machines.budget-past budget input (state g m out) past)
+
+    -- "10 bad loan": whatever the budget, nothing at all changes
+    pub run-bad-loan : RunFound g′ m′ out′ k n → goodLoan input (state g m out) ≡ false → (g′ ≡ g) × (m′ ≡ m) × (out′ ≡ out) × (k ≡ 10) × (n ≡ 0)
+    run-bad-loan p bad = kept 10 p (limited-bad budget input (state g m out) bad)
+
+    -- "stopped already": a stopped machine repeats its stop, and nothing changes
+    pub run-stopped-already : RunFound g′ m′ out′ k n → budget ≤ 1000000 → goodLoan input (state g m out) ≡ true → (g .stop ≡ 0 → ⊥) →
+        (g′ ≡ g) × (m′ ≡ m) × (out′ ≡ out) × (k ≡ g .stop) × (n ≡ 0)
+    run-stopped-already p within good stopped = kept (g .stop) p (limited-stopped budget input (state g m out) within good stopped)
+
+    -- the count is the run's: what is found is as many defined steps on as it says, all of them completed
+    pub run-counts : RunFound g′ m′ out′ k n → budget ≤ 1000000 → Counted budget input (state g m out) (ending (state g′ m′ out′) k n)
+    run-counts p within = rw (p ∙ machines.budget-within budget input (state g m out) within) (machines.run-counts budget input (state g m out))
+
+    -- what was lent well can be lent again: "7, 8, 9 can be resumed"
+    pub run-stays-good : RunFound g′ m′ out′ k n → goodLoan input (state g m out) ≡ true → goodLoan input (state g′ m′ out′) ≡ true
+    run-stays-good p good = ap (goodLoan input) (run-found-is p .0) ∙ run-keeps-good budget input (state g m out) good
+
+  -- "two replies meeting it coincide": registers, memory, output, stop and count
+  pub run-replies-coincide : (g′ h′ : Registers) (m′ n′ out′ off′ : List ℕ) (k l i j : ℕ) → RunFound g′ m′ out′ k i → RunFound h′ n′ off′ l j →
+      (g′ ≡ h′) × (m′ ≡ n′) × (out′ ≡ off′) × (k ≡ l) × (i ≡ j)
+  run-replies-coincide g′ h′ m′ n′ out′ off′ k l i j p q =
+      let same = p ∙ sym q in (
+        ap (λ (e : Ending). e .after .registers) same,
+        ap (λ (e : Ending). e .after .memory) same,
+        ap (λ (e : Ending). e .after .output) same,
+        ap (λ (e : Ending). e .stop) same,
+        ap (λ (e : Ending). e .count) same,
+      )
+
+  -- ---- what the promise shuts out, whatever the code and its walk
+
+  -- where HALT stands at PC, register 15, one step completes: the stop code, the stop and the count are 1, whatever the budget left
+  pub run-halts : goodLoan input (state g m out) ≡ true → g .stop ≡ 0 → getD m (register (state g m out) 15) 0 ≡ 64 → 0 < budget → budget ≤ 1000000 →
+      (g′ : Registers) (m′ out′ : List ℕ) (k n : ℕ) → RunFound g′ m′ out′ k n → (g′ .stop ≡ 1) × (k ≡ 1) × (n ≡ 1)
+  run-halts good runs word some within g′ m′ out′ k n p =
+      let halts = machines.HALT-completes input (state g m out) good runs (is-cell m (register (state g m out) 15) 64 word (λ z. omega (arith, z))) word in
+      let found = p ∙ machines.budget-within budget input (state g m out) within ∙ runs-once input (state g m out) budget some _ halts in (
+        ap (λ (e : Ending). e .after .registers .stop) found,
+        ap (λ (e : Ending). e .stop) found,
+        ap (λ (e : Ending). e .count) found,
+      )
+
+  -- so a run that leaves the registers as they were does not meet it
+  pub run-registers-change : goodLoan input (state g m out) ≡ true → g .stop ≡ 0 → getD m (register (state g m out) 15) 0 ≡ 64 → 0 < budget →
+      budget ≤ 1000000 → (m′ out′ : List ℕ) (k n : ℕ) → RunFound g m′ out′ k n → ⊥
+  run-registers-change good runs word some within m′ out′ k n p =
+      omega (arith, runs, run-halts good runs word some within g m′ out′ k n p .0)
+
+  -- a run that returns the record's stop code for its stop: it does not meet the promise on a bad loan, unless that code is 10
+  pub run-stop-is-the-runs : goodLoan input (state g m out) ≡ false → (g .stop ≡ 10 → ⊥) → (g′ : Registers) (m′ out′ : List ℕ) (n : ℕ) →
+      RunFound g′ m′ out′ (g′ .stop) n → ⊥
+  run-stop-is-the-runs bad other g′ m′ out′ n p =
+      let found = run-bad-loan g′ m′ out′ (g′ .stop) n p bad in other (ap (λ (r : Registers). r .stop) (sym (found .0)) ∙ found .3)
+
+-- a host that calls twice, with a step in the second budget, finds what one call of both budgets leaves, and its counts add up
+pub run-resumed : (a b : ℕ) (input : List ℕ) (g : Registers) (m out : List ℕ) (g′ : Registers) (m′ out′ : List ℕ) (k i : ℕ)
+    (g″ : Registers) (m″ out″ : List ℕ) (l j : ℕ) →
+    a + b ≤ 1000000 → 0 < b → RunFound a input g m out g′ m′ out′ k i → RunFound b input g′ m′ out′ g″ m″ out″ l j →
+    RunFound (a + b) input g m out g″ m″ out″ l (i + j)
+run-resumed a b input g m out g′ m′ out′ k i g″ m″ out″ l j within some p q =
+    let first = p ∙ machines.budget-within a input (state g m out) (omega (arith, within)) in
+    let then = q ∙ machines.budget-within b input (state g′ m′ out′) (omega (arith, within)) in
+    let from : state g′ m′ out′ ≡ runOf a input (state g m out) .after = ap (λ (e : Ending). e .after) first in
+    let rest : ending (state g″ m″ out″) l j ≡ runOf b input (runOf a input (state g m out) .after) = then ∙ ap (runOf b input) from in
+    let whole = machines.budget-within (a + b) input (state g m out) within in
+    run-is-found (a + b) input g m out g″ m″ out″ l (i + j)
+    (ap (λ (e : Ending). e .after) rest ∙ sym (ap (λ (e : Ending). e .after) whole ∙ machines.resumed-after a b input (state g m out)))
+    (ap (λ (e : Ending). e .stop) rest ∙ sym (ap (λ (e : Ending). e .stop) whole ∙ machines.resumed-stop a b input (state g m out) some))
+    (ap (λ (n : ℕ). n + j) (ap (λ (e : Ending). e .count) first) ∙ ap (λ (n : ℕ). runOf a input (state g m out) .count + n) (ap (λ (e : Ending). e .count) rest)
+    ∙ sym (ap (λ (e : Ending). e .count) whole ∙ machines.resumed-count a b input (state g m out)))
+
+-- and of a machine that starts with HALT in its one cell: what is found there, and that the count is no other
+pub run-at-HALT : (g′ : Registers) (m′ out′ : List ℕ) (k n : ℕ) → RunFound 1000000 [] new (64 ∷ []) [] g′ m′ out′ k n → (g′ .stop ≡ 1) × (k ≡ 1) × (n ≡ 1)
+unfolding goodLoan
+run-at-HALT = run-halts 1000000 [] new (64 ∷ []) [] refl refl refl (omega arith) (omega arith)

@@ -1,18 +1,4 @@
-// One step, where the host lends its registers and finds them changed where they lie (document 01). The meaning is
-// machine's (specs/Steps.antt); the C names are in include/ens2025.h.
-ghost use mathlib.Core.Path.{_≡_};
-ghost use Rattle.machine.specs.States.{state};
-ghost use Rattle.machine.specs.Steps.{reply, replyOf};
-use machine::Registers;
-use machine::step::step;
-
-#[no_mangle]
-pub extern "C" fn ens2025_step(g: &mut Registers, m: &mut [u16], input: &[u8], out: &mut [u8]) -> u8
-    ensures { λ k. ⌜ reply (state (now (g .exit)) (now (m .exit)) (now (out .exit))) k ≡ replyOf (now (input .entry)) (state (now (g .entry)) (now (m .entry)) (now (out .entry))) ⌝ }
-{
-    let h = *g;
-    let t = step(h, m, input, out);
-    let u = t.registers;
-    *g = u;
-    t.stop
-}
+// The machine for a host that lends its registers and finds them changed where they lie (document 01): one step, and a
+// run. The meaning is machine's (specs/Steps.antt, specs/Runs.antt); the C names are in include/ens2025.h.
+pub mod run;
+pub mod step;

@@ -54,10 +54,10 @@ use Rattle.machine.proofs.step.step as step
 use Rattle.machine.proofs.step.step.Symbol as step-def
 use Rattle.machine.proofs.step.step.Symbol.{name as #machine·step}
 use Rattle.machine.proofs.step.step.Met as step-thm
-use Rattle.host.proofs.ens2025_step.Key.{name as #host·step}
-use Rattle.host.proofs.ens2025_step as host-step
-use Rattle.host.proofs.ens2025_step.Statement as stated
-use Rattle.host.proofs.ens2025_step.Code as code
+use Rattle.host.proofs.step.ens2025_step.Key.{name as #host·step}
+use Rattle.host.proofs.step.ens2025_step as host-step
+use Rattle.host.proofs.step.ens2025_step.Statement as stated
+use Rattle.host.proofs.step.ens2025_step.Code as code
 
 -- the input is read only: nothing is had of it at the end
 abbrev input-slot : Slot 4
