@@ -1,47 +1,121 @@
 /*
- * A host in C: it lends registers, memory, input and output, and steps an image of three instructions to HALT.
+ * A host in C for the ENS2025 machine: it loads the printed image of a rule, lets the rule take standard input, and prints
+ * what the rule writes, the stop, and how many steps it took.
  *
  *     rt staticlib host
- *     cc -Iinclude examples/host.c target/staticlib/libhost.a -o target/host && target/host
+ *     cc -std=c99 -Iinclude examples/host.c target/staticlib/libhost.a -o target/host
+ *     target/host examples/pump.image < levels
  *
- * On x86-64 Linux. On Arm the archive is x86-64 all the same: compile with an x86-64 cross compiler and run under
- * an emulator. It exits 1 where a step does not do what it should.
+ * `examples/host` does all of it. Exit status: 0; 1 where a call does not do what ens2025.h says; 2 without an image.
  */
 #include "ens2025.h"
 
 #include <stdio.h>
+#include <string.h>
 
-int main(void)
+/* What a host lends. The output is so small here that it has to be emptied on the way. */
+struct machine {
+    struct ens2025_registers g;
+    uint16_t memory[ENS2025_MOST_CELLS];
+    size_t cells;
+    const uint8_t *input;
+    size_t input_len;
+    uint8_t output[16];
+};
+
+static uint8_t step(struct machine *x)
 {
-    static const char *const names[16] = {"R0", "R1", "R2", "R3", "R4", "R5", "R6", "R7",
-                                          "R8", "R9", "A",  "SR", "IX", "IY", "SP", "PC"};
-    uint16_t memory[16] = {
-        2128, 3, /* INCHAR .R3 */
-        2320, 3, /* WRCHAR .R3 */
-        64,      /* HALT       */
-    };
-    const uint8_t input[1] = {'w'};
-    uint8_t output[1] = {0};
-    struct ens2025_registers g = {0};
-    uint8_t stop = ENS2025_STOP_NONE;
-    int steps = 0;
+    return ens2025_step(&x->g, x->memory, x->cells, x->input, x->input_len, x->output, sizeof x->output);
+}
 
-    while (stop == ENS2025_STOP_NONE && steps < 100) {
-        stop = ens2025_step(&g, memory, 16, input, 1, output, 1);
-        steps++;
-        printf("step %d: stop %u, PC %u\n", steps, stop, g.r[ENS2025_PC]);
+static uint8_t run(struct machine *x, uint32_t budget, uint32_t *count)
+{
+    return ens2025_run(&x->g, x->memory, x->cells, x->input, x->input_len, x->output, sizeof x->output, budget, count);
+}
+
+/* Field by field: what lies between the fields of the record means nothing. */
+static int same(const struct machine *x, const struct machine *y)
+{
+    return memcmp(x->g.r, y->g.r, sizeof x->g.r) == 0 && x->g.stop == y->g.stop && x->g.taken == y->g.taken &&
+           x->g.written == y->g.written && memcmp(x->memory, y->memory, sizeof x->memory) == 0 &&
+           memcmp(x->output, y->output, sizeof x->output) == 0;
+}
+
+/* Reads an image: `size=M`, and `cell=ADDRESS,KIND,VALUE` for each claimed cell. All else of a new machine is zero. */
+static int load(struct machine *x, const char *name)
+{
+    FILE *file = fopen(name, "r");
+    char line[80];
+    unsigned long address, value;
+
+    memset(x, 0, sizeof *x);
+    while (file && fgets(line, sizeof line, file)) {
+        if (sscanf(line, "size=%lu", &value) == 1 && value <= ENS2025_MOST_CELLS)
+            x->cells = value;
+        else if (sscanf(line, "cell=%lu,%*[a-z],%lu", &address, &value) == 2 && address < x->cells)
+            x->memory[address] = (uint16_t)value;
     }
-    for (int i = 0; i < 16; i++)
-        printf("%s=%u%s", names[i], g.r[i], i == 15 ? "\n" : " ");
-    printf("stop=%u taken=%zu written=%zu output=%c\n", g.stop, g.taken, g.written, output[0]);
+    if (file)
+        fclose(file);
+    return x->cells > 0;
+}
 
-    /* a stopped machine repeats its stop; a memory of no cell is a bad loan, and nothing changes */
-    uint8_t again = ens2025_step(&g, memory, 16, input, 1, output, 1);
-    uint8_t bad = ens2025_step(&g, memory, 0, input, 1, output, 1);
-    printf("again: stop %u; no cell: stop %u, stop code %u\n", again, bad, g.stop);
+/* Prints what the rule has written, and empties the output. */
+static void print_output(struct machine *x)
+{
+    fwrite(x->output, 1, x->g.written, stdout);
+    x->g.written = 0;
+}
 
-    int right = steps == 3 && stop == ENS2025_STOP_HALT && g.stop == ENS2025_STOP_HALT && g.r[ENS2025_R3] == 'w' &&
-                g.r[ENS2025_SR] == ENS2025_FLAG_H && g.r[ENS2025_PC] == 5 && g.taken == 1 && g.written == 1 &&
-                output[0] == 'w' && again == ENS2025_STOP_HALT && bad == ENS2025_STOP_BAD_LOAN;
-    return right ? 0 : 1;
+int main(int argc, char **argv)
+{
+    static uint8_t input[65536];
+    static struct machine x, other;
+    unsigned long steps;
+    uint32_t count;
+    uint8_t stop;
+    int i;
+
+    if (argc != 2 || !load(&x, argv[1])) {
+        fprintf(stderr, "usage: host IMAGE < INPUT      IMAGE: what `assemble` prints\n");
+        return 2;
+    }
+    x.input = input;
+    x.input_len = fread(input, 1, sizeof input, stdin);
+
+    /* Three single steps of one machine, as a debugger takes them, and a run of three of the other leave the same. */
+    other = x;
+    for (i = 1; i <= 3; i++) {
+        stop = step(&other);
+        printf("step %d: stop %u, PC %u\n", i, stop, other.g.r[ENS2025_PC]);
+    }
+    stop = run(&x, 3, &count);
+    steps = count;
+    if (!same(&x, &other))
+        goto wrong;
+
+    /* On by runs of 20 steps, in firmware of up to 1,000,000: after 7 again, after 9 with an empty output. */
+    while (stop == ENS2025_STOP_BUDGET_SPENT || (stop == ENS2025_STOP_OUTPUT_ROOM && x.g.written > 0)) {
+        if (stop == ENS2025_STOP_OUTPUT_ROOM)
+            print_output(&x);
+        stop = run(&x, 20, &count);
+        steps += count;
+    }
+    print_output(&x);
+    printf("stop %u after %lu steps, %lu bytes taken\n", stop, steps, (unsigned long)x.g.taken);
+
+    /* The machine repeats its stop; too large a budget and a memory of no cell are bad loans. Nothing changes. */
+    other = x;
+    if (run(&x, 20, &count) != stop || count != 0)
+        goto wrong;
+    if (run(&x, ENS2025_MOST_STEPS + 1, &count) != ENS2025_STOP_BAD_LOAN || count != 0)
+        goto wrong;
+    x.cells = 0;
+    if (step(&x) != ENS2025_STOP_BAD_LOAN || !same(&x, &other))
+        goto wrong;
+    return 0;
+
+wrong:
+    fprintf(stderr, "host: a call does not do what ens2025.h says\n");
+    return 1;
 }
