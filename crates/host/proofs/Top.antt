@@ -4,7 +4,7 @@
 use mathlib.Core.Path.{_≡_, refl, sym, ap, _∙_}
 use mathlib.Core.Bool.{Bool, true, false, cond}
 use mathlib.Core.List.{List, [], _∷_}
-use Prim.Native.Nat.{ℕ, zero, suc, _+_, _≤_, _<_}
+use Prim.Native.Nat.{ℕ, _+_, _≤_, _<_}
 use native.Mathlib.Omega.{arith}
 use borrow.Author.Tests.{leb-true, leb-false}
 use lib.Dec.{leb}
@@ -13,13 +13,13 @@ use Rattle.machine.specs.declared.Registers.{Registers}
 use Rattle.machine.specs.declared.Stepped.{Stepped}
 use Rattle.machine.specs.declared.Ran.{Ran}
 use Rattle.machine.specs.States.{State, state, machine, register}
-use Rattle.machine.specs.Stops.{Answer, answer, goodLoan, isStored}
+use Rattle.machine.specs.Stops.{Answer, goodLoan, isStored}
 use Rattle.machine.specs.Steps.{Reply, reply, stepOf, replyOf}
-use Rattle.machine.specs.Runs.{Ending, ending, follows, runOf, limitedRun}
+use Rattle.machine.specs.Runs.{Ending, ending, runOf, limitedRun}
 use Rattle.machine.proofs.Top as machines
 use Rattle.machine.proofs.Standings.{step-never-seven}
-use Rattle.machine.proofs.Runs.{run-more, run-bad, run-stopped}
-use Rattle.machine.proofs.Counts.{Ends, spent, ended, refused, Counted, after}
+use Rattle.machine.proofs.Counts.{Counted}
+use Rattle.host.proofs.Runs.{limited-bad, limited-stopped, runs-once, run-keeps-good, run-not-none, still-runs}
 
 -- ---- one step
 
@@ -144,45 +144,6 @@ stop-10-of-no-cell = stop-is-the-steps [] new [] [] refl (λ e. omega (arith, e)
 
 -- ---- a run
 
--- what the meaning of a run is where no step is taken
-module _ (budget : ℕ) (input : List ℕ) (s : State) where
-  limited-bad : goodLoan input s ≡ false → limitedRun budget input s ≡ ending s 10 0
-  unfolding limitedRun
-  limited-bad bad = go (leb budget 1000000)
-    where
-      go : (t : Bool) → cond t (runOf budget input s) (ending s 10 0) ≡ ending s 10 0
-      go true = run-bad input s bad budget
-      go false = refl
-
-  limited-stopped : budget ≤ 1000000 → goodLoan input s ≡ true → (s .registers .stop ≡ 0 → ⊥) → limitedRun budget input s ≡ ending s (s .registers .stop) 0
-  limited-stopped within good stopped = machines.budget-within budget input s within ∙ run-stopped input s good stopped budget
-
--- a run whose first step completes with a stop
-runs-once : (input : List ℕ) (s : State) (budget : ℕ) → 0 < budget → (t : State) → stepOf input s ≡ answer t 1 true → runOf budget input s ≡ ending t 1 1
-runs-once input s zero some t e = absurd (omega (arith, some))
-runs-once input s (suc n) some t e = run-more input s n ∙ ap (λ (a : Answer). follows a (runOf n input (a .after))) e
-
--- so many steps keep a loan good, and so does a run
-steps-keep-good : (n : ℕ) (input : List ℕ) (s : State) → goodLoan input s ≡ true → goodLoan input (after input n s) ≡ true
-steps-keep-good zero input s good = good
-steps-keep-good (suc n) input s good = steps-keep-good n input (stepOf input s .after) (machines.stays-good input s good)
-
-run-keeps-good : (budget : ℕ) (input : List ℕ) (s : State) → goodLoan input s ≡ true → goodLoan input (limitedRun budget input s .after) ≡ true
-unfolding limitedRun
-run-keeps-good budget input s good = go (leb budget 1000000)
-  where
-    step-good : (n : ℕ) (t : State) → stepOf input (after input n s) .after ≡ t → goodLoan input t ≡ true
-    step-good n t e = ap (goodLoan input) (sym e) ∙ machines.stays-good input (after input n s) (steps-keep-good n input s good)
-
-    ends-good : Ends budget input s (runOf budget input s) → goodLoan input (runOf budget input s .after) ≡ true
-    ends-good (spent c k a) = ap (goodLoan input) a ∙ steps-keep-good (runOf budget input s .count) input s good
-    ends-good (ended last c a k) = step-good last (runOf budget input s .after) (ap (λ (x : Answer). x .after) a)
-    ends-good (refused a) = step-good (runOf budget input s .count) (runOf budget input s .after) (ap (λ (x : Answer). x .after) a)
-
-    go : (t : Bool) → goodLoan input (cond t (runOf budget input s) (ending s 10 0) .after) ≡ true
-    go true = ends-good (machines.run-counts budget input s .ends)
-    go false = good
-
 -- what the host lends, and what it finds where that lies, with the stop that the call returns and the count that it leaves
 module _ (budget : ℕ) (input : List ℕ) (g : Registers) (m out : List ℕ) where
   -- the promise of `ens2025_run`
@@ -245,9 +206,20 @@ module _ (budget : ℕ) (input : List ℕ) (g : Registers) (m out : List ℕ) wh
     pub run-counts : RunFound g′ m′ out′ k n → budget ≤ 1000000 → Counted budget input (state g m out) (ending (state g′ m′ out′) k n)
     run-counts p within = rw (p ∙ machines.budget-within budget input (state g m out) within) (machines.run-counts budget input (state g m out))
 
-    -- what was lent well can be lent again: "7, 8, 9 can be resumed"
+    -- 0 is a step's stop, and never a run's
+    pub run-never-none : RunFound g′ m′ out′ k n → k ≡ 0 → ⊥
+    run-never-none p none = run-not-none budget input (state g m out) (sym (run-found-is p .1) ∙ none)
+
+    -- what was lent well can be lent again: no call makes a bad loan
     pub run-stays-good : RunFound g′ m′ out′ k n → goodLoan input (state g m out) ≡ true → goodLoan input (state g′ m′ out′) ≡ true
     run-stays-good p good = ap (goodLoan input) (run-found-is p .0) ∙ run-keeps-good budget input (state g m out) good
+
+    -- "7, 8, 9 can be resumed": the machine has not stopped
+    pub run-can-resume : RunFound g′ m′ out′ k n → budget ≤ 1000000 → goodLoan input (state g m out) ≡ true → 7 ≤ k → g′ .stop ≡ 0
+    run-can-resume p within good seven =
+        let found = p ∙ machines.budget-within budget input (state g m out) within in
+        ap (λ (e : Ending). e .after .registers .stop) found ∙
+        still-runs budget input (state g m out) good (omega (arith, seven, ap (λ (e : Ending). e .stop) found))
 
   -- "two replies meeting it coincide": registers, memory, output, stop and count
   pub run-replies-coincide : (g′ h′ : Registers) (m′ n′ out′ off′ : List ℕ) (k l i j : ℕ) → RunFound g′ m′ out′ k i → RunFound h′ n′ off′ l j →
