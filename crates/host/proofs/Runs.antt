@@ -7,6 +7,8 @@ use Prim.Native.Nat.{ℕ, zero, suc, _≤_, _<_}
 use native.Mathlib.Omega.{arith}
 use borrow.Author.Tests.{leb-true}
 use lib.Dec.{leb, eqb}
+use Rattle.codes.specs.Limits.{largestBudget}
+use Rattle.codes.specs.Stops.{budgetSpent, badLoan}
 use Rattle.machine.specs.States.{State, withStop}
 use Rattle.machine.specs.Stops.{Answer, answer, goodLoan, isStored}
 use Rattle.machine.specs.Steps.{stepOf}
@@ -22,15 +24,15 @@ use Rattle.machine.proofs.Counts.{Ends, spent, ended, refused, after}
 
 module _ (budget : ℕ) (input : List ℕ) (s : State) where
   -- a bad loan is 10, whatever the budget
-  pub limited-bad : goodLoan input s ≡ false → limitedRun budget input s ≡ ending s 10 0
+  pub limited-bad : goodLoan input s ≡ false → limitedRun budget input s ≡ ending s badLoan 0
   unfolding limitedRun
-  limited-bad e = go (leb budget 1000000)
+  limited-bad e = go (leb budget largestBudget)
     where
-      go : (t : Bool) → cond t (runOf budget input s) (ending s 10 0) ≡ ending s 10 0
+      go : (t : Bool) → cond t (runOf budget input s) (ending s badLoan 0) ≡ ending s badLoan 0
       go true = run-bad input s e budget
       go false = refl
 
-  pub limited-stopped : budget ≤ 1000000 → goodLoan input s ≡ true → (s .registers .stop ≡ 0 → ⊥) → limitedRun budget input s ≡ ending s (s .registers .stop) 0
+  pub limited-stopped : budget ≤ largestBudget → goodLoan input s ≡ true → (s .registers .stop ≡ 0 → ⊥) → limitedRun budget input s ≡ ending s (s .registers .stop) 0
   limited-stopped within good h = machines.budget-within budget input s within ∙ run-stopped input s good h budget
 
 -- ---- one step is taken
@@ -49,7 +51,7 @@ steps-keep-good (suc n) input s good = steps-keep-good n input (stepOf input s .
 
 pub run-keeps-good : (budget : ℕ) (input : List ℕ) (s : State) → goodLoan input s ≡ true → goodLoan input (limitedRun budget input s .after) ≡ true
 unfolding limitedRun
-run-keeps-good budget input s good = go (leb budget 1000000)
+run-keeps-good budget input s good = go (leb budget largestBudget)
   where
     step-good : (n : ℕ) (t : State) → stepOf input (after input n s) .after ≡ t → goodLoan input t ≡ true
     step-good n t e = ap (goodLoan input) (sym e) ∙ machines.stays-good input (after input n s) (steps-keep-good n input s good)
@@ -59,7 +61,7 @@ run-keeps-good budget input s good = go (leb budget 1000000)
     ends-good (ended last c a k) = step-good last (runOf budget input s .after) (ap (λ (x : Answer). x .after) a)
     ends-good (refused a) = step-good (runOf budget input s .count) (runOf budget input s .after) (ap (λ (x : Answer). x .after) a)
 
-    go : (t : Bool) → goodLoan input (cond t (runOf budget input s) (ending s 10 0) .after) ≡ true
+    go : (t : Bool) → goodLoan input (cond t (runOf budget input s) (ending s badLoan 0) .after) ≡ true
     go true = ends-good (machines.run-counts budget input s .ends)
     go false = good
 
@@ -82,7 +84,7 @@ refused-not-none input s undone z = go (standing input s)
 -- and so does no run
 pub run-not-none : (budget : ℕ) (input : List ℕ) (s : State) → limitedRun budget input s .stop ≡ 0 → ⊥
 unfolding limitedRun
-run-not-none budget input s = go (leb budget 1000000)
+run-not-none budget input s = go (leb budget largestBudget)
   where
     ends : Ends budget input s (runOf budget input s) → runOf budget input s .stop ≡ 0 → ⊥
     ends (spent c k a) z = omega (arith, k, z)
@@ -90,12 +92,12 @@ run-not-none budget input s = go (leb budget 1000000)
     ends (refused a) z =
         refused-not-none input (after input (runOf budget input s .count) s) (ap (λ (x : Answer). x .completed) a) (ap (λ (x : Answer). x .stop) a ∙ z)
 
-    go : (t : Bool) → cond t (runOf budget input s) (ending s 10 0) .stop ≡ 0 → ⊥
+    go : (t : Bool) → cond t (runOf budget input s) (ending s badLoan 0) .stop ≡ 0 → ⊥
     go true z = ends (machines.run-counts budget input s .ends) z
     go false z = omega (arith, z)
 
 -- a step that is refused with 7 or more leaves the stop code of a good loan at 0
-refused-still-runs : (input : List ℕ) (s : State) → goodLoan input s ≡ true → stepOf input s .completed ≡ false → 7 ≤ stepOf input s .stop →
+refused-still-runs : (input : List ℕ) (s : State) → goodLoan input s ≡ true → stepOf input s .completed ≡ false → budgetSpent ≤ stepOf input s .stop →
     stepOf input s .after .registers .stop ≡ 0
 refused-still-runs input s good undone seven = go (standing input s)
   where
@@ -113,7 +115,7 @@ refused-still-runs input s good undone seven = go (standing input s)
     go (runs e r) = unset r (isStored (stepOf input s .stop)) refl (machines.refused-step input s undone)
 
 -- and so does a run: its machine still runs
-pub still-runs : (budget : ℕ) (input : List ℕ) (s : State) → goodLoan input s ≡ true → 7 ≤ runOf budget input s .stop →
+pub still-runs : (budget : ℕ) (input : List ℕ) (s : State) → goodLoan input s ≡ true → budgetSpent ≤ runOf budget input s .stop →
     runOf budget input s .after .registers .stop ≡ 0
 still-runs zero input s good seven = go (standing input s)
   where
@@ -135,7 +137,7 @@ still-runs (suc n) input s good seven =
     end c z =
         cond c (cond z (oneMore rest) (ending (stepOf input s .after) (stepOf input s .stop) 1)) (ending (stepOf input s .after) (stepOf input s .stop) 0)
 
-    go : (7 ≤ rest .stop → rest .after .registers .stop ≡ 0) → (c z : Bool) → stepOf input s .completed ≡ c → 7 ≤ end c z .stop →
+    go : (budgetSpent ≤ rest .stop → rest .after .registers .stop ≡ 0) → (c z : Bool) → stepOf input s .completed ≡ c → budgetSpent ≤ end c z .stop →
         end c z .after .registers .stop ≡ 0
     go h true true p l = h l
     go h true false p l =

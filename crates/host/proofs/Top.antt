@@ -9,6 +9,9 @@ use native.Mathlib.Omega.{arith}
 use borrow.Author.Tests.{leb-true, leb-false}
 use lib.Dec.{leb}
 use lib.ListN.{length, getD, replicate, List·getD-eq-default}
+use Rattle.codes.specs.Limits.{largestBudget}
+use Rattle.codes.specs.Registers.{PC}
+use Rattle.codes.specs.Stops.{budgetSpent, badLoan}
 use Rattle.machine.specs.declared.Registers.{Registers}
 use Rattle.machine.specs.declared.Stepped.{Stepped}
 use Rattle.machine.specs.declared.Ran.{Ran}
@@ -85,7 +88,7 @@ module _ (input : List ℕ) (g : Registers) (m out : List ℕ) where
         )
 
     -- "10 bad loan": nothing at all changes
-    pub bad-loan : Found g′ m′ out′ k → goodLoan input (state g m out) ≡ false → (g′ ≡ g) × (m′ ≡ m) × (out′ ≡ out) × (k ≡ 10)
+    pub bad-loan : Found g′ m′ out′ k → goodLoan input (state g m out) ≡ false → (g′ ≡ g) × (m′ ≡ m) × (out′ ≡ out) × (k ≡ badLoan)
     bad-loan p bad =
         let its = machines.bad-loan input (state g m out) bad in
         let same : state g′ m′ out′ ≡ state g m out = found-is p .0 ∙ ap (λ (a : Answer). a .after) its in (
@@ -100,7 +103,7 @@ module _ (input : List ℕ) (g : Registers) (m out : List ℕ) where
     stays-good p good = ap (λ (t : State). goodLoan input t) (found-is p .0) ∙ machines.stays-good input (state g m out) good
 
     -- 7 is a run's stop, and never a step's
-    pub never-seven : Found g′ m′ out′ k → k ≡ 7 → ⊥
+    pub never-seven : Found g′ m′ out′ k → k ≡ budgetSpent → ⊥
     never-seven p seven = step-never-seven input (state g m out) (sym (found-is p .1) ∙ seven)
 
   -- "two replies meeting it coincide": registers, memory, output and stop
@@ -116,17 +119,17 @@ module _ (input : List ℕ) (g : Registers) (m out : List ℕ) where
 
   -- ---- what the promise shuts out, whatever the code and its walk
 
-  -- a step that leaves the registers as they were: it does not meet the promise where HALT stands at PC, register 15
-  pub registers-change : goodLoan input (state g m out) ≡ true → g .stop ≡ 0 → getD m (register (state g m out) 15) 0 ≡ 64 →
+  -- a step that leaves the registers as they were: it does not meet the promise where HALT stands at PC
+  pub registers-change : goodLoan input (state g m out) ≡ true → g .stop ≡ 0 → getD m (register (state g m out) PC) 0 ≡ 64 →
       (m′ out′ : List ℕ) (k : ℕ) → Found g m′ out′ k → ⊥
   registers-change good runs word m′ out′ k p =
-      let halts = machines.HALT-completes input (state g m out) good runs (is-cell m (register (state g m out) 15) 64 word (λ z. omega (arith, z))) word in
+      let halts = machines.HALT-completes input (state g m out) good runs (is-cell m (register (state g m out) PC) 64 word (λ z. omega (arith, z))) word in
       let one : g .stop ≡ 1 =
       ap (λ (t : State). t .registers .stop) (found-is g m′ out′ k p .0) ∙ ap (λ (a : Answer). a .after .registers .stop) halts in
       omega (arith, one, runs)
 
   -- a step that returns the record's stop code for its stop: it does not meet the promise on a bad loan, unless that code is 10
-  pub stop-is-the-steps : goodLoan input (state g m out) ≡ false → (g .stop ≡ 10 → ⊥) → (g′ : Registers) (m′ out′ : List ℕ) → Found g′ m′ out′ (g′ .stop) → ⊥
+  pub stop-is-the-steps : goodLoan input (state g m out) ≡ false → (g .stop ≡ badLoan → ⊥) → (g′ : Registers) (m′ out′ : List ℕ) → Found g′ m′ out′ (g′ .stop) → ⊥
   stop-is-the-steps bad other g′ m′ out′ p =
       let found = bad-loan g′ m′ out′ (g′ .stop) p bad in other (ap (λ (r : Registers). r .stop) (sym (found .0)) ∙ found .3)
 
@@ -190,20 +193,20 @@ module _ (budget : ℕ) (input : List ℕ) (g : Registers) (m out : List ℕ) wh
         )
 
     -- "A larger budget is 10 with count 0": nothing at all changes
-    pub run-budget-past : RunFound g′ m′ out′ k n → 1000000 < budget → (g′ ≡ g) × (m′ ≡ m) × (out′ ≡ out) × (k ≡ 10) × (n ≡ 0)
-    run-budget-past p past = kept 10 p (machines.budget-past budget input (state g m out) past)
+    pub run-budget-past : RunFound g′ m′ out′ k n → largestBudget < budget → (g′ ≡ g) × (m′ ≡ m) × (out′ ≡ out) × (k ≡ badLoan) × (n ≡ 0)
+    run-budget-past p past = kept badLoan p (machines.budget-past budget input (state g m out) past)
 
     -- "10 bad loan": whatever the budget, nothing at all changes
-    pub run-bad-loan : RunFound g′ m′ out′ k n → goodLoan input (state g m out) ≡ false → (g′ ≡ g) × (m′ ≡ m) × (out′ ≡ out) × (k ≡ 10) × (n ≡ 0)
-    run-bad-loan p bad = kept 10 p (limited-bad budget input (state g m out) bad)
+    pub run-bad-loan : RunFound g′ m′ out′ k n → goodLoan input (state g m out) ≡ false → (g′ ≡ g) × (m′ ≡ m) × (out′ ≡ out) × (k ≡ badLoan) × (n ≡ 0)
+    run-bad-loan p bad = kept badLoan p (limited-bad budget input (state g m out) bad)
 
     -- "stopped already": a stopped machine repeats its stop, and nothing changes
-    pub run-stopped-already : RunFound g′ m′ out′ k n → budget ≤ 1000000 → goodLoan input (state g m out) ≡ true → (g .stop ≡ 0 → ⊥) →
+    pub run-stopped-already : RunFound g′ m′ out′ k n → budget ≤ largestBudget → goodLoan input (state g m out) ≡ true → (g .stop ≡ 0 → ⊥) →
         (g′ ≡ g) × (m′ ≡ m) × (out′ ≡ out) × (k ≡ g .stop) × (n ≡ 0)
     run-stopped-already p within good stopped = kept (g .stop) p (limited-stopped budget input (state g m out) within good stopped)
 
     -- the count is the run's: what is found is as many defined steps on as it says, all of them completed
-    pub run-counts : RunFound g′ m′ out′ k n → budget ≤ 1000000 → Counted budget input (state g m out) (ending (state g′ m′ out′) k n)
+    pub run-counts : RunFound g′ m′ out′ k n → budget ≤ largestBudget → Counted budget input (state g m out) (ending (state g′ m′ out′) k n)
     run-counts p within = rw (p ∙ machines.budget-within budget input (state g m out) within) (machines.run-counts budget input (state g m out))
 
     -- 0 is a step's stop, and never a run's
@@ -215,7 +218,7 @@ module _ (budget : ℕ) (input : List ℕ) (g : Registers) (m out : List ℕ) wh
     run-stays-good p good = ap (goodLoan input) (run-found-is p .0) ∙ run-keeps-good budget input (state g m out) good
 
     -- "7, 8, 9 can be resumed": the machine has not stopped
-    pub run-can-resume : RunFound g′ m′ out′ k n → budget ≤ 1000000 → goodLoan input (state g m out) ≡ true → 7 ≤ k → g′ .stop ≡ 0
+    pub run-can-resume : RunFound g′ m′ out′ k n → budget ≤ largestBudget → goodLoan input (state g m out) ≡ true → budgetSpent ≤ k → g′ .stop ≡ 0
     run-can-resume p within good seven =
         let found = p ∙ machines.budget-within budget input (state g m out) within in
         ap (λ (e : Ending). e .after .registers .stop) found ∙
@@ -235,11 +238,11 @@ module _ (budget : ℕ) (input : List ℕ) (g : Registers) (m out : List ℕ) wh
 
   -- ---- what the promise shuts out, whatever the code and its walk
 
-  -- where HALT stands at PC, register 15, one step completes: the stop code, the stop and the count are 1, whatever the budget left
-  pub run-halts : goodLoan input (state g m out) ≡ true → g .stop ≡ 0 → getD m (register (state g m out) 15) 0 ≡ 64 → 0 < budget → budget ≤ 1000000 →
+  -- where HALT stands at PC one step completes: the stop code, the stop and the count are 1, whatever the budget left
+  pub run-halts : goodLoan input (state g m out) ≡ true → g .stop ≡ 0 → getD m (register (state g m out) PC) 0 ≡ 64 → 0 < budget → budget ≤ largestBudget →
       (g′ : Registers) (m′ out′ : List ℕ) (k n : ℕ) → RunFound g′ m′ out′ k n → (g′ .stop ≡ 1) × (k ≡ 1) × (n ≡ 1)
   run-halts good runs word some within g′ m′ out′ k n p =
-      let halts = machines.HALT-completes input (state g m out) good runs (is-cell m (register (state g m out) 15) 64 word (λ z. omega (arith, z))) word in
+      let halts = machines.HALT-completes input (state g m out) good runs (is-cell m (register (state g m out) PC) 64 word (λ z. omega (arith, z))) word in
       let found = p ∙ machines.budget-within budget input (state g m out) within ∙ runs-once input (state g m out) budget some _ halts in (
         ap (λ (e : Ending). e .after .registers .stop) found,
         ap (λ (e : Ending). e .stop) found,
@@ -247,13 +250,13 @@ module _ (budget : ℕ) (input : List ℕ) (g : Registers) (m out : List ℕ) wh
       )
 
   -- so a run that leaves the registers as they were does not meet it
-  pub run-registers-change : goodLoan input (state g m out) ≡ true → g .stop ≡ 0 → getD m (register (state g m out) 15) 0 ≡ 64 → 0 < budget →
-      budget ≤ 1000000 → (m′ out′ : List ℕ) (k n : ℕ) → RunFound g m′ out′ k n → ⊥
+  pub run-registers-change : goodLoan input (state g m out) ≡ true → g .stop ≡ 0 → getD m (register (state g m out) PC) 0 ≡ 64 → 0 < budget →
+      budget ≤ largestBudget → (m′ out′ : List ℕ) (k n : ℕ) → RunFound g m′ out′ k n → ⊥
   run-registers-change good runs word some within m′ out′ k n p =
       omega (arith, runs, run-halts good runs word some within g m′ out′ k n p .0)
 
   -- a run that returns the record's stop code for its stop: it does not meet the promise on a bad loan, unless that code is 10
-  pub run-stop-is-the-runs : goodLoan input (state g m out) ≡ false → (g .stop ≡ 10 → ⊥) → (g′ : Registers) (m′ out′ : List ℕ) (n : ℕ) →
+  pub run-stop-is-the-runs : goodLoan input (state g m out) ≡ false → (g .stop ≡ badLoan → ⊥) → (g′ : Registers) (m′ out′ : List ℕ) (n : ℕ) →
       RunFound g′ m′ out′ (g′ .stop) n → ⊥
   run-stop-is-the-runs bad other g′ m′ out′ n p =
       let found = run-bad-loan g′ m′ out′ (g′ .stop) n p bad in other (ap (λ (r : Registers). r .stop) (sym (found .0)) ∙ found .3)
@@ -261,7 +264,7 @@ module _ (budget : ℕ) (input : List ℕ) (g : Registers) (m out : List ℕ) wh
 -- a host that calls twice, with a step in the second budget, finds what one call of both budgets leaves, and its counts add up
 pub run-resumed : (a b : ℕ) (input : List ℕ) (g : Registers) (m out : List ℕ) (g′ : Registers) (m′ out′ : List ℕ) (k i : ℕ)
     (g″ : Registers) (m″ out″ : List ℕ) (l j : ℕ) →
-    a + b ≤ 1000000 → 0 < b → RunFound a input g m out g′ m′ out′ k i → RunFound b input g′ m′ out′ g″ m″ out″ l j →
+    a + b ≤ largestBudget → 0 < b → RunFound a input g m out g′ m′ out′ k i → RunFound b input g′ m′ out′ g″ m″ out″ l j →
     RunFound (a + b) input g m out g″ m″ out″ l (i + j)
 run-resumed a b input g m out g′ m′ out′ k i g″ m″ out″ l j within some p q =
     let first = p ∙ machines.budget-within a input (state g m out) (omega (arith, within)) in
@@ -276,6 +279,6 @@ run-resumed a b input g m out g′ m′ out′ k i g″ m″ out″ l j within s
     ∙ sym (ap (λ (e : Ending). e .count) whole ∙ machines.resumed-count a b input (state g m out)))
 
 -- and of a machine that starts with HALT in its one cell: what is found there, and that the count is no other
-pub run-at-HALT : (g′ : Registers) (m′ out′ : List ℕ) (k n : ℕ) → RunFound 1000000 [] new (64 ∷ []) [] g′ m′ out′ k n → (g′ .stop ≡ 1) × (k ≡ 1) × (n ≡ 1)
+pub run-at-HALT : (g′ : Registers) (m′ out′ : List ℕ) (k n : ℕ) → RunFound largestBudget [] new (64 ∷ []) [] g′ m′ out′ k n → (g′ .stop ≡ 1) × (k ≡ 1) × (n ≡ 1)
 unfolding goodLoan
-run-at-HALT = run-halts 1000000 [] new (64 ∷ []) [] refl refl refl (omega arith) (omega arith)
+run-at-HALT = run-halts largestBudget [] new (64 ∷ []) [] refl refl refl (omega arith) (omega arith)
