@@ -104,7 +104,7 @@ module _ (input : List ℕ) (g : Registers) (m out : List ℕ) where
   pub registers-change : goodLoan input (state g m out) ≡ true → g .stop ≡ 0 → register (state g m out) 15 < length m →
       getD m (register (state g m out) 15) 0 ≡ 64 → (m′ out′ : List ℕ) (k : ℕ) → Found g m′ out′ k → ⊥
   registers-change good runs there word m′ out′ k p =
-      let halts = machines.HALT-completes input (state g m out) good runs there word in
+      let halts = machines.HALT-completes input (state g m out) good runs word in
       let one : g .stop ≡ 1 =
       ap (λ (t : State). t .registers .stop) (found-is g m′ out′ k p .0) ∙ ap (λ (a : Answer). a .after .registers .stop) halts in
       omega (arith, one, runs)
