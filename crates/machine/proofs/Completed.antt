@@ -31,7 +31,8 @@ use Rattle.machine.specs.States.{State, state, machine, register}
 use Rattle.machine.specs.Stops.{answer, goodLoan}
 use Rattle.machine.specs.Steps.{stopAt, does, performed, stepOf}
 use Rattle.machine.proofs.Orders.{step-decoded}
-use Rattle.machine.proofs.Kept.{two, one, alone, Reads, valueIn, placeIn, There, completes, does-nowhere, does-cell, does-register, does-SR, writes-register, same-SP, kept-past}
+use Rattle.machine.proofs.Kept.{two, one, alone, Reads, valueIn, placeIn, There, completes}
+use Rattle.machine.proofs.Kept.{does-nowhere, does-cell, does-register, does-SR, writes-register, same-SP, kept-past}
 
 module _ (input : List ℕ) (s : State) (good : goodLoan input s ≡ true) (runs : s .registers .stop ≡ 0) (next : ℕ) where
   abbrev r : List ℕ
