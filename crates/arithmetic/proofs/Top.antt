@@ -7,7 +7,7 @@ use lib.Signed.{quotZ, remZ}
 use Rattle.arithmetic.specs.Cells.{signed, leaves16}
 use Rattle.arithmetic.specs.Flags.{flagsOf}
 use Rattle.arithmetic.specs.Marked.{MarkedArithmetic}
-use Rattle.arithmetic.specs.Operations.{outcome, ADD, SUB, MUL, DIV, CMP, leastByMinusOne}
+use Rattle.arithmetic.specs.Operations.{outcome, ADD, SUB, MUL, DIV, MOD, CMP, leastByMinusOne, stopOfDivision}
 use Rattle.arithmetic.proofs.Laws.{flags-word, quotient-leaves, remainder-stays}
 
 -- "Table to prove, marked set": its arithmetic rows
@@ -34,6 +34,15 @@ compares-by-difference x y = refl
 -- "SR bits: Z 0, C 1, V 2, P 3, S 4": a flags word has no other bit, and so none of H's
 pub five-flags : (r : ℕ) (carry overflow : Bool) → flagsOf r carry overflow < 32
 five-flags r carry overflow = flags-word r carry overflow .five-bits
+
+-- "6 zero divisor": DIV and MOD by 0 have no result, whatever the dividend
+pub DIV-by-zero : (x : ℕ) → stopOfDivision (DIV x 0) ≡ 6
+unfolding DIV
+DIV-by-zero x = refl
+
+pub MOD-by-zero : (x : ℕ) → stopOfDivision (MOD x 0) ≡ 6
+unfolding MOD
+MOD-by-zero x = refl
 
 -- "V is 1 only for DIV at -32768/-1": there alone the signed quotient leaves 16 bits
 pub overflow-of-DIV : (x y : ℕ) → x < 65536 → y < 65536 → leastByMinusOne x y ≡ leaves16 (quotZ (signed x) (signed y))

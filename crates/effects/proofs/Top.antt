@@ -1,7 +1,7 @@
 -- What the effects promise, for a reader. Each function's promise is one equation, r ≡ its meaning in specs/; here are the
 -- sentences of document 01 that are easy to miss, as they come out of `performOf`, `registersAfter` and `memoryAfter`.
 use mathlib.Core.Path.{_≡_, refl, sym, _∙_}
-use mathlib.Core.Bool.{Bool, true, false, cond, not, _||_}
+use mathlib.Core.Bool.{Bool, true, false, cond, not, _&&_, _||_}
 use mathlib.Core.List.{List}
 use Prim.Native.Nat.{ℕ, _+_, _-_, _*_, _/_, _%_, _≤_, _<_}
 use native.Mathlib.Omega.{arith}
@@ -57,8 +57,27 @@ memoryBy m Halts = m
 memoryBy m (Asks q) = m
 memoryBy m (Stops k) = m
 
+-- stop 5 either way
+either-way : (t : Bool) → cond (t && true) (Stops 5) (Stops 5) ≡ Stops 5
+either-way true = refl
+either-way false = refl
+
 module _ (r m : List ℕ) (next : ℕ) where
   -- ---- the stack
+
+  -- "PUSH stores at SP, then SP falls", whatever is pushed
+  pub push : (a : Operand) → thereIn (length m) (placeOf r next a) ≡ true → getD r SP 0 < length m →
+      performOf r m next (one O.PUSH a) ≡
+      effect next ((getD r SP 0 + 65535) % 65536) (InCell (getD r SP 0)) (valueAt r m next (placeOf r next a)) Unchanged
+  unfolding performOf addressesThere table placeOf thereIn byOpcode pushes pushCell pushedSp writes
+  push a t h = rw (t, lt-ltb (getD r SP 0) (length m) h)
+
+  -- "POP raises SP, then reads", wherever the number goes
+  pub pop : (a : Operand) → thereIn (length m) (placeOf r next a) ≡ true → (getD r SP 0 + 1) % 65536 < length m →
+      performOf r m next (one O.POP a) ≡
+      Does (writes next ((getD r SP 0 + 1) % 65536) (placeOf r next a) (getD m ((getD r SP 0 + 1) % 65536) 0) Unchanged)
+  unfolding performOf addressesThere table placeOf thereIn byOpcode pops popCell poppedSp
+  pop a t h = rw (t, lt-ltb ((getD r SP 0 + 1) % 65536) (length m) h)
 
   -- "`POP .SP` ends with the popped number"
   pub pop-SP : length r ≡ 16 → (getD r SP 0 + 1) % 65536 < length m →
@@ -82,7 +101,14 @@ module _ (r m : List ℕ) (next : ℕ) where
   unfolding performOf addressesThere table placeOf thereIn see byOpcode pops popCell poppedSp writes memoryAfter
   pop-at-SP h k = rw (lt-ltb (getD r SP 0) (length m) h, lt-ltb ((getD r SP 0 + 1) % 65536) (length m) k)
 
-  -- "CALL pushes the next address", modulo 65536, and goes to its target
+  -- "CALL pushes the next address", modulo 65536, and goes to its target, whatever that is
+  pub calls : (a : Operand) → getD r SP 0 < length m →
+      performOf r m next (one O.CALL a) ≡
+      effect (targetOf (placeOf r next a)) ((getD r SP 0 + 65535) % 65536) (InCell (getD r SP 0)) (next % 65536) Unchanged
+  unfolding performOf addressesThere table byOpcode pushes pushCell pushedSp writes
+  calls a h = rw (lt-ltb (getD r SP 0) (length m) h)
+
+  -- `CALL /a`
   pub call : (a : ℕ) → getD r SP 0 < length m →
       performOf r m next (one O.CALL (Memory a)) ≡
       effect a ((getD r SP 0 + 65535) % 65536) (InCell (getD r SP 0)) (next % 65536) Unchanged
@@ -188,11 +214,33 @@ module _ (r m : List ℕ) (next : ℕ) where
   unfolding performOf addressesThere table placeOf thereIn
   outside-first a h = rw (le-ltb a (length m) h)
 
-  -- "6 zero divisor", the operands being there
+  -- "6 zero divisor", the operands being there: DIV and MOD
   pub zero-divisor : (a b : Operand) → thereIn (length m) (placeOf r next a) ≡ true → thereIn (length m) (placeOf r next b) ≡ true →
       valueAt r m next (placeOf r next b) ≡ 0 → performOf r m next (two O.DIV a b) ≡ Stops 6
   unfolding performOf addressesThere table byOpcode Op.DIV
   zero-divisor a b h k z = rw (h, k, z)
+
+  pub zero-divisor-of-MOD : (a b : Operand) → thereIn (length m) (placeOf r next a) ≡ true → thereIn (length m) (placeOf r next b) ≡ true →
+      valueAt r m next (placeOf r next b) ≡ 0 → performOf r m next (two O.MOD a b) ≡ Stops 6
+  unfolding performOf addressesThere table byOpcode Op.MOD
+  zero-divisor-of-MOD a b h k z = rw (h, k, z)
+
+  -- "stack (5)": a cell at or past M, wherever the operand is, since one outside memory is 5 too
+  pub push-past : (a : Operand) → length m ≤ getD r SP 0 → performOf r m next (one O.PUSH a) ≡ Stops 5
+  unfolding performOf addressesThere table placeOf thereIn byOpcode pushes pushCell
+  push-past a h = rw (le-ltb (getD r SP 0) (length m) h) (either-way (thereIn (length m) (placeOf r next a)))
+
+  pub pop-past : (a : Operand) → length m ≤ (getD r SP 0 + 1) % 65536 → performOf r m next (one O.POP a) ≡ Stops 5
+  unfolding performOf addressesThere table placeOf thereIn byOpcode pops popCell
+  pop-past a h = rw (le-ltb ((getD r SP 0 + 1) % 65536) (length m) h) (either-way (thereIn (length m) (placeOf r next a)))
+
+  pub call-past : (a : Operand) → length m ≤ getD r SP 0 → performOf r m next (one O.CALL a) ≡ Stops 5
+  unfolding performOf addressesThere table byOpcode pushes pushCell
+  call-past a h = rw (le-ltb (getD r SP 0) (length m) h)
+
+  pub ret-past : length m ≤ (getD r SP 0 + 1) % 65536 → performOf r m next (two O.RET Absent Absent) ≡ Stops 5
+  unfolding performOf addressesThere table placeOf thereIn byOpcode pops popCell
+  ret-past h = rw (le-ltb ((getD r SP 0 + 1) % 65536) (length m) h)
 
 -- CALL at the top of a memory of 65,536 pushes 0
 pub call-at-top : (r m : List ℕ) (a : ℕ) → getD r SP 0 < length m →

@@ -5,7 +5,7 @@ use mathlib.Core.Bool.{Bool, true, cond, _&&_, _||_}
 use mathlib.Core.List.{List}
 use lib.Dec.{ltb, eqb}
 use lib.ListN.{length, getD}
-use Rattle.codes.specs.Stops.{memoryEnd, zeroDivisor}
+use Rattle.codes.specs.Stops.{memoryEnd}
 use Rattle.codes.specs.Registers.{A, SR, SP, PC}
 use Rattle.isa.specs.Opcodes.{table}
 use Rattle.isa.specs.Operands.{isTarget}
@@ -64,10 +64,10 @@ results f place o = Does (writes (f .next) (f .sp) place (o .value) (Become (o .
 abbrev pub toA : Place
 toA = InRegister A
 
--- the quotient or the remainder to the accumulator; a zero divisor is stop 6
+-- the quotient or the remainder to the accumulator; a zero divisor is its stop, 6
 abbrev pub dividesTo : ℕ → ℕ → Division → Performed
 dividesTo next sp (Done o) = Does (writes next sp toA (o .value) (Become (o .flags)))
-dividesTo next sp ByZero = Stops zeroDivisor
+dividesTo next sp ByZero = Stops (Op.stopOfDivision ByZero)
 
 abbrev pub divides : Found → Division → Performed
 divides f d = dividesTo (f .next) (f .sp) d

@@ -6,16 +6,14 @@ use mathlib.Core.Bool.{Bool, true, false, cond}
 use mathlib.Core.List.{List, [], _∷_}
 use Prim.Native.Nat.{ℕ, _+_, _≤_, _<_}
 use native.Mathlib.Omega.{arith}
-use borrow.Author.Tests.{leb-true, leb-false}
-use lib.Dec.{leb}
-use lib.ListN.{length, getD, replicate, List·getD-eq-default}
+use lib.ListN.{getD}
 use Rattle.codes.specs.Limits.{largestBudget}
 use Rattle.codes.specs.Registers.{PC}
 use Rattle.codes.specs.Stops.{budgetSpent, badLoan}
 use Rattle.machine.specs.declared.Registers.{Registers}
 use Rattle.machine.specs.declared.Stepped.{Stepped}
 use Rattle.machine.specs.declared.Ran.{Ran}
-use Rattle.machine.specs.States.{State, state, machine, register}
+use Rattle.machine.specs.States.{State, state, machine, start, register}
 use Rattle.machine.specs.Stops.{Answer, goodLoan, isStored}
 use Rattle.machine.specs.Steps.{Reply, reply, stepOf, replyOf}
 use Rattle.machine.specs.Runs.{Ending, ending, runOf, limitedRun}
@@ -25,14 +23,6 @@ use Rattle.machine.proofs.Counts.{Counted}
 use Rattle.host.proofs.Runs.{limited-bad, limited-stopped, runs-once, run-keeps-good, run-not-none, still-runs}
 
 -- ---- one step
-
--- a number other than 0 that is read at an address stands in a cell: past the end 0 is read
-is-cell : (m : List ℕ) (i w : ℕ) → getD m i 0 ≡ w → (w ≡ 0 → ⊥) → i < length m
-is-cell m i w reads other = go (leb (length m) i) refl
-  where
-    go : (t : Bool) → leb (length m) i ≡ t → i < length m
-    go true e = absurd (other (sym reads ∙ List·getD-eq-default m 0 (leb-true _ _ e)))
-    go false e = leb-false _ _ e
 
 -- what the host lends, and what it finds where that lies, with the stop that the call returns
 module _ (input : List ℕ) (g : Registers) (m out : List ℕ) where
@@ -123,7 +113,7 @@ module _ (input : List ℕ) (g : Registers) (m out : List ℕ) where
   pub registers-change : goodLoan input (state g m out) ≡ true → g .stop ≡ 0 → getD m (register (state g m out) PC) 0 ≡ 64 →
       (m′ out′ : List ℕ) (k : ℕ) → Found g m′ out′ k → ⊥
   registers-change good runs word m′ out′ k p =
-      let halts = machines.HALT-completes input (state g m out) good runs (is-cell m (register (state g m out) PC) 64 word (λ z. omega (arith, z))) word in
+      let halts = machines.HALT-completes input (state g m out) good runs word in
       let one : g .stop ≡ 1 =
       ap (λ (t : State). t .registers .stop) (found-is g m′ out′ k p .0) ∙ ap (λ (a : Answer). a .after .registers .stop) halts in
       omega (arith, one, runs)
@@ -134,16 +124,14 @@ module _ (input : List ℕ) (g : Registers) (m out : List ℕ) where
       let found = bad-loan g′ m′ out′ (g′ .stop) p bad in other (ap (λ (r : Registers). r .stop) (sym (found .0)) ∙ found .3)
 
 -- both, of a machine that starts: HALT in its one cell, and no cell at all
-abbrev new : Registers
-new = machine (replicate 16 0) 0 0 0
 
-pub registers-change-at-HALT : (m′ out′ : List ℕ) (k : ℕ) → Found [] new (64 ∷ []) [] new m′ out′ k → ⊥
+pub registers-change-at-HALT : (m′ out′ : List ℕ) (k : ℕ) → Found [] start (64 ∷ []) [] start m′ out′ k → ⊥
 unfolding goodLoan
-registers-change-at-HALT = registers-change [] new (64 ∷ []) [] refl refl refl
+registers-change-at-HALT = registers-change [] start (64 ∷ []) [] refl refl refl
 
-pub stop-10-of-no-cell : (g′ : Registers) (m′ out′ : List ℕ) → Found [] new [] [] g′ m′ out′ (g′ .stop) → ⊥
+pub stop-10-of-no-cell : (g′ : Registers) (m′ out′ : List ℕ) → Found [] start [] [] g′ m′ out′ (g′ .stop) → ⊥
 unfolding goodLoan
-stop-10-of-no-cell = stop-is-the-steps [] new [] [] refl (λ e. omega (arith, e))
+stop-10-of-no-cell = stop-is-the-steps [] start [] [] refl (λ e. omega (arith, e))
 
 -- ---- a run
 
@@ -242,7 +230,7 @@ module _ (budget : ℕ) (input : List ℕ) (g : Registers) (m out : List ℕ) wh
   pub run-halts : goodLoan input (state g m out) ≡ true → g .stop ≡ 0 → getD m (register (state g m out) PC) 0 ≡ 64 → 0 < budget → budget ≤ largestBudget →
       (g′ : Registers) (m′ out′ : List ℕ) (k n : ℕ) → RunFound g′ m′ out′ k n → (g′ .stop ≡ 1) × (k ≡ 1) × (n ≡ 1)
   run-halts good runs word some within g′ m′ out′ k n p =
-      let halts = machines.HALT-completes input (state g m out) good runs (is-cell m (register (state g m out) PC) 64 word (λ z. omega (arith, z))) word in
+      let halts = machines.HALT-completes input (state g m out) good runs word in
       let found = p ∙ machines.budget-within budget input (state g m out) within ∙ runs-once input (state g m out) budget some _ halts in (
         ap (λ (e : Ending). e .after .registers .stop) found,
         ap (λ (e : Ending). e .stop) found,
@@ -279,6 +267,6 @@ run-resumed a b input g m out g′ m′ out′ k i g″ m″ out″ l j within s
     ∙ sym (ap (λ (e : Ending). e .count) whole ∙ machines.resumed-count a b input (state g m out)))
 
 -- and of a machine that starts with HALT in its one cell: what is found there, and that the count is no other
-pub run-at-HALT : (g′ : Registers) (m′ out′ : List ℕ) (k n : ℕ) → RunFound largestBudget [] new (64 ∷ []) [] g′ m′ out′ k n → (g′ .stop ≡ 1) × (k ≡ 1) × (n ≡ 1)
+pub run-at-HALT : (g′ : Registers) (m′ out′ : List ℕ) (k n : ℕ) → RunFound largestBudget [] start (64 ∷ []) [] g′ m′ out′ k n → (g′ .stop ≡ 1) × (k ≡ 1) × (n ≡ 1)
 unfolding goodLoan
-run-at-HALT = run-halts largestBudget [] new (64 ∷ []) [] refl refl refl (omega arith) (omega arith)
+run-at-HALT = run-halts largestBudget [] start (64 ∷ []) [] refl refl refl (omega arith) (omega arith)

@@ -16,7 +16,7 @@ use Rattle.isa.specs.declared.Decoded.{Decoded}
 use Rattle.isa.specs.declared.Decoded.the-variants.{Read, NoOpcode, NoMode, NoRegister, PastMemory}
 use Rattle.isa.specs.Opcodes.{table}
 use Rattle.isa.specs.Operands.{modeOf, operandWords, wordOf, registerThere, modesOf, oneOf, operandOf}
-use Rattle.isa.specs.Encoding.{firstWordOf, wordsOf, allowed, handedBack, encodeOf, wordsIn}
+use Rattle.isa.specs.Encoding.{firstWordOf, wordsOf, allowed, encoding, encodeOf}
 use Rattle.isa.specs.Decoding.{opcodeIn, mode1In, mode2In, modesAllowed, sizeIn, instructionIn, registersThere, readUnless, decodeWord, decodeOf, stopOf, wordsOfMode}
 use Rattle.isa.proofs.Tests.{both-true}
 use Rattle.isa.proofs.Numbers.{number-of-opcode}
@@ -228,8 +228,8 @@ between m at next = take (next - at) (drop at m)
 pub record Returns (m : List ℕ) (at : ℕ) (i : Instruction) (next : Address) : Type 0 where
   pub is-allowed : allowed i ≡ true
   pub its-words : wordsOf i ≡ between m at (next .0)
-  pub its-encoding : encodeOf i ≡ handedBack (wordsOf i)
-  pub same-words : wordsIn (encodeOf i) ≡ between m at (next .0)
+  pub its-encoding : encodeOf i ≡ encoding 0 (wordsOf i)
+  pub same-words : encodeOf i .words ≡ between m at (next .0)
   pub onward : at < next .0
   pub within : next .0 ≤ length m
   pub short : next .0 ≤ at + 3

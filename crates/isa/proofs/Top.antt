@@ -14,10 +14,11 @@ use Rattle.isa.specs.declared.Operand.the-variants.{Absent, Register, In
 use Rattle.isa.specs.declared.Instruction.{Instruction}
 use Rattle.isa.specs.declared.Address.{Address}
 use Rattle.isa.specs.declared.Decoded.the-variants.{Read}
+use Rattle.isa.specs.declared.Encoded.{Encoded}
 use Rattle.isa.specs.Opcodes.{table, opcodes, opcodeOf, countOf}
 use Rattle.isa.specs.Operands.{allows, operandOf}
 use Rattle.codes.specs.Registers.{PC, isRegister}
-use Rattle.isa.specs.Encoding.{firstWordOf, wordsOf, allowed, encodeOf, refusalOf, wordsIn}
+use Rattle.isa.specs.Encoding.{firstWordOf, wordsOf, allowed, Encoding, encodeOf, answered}
 use Rattle.isa.specs.Decoding.{modesAllowed, sizeIn, instructionIn, readUnless, decodeWord, decodeOf, stopOf}
 use Rattle.isa.specs.Marked.{MarkedInstructions, instruction}
 use Rattle.isa.proofs.Numbers as numbers
@@ -37,10 +38,10 @@ marked = record {
 }
 
 -- "Encoding any other instruction is 5": the words come back where the instruction is allowed, and 5 everywhere else
-pub encoder : (i : Instruction) → refusalOf (encodeOf i) ≡ cond (allowed i) 0 5
+pub encoder : (i : Instruction) → encodeOf i .refusal ≡ cond (allowed i) 0 5
 encoder = words.refusal
 
-pub encoder-words : (i : Instruction) → allowed i ≡ true → wordsIn (encodeOf i) ≡ wordsOf i
+pub encoder-words : (i : Instruction) → allowed i ≡ true → encodeOf i .words ≡ wordsOf i
 encoder-words = words.encode-words
 
 -- "First word .., then one word per operand": an allowed instruction has as many words as its opcode has operands, plus one
@@ -54,7 +55,7 @@ decode-encode = round-trip.decode-encode
 
 -- What is decoded is an allowed instruction whose words, operand words included, are those that were read; they are all there
 pub encode-decode : (m : List ℕ) (at : ℕ) (i : Instruction) (next : Address) → decodeOf m at ≡ Read i next
-    → (allowed i ≡ true) × (wordsIn (encodeOf i) ≡ take (next .0 - at) (drop at m)) × (at < next .0) × (next .0 ≤ length m)
+    → (allowed i ≡ true) × (encodeOf i .words ≡ take (next .0 - at) (drop at m)) × (at < next .0) × (next .0 ≤ length m)
 encode-decode m at i next e =
     let r = round-trip.encode-decode m at i next e in
     (r .is-allowed, r .same-words, r .onward, r .within)
@@ -100,12 +101,12 @@ pub record RefusedExamples : Type 0 where
   pub register : stopOf (decodeOf (146 ∷ 16 ∷ 0 ∷ []) 0) ≡ 4
   pub second-register : stopOf (decodeOf (146 ∷ 0 ∷ 16 ∷ []) 0) ≡ 4
   -- "Testing mode 7 by code lets `INC $3` pass as SP-indexed"
-  pub relative : refusalOf (encodeOf (instruction INC (Relative 3) Absent)) ≡ 5
-  pub indexed : refusalOf (encodeOf (instruction BR (IndexedSp 3) Absent)) ≡ 5
+  pub relative : encodeOf (instruction INC (Relative 3) Absent) .refusal ≡ 5
+  pub indexed : encodeOf (instruction BR (IndexedSp 3) Absent) .refusal ≡ 5
   -- "Its `BZ .R3` is refused: the opcode's own list decides"
-  pub branch : refusalOf (encodeOf (instruction BZ (Register 3) Absent)) ≡ 5
+  pub branch : encodeOf (instruction BZ (Register 3) Absent) .refusal ≡ 5
   -- a register code of 16
-  pub code : refusalOf (encodeOf (instruction MOVE (Register 16) (Register 0))) ≡ 5
+  pub code : encodeOf (instruction MOVE (Register 16) (Register 0)) .refusal ≡ 5
 
 pub refused : RefusedExamples
 unfolding decodeOf decodeWord modesAllowed sizeIn instructionIn readUnless opcodeOf opcodes operandOf encodeOf allowed allows wordsOf firstWordOf table
@@ -127,3 +128,7 @@ refused = record {
 -- Each function's promise says that its reply is a meaning, so two replies that keep it are one
 pub one-reply : {A : Type 0} {meaning r s : A} → r ≡ meaning → s ≡ meaning → r ≡ s
 one-reply e f = e ∙ sym f
+
+-- and the encoder's says its number and words, so two answers that keep it are one
+pub one-encoding : {meaning : Encoding} {r s : Encoded} → answered r ≡ meaning → answered s ≡ meaning → r ≡ s
+one-encoding {r = r} {s = s} e f = words.same-answer r s (e ∙ sym f)

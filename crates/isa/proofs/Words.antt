@@ -1,5 +1,5 @@
 -- The words of an instruction and the encoder's answer (01, "Layout"). Assumes nothing.
-use mathlib.Core.Path.{_≡_, refl, sym, ap, _∙_}
+use mathlib.Core.Path.{_≡_, refl, sym, ap, ap₂, _∙_}
 use mathlib.Core.Bool.{Bool, true, false, cond, _&&_}
 use mathlib.Core.List.{List, [], _∷_, _++_}
 use Prim.Native.Nat.{ℕ, suc, _<_, _≤_}
@@ -14,7 +14,7 @@ use Rattle.isa.specs.declared.Encoded.{Encoded}
 use Rattle.isa.specs.declared.Encoded.the-variants.{One, Two, Three, Refused}
 use Rattle.isa.specs.Opcodes.{table, opcodes, opcodeOf, presentIn, countOf}
 use Rattle.isa.specs.Operands.{modeOf, operandWords, wordOf, registerThere, modesOf, oneOf, seventhFits, allows}
-use Rattle.isa.specs.Encoding.{firstWordOf, wordsOf, allowed, handedBack, encodeOf, refusalOf, wordsIn}
+use Rattle.isa.specs.Encoding.{firstWordOf, wordsOf, allowed, handedBack, Encoding, encoding, encodeOf, refusalOf, wordsIn, answered}
 use Rattle.isa.specs.Decoding.{opcodeIn, mode1In, mode2In, modesAllowed, sizeIn, wordsOfMode}
 use Rattle.isa.proofs.Tests.{both-true}
 use Rattle.isa.proofs.Numbers.{number-below, opcode-of-number, each}
@@ -109,12 +109,6 @@ pub words-count : (i : Instruction) → allowed i ≡ true → length (wordsOf i
 words-count i t =
     omega (arith, words-length i, size-by-count (firstWordOf i) (first-word-allowed i t), ap countOf (opcode-in i))
 
--- an allowed instruction is handed back as its words, whichever way its first word was found
-pub encoded : (i : Instruction) (w : ℕ) → allowed i ≡ true → w ≡ firstWordOf i
-    → encodeOf i ≡ handedBack (w ∷ operandWords (i .first) ++ operandWords (i .second))
-unfolding encodeOf wordsOf
-encoded i w t e = rw t (ap (λ (x : ℕ). handedBack (x ∷ operandWords (i .first) ++ operandWords (i .second))) (sym e))
-
 handed-back : (w : ℕ) (xs ys : List ℕ) → length xs ≤ 1 → length ys ≤ 1 → wordsIn (handedBack (w ∷ xs ++ ys)) ≡ w ∷ xs ++ ys
 handed-back w [] [] h k = refl
 handed-back w [] (y ∷ []) h k = refl
@@ -143,23 +137,38 @@ no-refusal (Two a b) w ws e = refl
 no-refusal (Three a b c) w ws e = refl
 no-refusal Refused w ws e = let z : _≡_ {A = ℕ} 0 1 = cc in absurd (omega arith)
 
--- "Encoding any other instruction is 5": 0 exactly where the instruction is allowed, and then the answer is its words
+-- an allowed instruction is handed back as its words, whichever way its first word was found
+pub encoded : (i : Instruction) (w : ℕ) → allowed i ≡ true → w ≡ firstWordOf i
+    → answered (handedBack (w ∷ operandWords (i .first) ++ operandWords (i .second))) ≡ encodeOf i
+unfolding encodeOf wordsOf
+encoded i w t e =
+    let operands = operandWords (i .first) ++ operandWords (i .second) in
+    let its-words = words-handed-back i in
+    rw (e, t) (ap₂ encoding (no-refusal (handedBack (firstWordOf i ∷ operands)) (firstWordOf i) operands its-words) its-words)
+
+-- "Encoding any other instruction is 5": 0 exactly where the instruction is allowed, and then its words
 module _ (i : Instruction) where
-  pub encode-allowed : allowed i ≡ true → encodeOf i ≡ handedBack (wordsOf i)
+  pub encode-allowed : allowed i ≡ true → encodeOf i ≡ encoding 0 (wordsOf i)
   unfolding encodeOf
   encode-allowed t = rw t
 
-  pub encode-refused : allowed i ≡ false → encodeOf i ≡ Refused
+  pub encode-words : allowed i ≡ true → encodeOf i .words ≡ wordsOf i
+  encode-words t = ap (λ (e : Encoding). e .words) (encode-allowed t)
+
+  pub refusal : encodeOf i .refusal ≡ cond (allowed i) 0 5
   unfolding encodeOf
-  encode-refused n = rw n
+  refusal = by (allowed i)
+    where
+      by : (b : Bool) → cond b (encoding 0 (wordsOf i)) (encoding 5 []) .refusal ≡ cond b 0 5
+      by true = refl
+      by false = refl
 
-  pub encode-words : allowed i ≡ true → wordsIn (encodeOf i) ≡ wordsOf i
-  encode-words t = ap wordsIn (encode-allowed t) ∙ words-handed-back i
+-- an answer is told by its words
+back-in-hand : (e : Encoded) → handedBack (wordsIn e) ≡ e
+back-in-hand (One a) = refl
+back-in-hand (Two a b) = refl
+back-in-hand (Three a b c) = refl
+back-in-hand Refused = refl
 
-  refusal-by : (b : Bool) → allowed i ≡ b → refusalOf (encodeOf i) ≡ cond b 0 5
-  unfolding wordsOf
-  refusal-by true t = no-refusal (encodeOf i) (firstWordOf i) (operandWords (i .first) ++ operandWords (i .second)) (encode-words t)
-  refusal-by false n = ap refusalOf (encode-refused n)
-
-  pub refusal : refusalOf (encodeOf i) ≡ cond (allowed i) 0 5
-  refusal = refusal-by (allowed i) refl
+pub same-answer : (e f : Encoded) → answered e ≡ answered f → e ≡ f
+same-answer e f q = sym (back-in-hand e) ∙ ap (λ (x : Encoding). handedBack (x .words)) q ∙ back-in-hand f

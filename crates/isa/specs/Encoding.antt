@@ -33,9 +33,17 @@ handedBack (w ∷ a ∷ []) = Two w a
 handedBack (w ∷ a ∷ b ∷ []) = Three w a b
 handedBack (w ∷ a ∷ b ∷ c ∷ ws) = Refused
 
+-- a refusal's number, 0 for none, and the words
+pub record Encoding : Type 0 where
+  pub refusal : ℕ
+  pub words : List ℕ
+
+abbrev pub encoding : ℕ → List ℕ → Encoding
+encoding n ws = record { refusal = n; words = ws }
+
 -- "Encoding any other instruction is 5"
-unfoldable pub encodeOf : Instruction → Encoded
-encodeOf i = cond (allowed i) (handedBack (wordsOf i)) Refused
+unfoldable pub encodeOf : Instruction → Encoding
+encodeOf i = cond (allowed i) (encoding 0 (wordsOf i)) (encoding 5 [])
 
 -- the paper's number for an answer, and the words it stands for
 abbrev pub refusalOf : Encoded → ℕ
@@ -49,3 +57,7 @@ wordsIn (One w) = w ∷ []
 wordsIn (Two w a) = w ∷ a ∷ []
 wordsIn (Three w a b) = w ∷ a ∷ b ∷ []
 wordsIn Refused = []
+
+-- what an answer says
+abbrev pub answered : Encoded → Encoding
+answered r = encoding (refusalOf r) (wordsIn r)

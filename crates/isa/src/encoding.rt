@@ -2,7 +2,7 @@
 ghost use mathlib.Core.Path.{_≡_};
 ghost use mathlib.Core.List.{_∷_, _++_};
 ghost use Rattle.isa.specs.Operands.{operandWords};
-ghost use Rattle.isa.specs.Encoding.{allowed, encodeOf, handedBack};
+ghost use Rattle.isa.specs.Encoding.{allowed, handedBack, encodeOf, answered};
 use super::Encoded;
 use super::Instruction;
 use super::Operand;
@@ -51,7 +51,7 @@ fn laid_out(first: u16, a: Operand, b: Operand) -> Encoded
 
 // The words of an allowed instruction; any other is refused with 5.
 pub fn encode(i: Instruction) -> Encoded
-    ensures { λ r. ⌜ r ≡ encodeOf i ⌝ }
+    ensures { λ r. ⌜ answered r ≡ encodeOf i ⌝ }
 {
     if !is_allowed(i) {
         return Encoded::Refused;

@@ -3,6 +3,10 @@ pub mod GoodLoans
 pub mod Outcomes
 pub mod Standings
 pub mod Orders
+pub mod Kept
+pub mod Completed
+pub mod Ends
+pub mod InputOutput
 pub mod Runs
 pub mod Counts
 pub mod Answers

@@ -1,8 +1,9 @@
 -- What a step changes: the machine's record, memory and output. The input is lent, and stays as it is.
 use Prim.Native.Nat.{ℕ}
 use mathlib.Core.List.{List}
-use lib.ListN.{getD}
+use lib.ListN.{getD, replicate}
 use Rattle.codes.specs.Registers.{SR, SP, PC}
+use Rattle.codes.specs.Stops.{none}
 use Rattle.machine.specs.declared.Registers.{Registers}
 
 pub record State : Type 0 where
@@ -16,6 +17,10 @@ state g m out = record { registers = g; memory = m; output = out }
 -- the machine's record: 16 registers by the paper's codes, the stop code, and the positions in input and output
 abbrev pub machine : List ℕ → ℕ → ℕ → ℕ → Registers
 machine r stop taken written = record { r = r; stop = stop; taken = taken; written = written }
+
+-- "Registers and stop code start at 0"; nothing is taken of the input yet, and nothing written to the output
+abbrev pub start : Registers
+start = machine (replicate 16 0) none 0 0
 
 abbrev pub register : State → ℕ → ℕ
 register s k = getD (s .registers .r) k 0

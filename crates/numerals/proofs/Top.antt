@@ -31,7 +31,7 @@ use Rattle.numerals.proofs.Examples.{Examples}
 
 -- ---- reading
 
--- "Number: decimal digits, optionally with `-` directly before; or `0x` and one or more hex digits": the reader finds a numeral
+-- "Number: decimal digits, optionally with `-` directly before; or `0x` .. and one or more hex digits": the reader finds a numeral
 -- and a cursor exactly where the rule has that number, from the place up to the cursor, which lies past the place and in the text.
 pub number-exactly : (s : List ℕ) (at : ℕ) {n : Numeral} {c : Cursor} → (numberAt s at ≡ Found n c) ↔ NumberAt s at n c
 number-exactly = Numbers.number-exactly
@@ -90,7 +90,7 @@ line-other = RoundTrips.line-other
 
 -- ---- writing
 
--- "without leading zeros": a decimal is digits worth its number, with no zero in front unless it stands alone, and no other text is.
+-- No zero in front: a decimal is digits worth its number, with no zero in front unless it stands alone, and no other text is.
 pub decimal-right : (n : ℕ) → n < 10000000000 → DecimalOf n (decimal n)
 decimal-right = Decimals.decimal-right
 

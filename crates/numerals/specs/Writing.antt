@@ -1,4 +1,4 @@
--- Decimals as they are written: "without leading zeros" (01, "What a step does", WRINT, and "The printed image").
+-- Decimals as they are written, with no zero in front (01: "WRINT writes signed decimal"; and the numbers of "The printed image").
 use Prim.Native.Nat.{ℕ, zero, suc, _+_, _-_, _/_, _%_}
 use Prim.Native.Char.{code}
 use mathlib.Core.Bool.{Bool, true, false, cond, not}

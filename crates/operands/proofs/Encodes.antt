@@ -9,7 +9,7 @@ use borrow.Author.Tests.{lt-ltb}
 use Rattle.numerals.specs.declared.Kept.the-variants as N
 use Rattle.isa.specs.Opcodes.{table, countOf}
 use Rattle.isa.specs.Operands.{allows, registerThere}
-use Rattle.isa.specs.Encoding.{wordsOf, allowed, encodeOf, refusalOf}
+use Rattle.isa.specs.Encoding.{wordsOf, allowed, encodeOf}
 use Rattle.codes.specs.Registers.{isRegister}
 use Rattle.isa.specs.declared.Kinds.{Kinds}
 use Rattle.isa.specs.declared.Opcode.{Opcode}
@@ -116,7 +116,7 @@ module _ (line : List ℕ) (ts : List Token) (op : Opcode) where
       ∙ there-settled p (h .second-word) w (second-known line (h .reading)) (h .second-in-range) in
       rw (k₁, k₂, r₁, r₂)
 
-  pub encodes : {a b : Given} → Accepted line ts op a b → (v w : ℕ) → refusalOf (encodeOf (settledInstruction op a b v w)) ≡ 0
+  pub encodes : {a b : Given} → Accepted line ts op a b → (v w : ℕ) → encodeOf (settledInstruction op a b v w) .refusal ≡ 0
   encodes {a} {b} h v w =
       isa.encoder (settledInstruction op a b v w) ∙ ap (λ (t : Bool). cond t 0 5) (allowed-then h v w)
 

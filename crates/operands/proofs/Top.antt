@@ -6,7 +6,6 @@ use mathlib.Core.Logic.{_↔_}
 use mathlib.Core.Path.{_≡_, sym, ap, _∙_}
 use lib.ListN.{length}
 use Rattle.isa.specs.Opcodes.{countOf}
-use Rattle.isa.specs.Encoding as Encoding
 use Rattle.isa.specs.Encoding.{wordsOf, encodeOf}
 use Rattle.isa.specs.Operands.{allows}
 use Rattle.isa.specs.declared.Kinds.{Kinds}
@@ -76,7 +75,7 @@ module _ (line : List ℕ) (ts : List Token) (op : Opcode) where
   range-exactly = (Exactly.number-tells line ts op, λ h. ap refusalOf (Exactly.unranged-back line ts op h))
 
   -- What is read is encoded: with any words in its labels' places, the encoder does not refuse it.
-  pub encodes : {a b : Given} → instructionRead line op ts ≡ Read a b → (v w : ℕ) → Encoding.refusalOf (encodeOf (settledInstruction op a b v w)) ≡ 0
+  pub encodes : {a b : Given} → instructionRead line op ts ≡ Read a b → (v w : ℕ) → encodeOf (settledInstruction op a b v w) .refusal ≡ 0
   encodes e = Encodes.encodes line ts op (Exactly.tells line ts op e)
 
   -- "First word .., then one word per operand": it takes as many words as its opcode has operands, plus one.

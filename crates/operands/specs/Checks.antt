@@ -1,5 +1,5 @@
--- What is judged of an opcode's operands once their form is right (01, "Refusing a source"): "5 opcode's operand count, or kind not
--- allowed", then "6 number .. out of range".
+-- What is judged of an opcode's operands once their form is right (01, "Refusing a source"): 5, "opcode's operand count, or kind
+-- not allowed", then 6, "number .. out of range".
 use Prim.Native.Nat.{ℕ}
 use mathlib.Core.Bool.{Bool, cond, _&&_}
 use mathlib.Core.List.{List}
@@ -109,8 +109,8 @@ judgedForm op wrong = WrongForm
 unfoldable pub instructionRead : List ℕ → Opcode → List Token → InstructionRead
 instructionRead line op ts = judgedForm op (operandsOf line ts)
 
--- the paper's number for each answer: 0 where the operands pass, "3 form, unknown registers included", "5 opcode's operand count, or
--- kind not allowed", "6 number .. out of range"
+-- the paper's number for each answer: 0 where the operands pass, 3 "form, unknown registers included", 5 "opcode's operand count, or
+-- kind not allowed", 6 "number .. out of range"
 abbrev pub refusalOf : InstructionRead → ℕ
 refusalOf (Read a b) = 0
 refusalOf WrongForm = 3

@@ -7,7 +7,7 @@ use native.Mathlib.Omega.{arith}
 use lib.ListN.{length, length-append}
 use Rattle.isa.specs.Opcodes.{countOf}
 use Rattle.isa.specs.Operands.{operandWords, wordOf}
-use Rattle.isa.specs.Encoding.{allowed, wordsOf, encodeOf, refusalOf}
+use Rattle.isa.specs.Encoding.{allowed, wordsOf, encodeOf}
 use Rattle.isa.specs.declared.Instruction.{Instruction}
 use Rattle.isa.specs.declared.Opcode.{Opcode}
 use Rattle.isa.specs.declared.Operand.{Operand}
@@ -60,7 +60,7 @@ both-stand op a b =
     ap₂ (λ (x y : Operand). record { op = op; first = x; second = y }) (stands (a .label) (a .operand)) (stands (b .label) (b .operand))
 
 -- what the encoder does not refuse is allowed
-allowed-by : (i : Instruction) → refusalOf (encodeOf i) ≡ 0 → allowed i ≡ true
+allowed-by : (i : Instruction) → encodeOf i .refusal ≡ 0 → allowed i ≡ true
 allowed-by i e = go (allowed i) (sym (isa.encoder i) ∙ e)
   where
     go : (t : Bool) → _≡_ {A = ℕ} (cond t 0 5) 0 → t ≡ true
@@ -73,7 +73,7 @@ module _ (line : List ℕ) {op : Opcode} {a b : Given} (e : lineRead line .state
   allowed-said =
       let h = instruction-from line e in
       allowed-by (standing op a b)
-      (ap (λ (i : Instruction). refusalOf (encodeOf i)) (sym (both-stand op a b))
+      (ap (λ (i : Instruction). encodeOf i .refusal) (sym (both-stand op a b))
       ∙ operands.encodes line (tokensFrom line (h .0)) op (h .1) (wordOf (a .operand)) (wordOf (b .operand)))
 
 -- ---- an operand that names a label has one word

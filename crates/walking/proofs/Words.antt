@@ -6,7 +6,7 @@ use mathlib.Core.Path.{_≡_, sym, ap, ap₂, _∙_}
 use native.Mathlib.Omega.{arith}
 use lib.ListN.{set}
 use lib.Seq.{sets}
-use Rattle.isa.specs.Encoding.{allowed, wordsOf, encodeOf, wordsIn}
+use Rattle.isa.specs.Encoding.{allowed, wordsOf, Encoding, encodeOf, wordsIn, answered}
 use Rattle.isa.specs.declared.Encoded.{Encoded}
 use Rattle.isa.specs.declared.Encoded.the-variants.{One, Two, Three}
 use Rattle.isa.specs.declared.Instruction.{Instruction}
@@ -14,10 +14,10 @@ use Rattle.isa.proofs.Top.{encoder-words}
 use Rattle.statements.specs.declared.Statement.{Statement}
 use Rattle.sources.specs.Inner.Assembling.{rawBy}
 
-module _ (i : Instruction) {r : Encoded} (t : allowed i ≡ true) (p : r ≡ encodeOf i) (m : List ℕ) (at : ℕ) where
+module _ (i : Instruction) {r : Encoded} (t : allowed i ≡ true) (p : answered r ≡ encodeOf i) (m : List ℕ) (at : ℕ) where
   -- by the encoder's answer
   pub as-encoded : {e : Encoded} → r ≡ e → sets m at (wordsIn e) ≡ sets m at (wordsOf i)
-  as-encoded q = ap (sets m at) (ap wordsIn (sym q ∙ p) ∙ encoder-words i t)
+  as-encoded q = ap (sets m at) (ap wordsIn (sym q) ∙ ap (λ (e : Encoding). e .words) p ∙ encoder-words i t)
 
   pub one-written : {m′ : List ℕ} {x : ℕ} → r ≡ One x → m′ ≡ set m at x → m′ ≡ sets m at (wordsOf i)
   one-written q e = e ∙ as-encoded q

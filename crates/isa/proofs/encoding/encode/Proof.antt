@@ -4,7 +4,7 @@ use Prim.Native.Nat.{ℕ, _+_, _*_}
 use native.Mathlib.Omega.{arith}
 use borrow.Author.Tests.{not-true, not-false}
 use Rattle.isa.specs.declared.Row.{Row}
-use Rattle.isa.specs.Encoding.{encodeOf, firstWordOf}
+use Rattle.isa.specs.Encoding.{firstWordOf, encodeOf, answered}
 use Rattle.isa.proofs.Words.{encoded}
 use Rattle.isa.proofs.Modes.{mode-below}
 use Rattle.isa.proofs.Numbers.{number-below}
@@ -58,7 +58,7 @@ returns-2 c =
     encoded (start .args .i) (row .result .number * 64 + first .result * 8 + second .result)
     (sym (asked .ensures) ∙ not-false (asked .result) (c .before .before .before .before .before .if1 .left))
     (omega (arith, ap number (row .ensures), first .ensures, second .ensures)) in
-    c .laid-out .ensures ∙ sym its-words
+    ap answered (c .laid-out .ensures) ∙ its-words
 
 pub encode-spec : {M : Type 1} → statement M
 encode-spec =
