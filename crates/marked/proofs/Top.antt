@@ -1,0 +1,88 @@
+-- The marked table, proved: its rows of source by computing what the assembler as a function makes of each, which accepts exactly as the
+-- rules do (`accepted-exactly` of the sources); its rows of arithmetic by computing them.
+use Prim.Native.Nat.{ℕ, suc}
+use Prim.Native.String.{String}
+use mathlib.Core.List.{List}
+use mathlib.Core.Path.{_≡_, refl, sym, ap, subst}
+use lib.Count.{ones, onesIn}
+use lib.ListN.{length}
+use Rattle.arithmetic.specs.Cells.{leaves16}
+use Rattle.arithmetic.specs.Flags.{flagsOf}
+use Rattle.arithmetic.specs.Operations.{outcome, ADD, SUB, MUL, DIV}
+use Rattle.numerals.specs.Bytes.{bytes, rank}
+use Rattle.numerals.specs.Digits.{worthAfter}
+use Rattle.numerals.specs.Reading.{run, digitsAt, radixAt, unsignedAt}
+use Rattle.numerals.specs.Numbers.{keptOf}
+use Rattle.isa.specs.Opcodes.{table, opcodes, countOf}
+use Rattle.isa.specs.Operands.{allows}
+use Rattle.isa.specs.Encoding.{firstWordOf, wordsOf}
+use Rattle.tokens.specs.Bytes.{isBlank, isMark}
+use Rattle.tokens.specs.Reading.{blanks, closing, tokenHere, tokenAt, tokensWithin, tokensFrom, linesOf}
+use Rattle.names.specs.Names.{capital, isNamed, statementWords, wordIn, registers, placeIn, registerCode}
+use Rattle.names.specs.Names as Names
+use Rattle.values.specs.Ranges.{displacementOf}
+use Rattle.expressions.specs.Trees.{depth}
+use Rattle.expressions.specs.Worths.{within32, ofNumber, operation, operate, worthOf}
+use Rattle.expressions.specs.Reading.{markSymbol, operand, operator, expressionRead}
+use Rattle.operands.specs.Inner.Walk.{starts, indexStep, operandsOf}
+use Rattle.operands.specs.Inner.Walk as Walk
+use Rattle.operands.specs.Checks.{fits, labelIn, instructionRead}
+use Rattle.operands.specs.Checks as Operands
+use Rattle.items.specs.Items.{cellsOf, allInRange}
+use Rattle.items.specs.Reading.{characters, newline, itemsRead}
+use Rattle.items.specs.Reading as Items
+use Rattle.items.specs.Writing.{cellsFrom}
+use Rattle.statements.specs.Judging.{resultOf}
+use Rattle.statements.specs.Cells.{bodyCells, cellsIn}
+use Rattle.statements.specs.Reading.{labelRead, afterLabel, statementRead, lineRead}
+use Rattle.sources.specs.Placing.{does, start, names, boundTo, acted, after, bindings}
+use Rattle.sources.specs.Uses.{same, valueOf, usesBy}
+use Rattle.sources.specs.Image.{Accepted}
+use Rattle.sources.specs.Inner.Assembling.{firstOf, upToEnd, loanVerdict, among, nameVerdict, taken, actVerdict, lineVerdict, walkLines, startWork, worked, workAfter, endVerdict, useVerdict, usesVerdict, filled, lateVerdict, verdictOf, accepted, assembleOf}
+use Rattle.sources.specs.Inner.Assembling as Assembling
+use Rattle.sources.proofs.Top as sources
+use Rattle.assembler.specs.Promise.{told, acceptance, Replies, accepts}
+use Rattle.assembler.specs.declared.Reply.{Reply}
+use Rattle.assembler.proofs.Top as assembler
+use Rattle.marked.specs.Marked.{_leaves_marked_, memoryOf, mapOf, MarkedTable}
+
+-- what the assembler as a function accepts, the rules accept
+accept : {M N : ℕ} {source memory marks : List ℕ} → assembleOf M N source ≡ accepted memory marks → Accepted M N source memory marks
+accept {M} {N} {source} {memory} {marks} e = sources.accepted-exactly M N source memory marks .0 e
+
+-- "Table to prove, marked set"
+pub marked : MarkedTable
+unfolding rank worthAfter run digitsAt radixAt unsignedAt keptOf table opcodes countOf allows firstWordOf wordsOf isBlank isMark blanks closing tokenHere tokenAt tokensWithin tokensFrom linesOf capital isNamed statementWords wordIn registers placeIn registerCode Names.wordOf displacementOf depth within32 ofNumber operation operate worthOf markSymbol operand operator expressionRead starts indexStep Walk.walk operandsOf fits labelIn Operands.wordOf Operands.judged instructionRead cellsOf allInRange characters newline Items.walk itemsRead resultOf labelRead afterLabel statementRead lineRead bodyCells cellsIn cellsFrom firstOf does start names boundTo acted after bindings same valueOf usesBy upToEnd loanVerdict among nameVerdict taken actVerdict lineVerdict walkLines startWork worked workAfter endVerdict useVerdict usesVerdict filled lateVerdict verdictOf Assembling.memoryOf assembleOf ADD SUB MUL DIV outcome flagsOf leaves16 ones onesIn
+marked =
+    record {
+      expression = accept refl;
+      memory = accept refl;
+      add = accept refl;
+      move = accept refl;
+      branch = accept refl;
+      eight-cells = accept refl;
+      sum-wraps = refl;
+      sum-overflows = refl;
+      difference-borrows = refl;
+      product-wraps = refl;
+      quotient-cuts = refl;
+      quotient-overflows = refl;
+    }
+
+-- What `assemble` does with any row of source, whatever memory and map held: it accepts, and leaves exactly the row's cells.
+pub assembled : (text : String) (cells : List ℕ) (mark : ℕ) → text leaves cells marked mark → {memory map memory′ map′ : List ℕ} {r : Reply}
+    → length memory ≡ suc (length cells)
+    → length map ≡ suc (length cells)
+    → Replies (bytes text) memory map r memory′ map′
+    → (told r ≡ acceptance (mapOf mark cells)) × (memory′ ≡ memoryOf cells) × (map′ ≡ mapOf mark cells)
+assembled text cells mark row {memory} {map} p q reply =
+    let there : Accepted (length memory) (length map) (bytes text) (memoryOf cells) (mapOf mark cells) =
+    subst (λ (n : ℕ). Accepted (length memory) n (bytes text) (memoryOf cells) (mapOf mark cells)) (sym q)
+    (subst (λ (n : ℕ). Accepted n (suc (length cells)) (bytes text) (memoryOf cells) (mapOf mark cells)) (sym p) row) in
+    let all = assembler.one-reply reply (accepts {reply = accepting (mapOf mark cells)} there refl) in
+    (ap told (all .0), all .1, all .2)
+  where
+    accepting : List ℕ → Reply
+    accepting marks =
+        let t = acceptance marks in
+        record { refusal = t .number; line = record { 0 = t .line }; code = t .code-cells; «data» = t .data-cells }
