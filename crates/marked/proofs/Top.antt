@@ -9,37 +9,10 @@ use lib.ListN.{length}
 use Rattle.arithmetic.specs.Cells.{leaves16}
 use Rattle.arithmetic.specs.Flags.{flagsOf}
 use Rattle.arithmetic.specs.Operations.{outcome, ADD, SUB, MUL, DIV}
-use Rattle.numerals.specs.Bytes.{bytes, rank}
-use Rattle.numerals.specs.Digits.{worthAfter}
-use Rattle.numerals.specs.Reading.{run, digitsAt, radixAt, unsignedAt}
-use Rattle.numerals.specs.Numbers.{keptOf}
-use Rattle.isa.specs.Opcodes.{table, opcodes, countOf}
-use Rattle.isa.specs.Operands.{allows}
-use Rattle.isa.specs.Encoding.{firstWordOf, wordsOf}
-use Rattle.tokens.specs.Bytes.{isBlank, isMark}
-use Rattle.tokens.specs.Reading.{blanks, closing, tokenHere, tokenAt, tokensWithin, tokensFrom, linesOf}
-use Rattle.names.specs.Names.{capital, isNamed, statementWords, wordIn, registers, placeIn, registerCode}
-use Rattle.names.specs.Names as Names
-use Rattle.values.specs.Ranges.{displacementOf}
-use Rattle.expressions.specs.Trees.{depth}
-use Rattle.expressions.specs.Worths.{within32, ofNumber, operation, operate, worthOf}
-use Rattle.expressions.specs.Reading.{markSymbol, operand, operator, expressionRead}
-use Rattle.operands.specs.Inner.Walk.{starts, indexStep, operandsOf}
-use Rattle.operands.specs.Inner.Walk as Walk
-use Rattle.operands.specs.Checks.{fits, labelIn, instructionRead}
-use Rattle.operands.specs.Checks as Operands
-use Rattle.items.specs.Items.{cellsOf, allInRange}
-use Rattle.items.specs.Reading.{characters, newline, itemsRead}
-use Rattle.items.specs.Reading as Items
-use Rattle.items.specs.Writing.{cellsFrom}
-use Rattle.statements.specs.Judging.{resultOf}
-use Rattle.statements.specs.Cells.{bodyCells, cellsIn}
-use Rattle.statements.specs.Reading.{labelRead, afterLabel, statementRead, lineRead}
-use Rattle.sources.specs.Placing.{does, start, names, boundTo, acted, after, bindings}
-use Rattle.sources.specs.Uses.{same, valueOf, usesBy}
+use Rattle.numerals.specs.Bytes.{bytes}
 use Rattle.sources.specs.Image.{Accepted}
-use Rattle.sources.specs.Inner.Assembling.{firstOf, upToEnd, loanVerdict, among, nameVerdict, taken, actVerdict, lineVerdict, walkLines, startWork, worked, workAfter, endVerdict, useVerdict, usesVerdict, filled, lateVerdict, verdictOf, accepted, assembleOf}
-use Rattle.sources.specs.Inner.Assembling as Assembling
+use Rattle.sources.specs.Inner.Assembling.{accepted, assembleOf}
+use Rattle.sources.proofs.Computing.{computedSource}
 use Rattle.sources.proofs.Top as sources
 use Rattle.assembler.specs.Promise.{told, acceptance, Replies, accepts}
 use Rattle.assembler.specs.declared.Reply.{Reply}
@@ -52,7 +25,7 @@ accept {M} {N} {source} {memory} {marks} e = sources.accepted-exactly M N source
 
 -- "Table to prove, marked set"
 pub marked : MarkedTable
-unfolding rank worthAfter run digitsAt radixAt unsignedAt keptOf table opcodes countOf allows firstWordOf wordsOf isBlank isMark blanks closing tokenHere tokenAt tokensWithin tokensFrom linesOf capital isNamed statementWords wordIn registers placeIn registerCode Names.wordOf displacementOf depth within32 ofNumber operation operate worthOf markSymbol operand operator expressionRead starts indexStep Walk.walk operandsOf fits labelIn Operands.wordOf Operands.judged instructionRead cellsOf allInRange characters newline Items.walk itemsRead resultOf labelRead afterLabel statementRead lineRead bodyCells cellsIn cellsFrom firstOf does start names boundTo acted after bindings same valueOf usesBy upToEnd loanVerdict among nameVerdict taken actVerdict lineVerdict walkLines startWork worked workAfter endVerdict useVerdict usesVerdict filled lateVerdict verdictOf Assembling.memoryOf assembleOf ADD SUB MUL DIV outcome flagsOf leaves16 ones onesIn
+unfolding computedSource ADD SUB MUL DIV outcome flagsOf leaves16 ones onesIn
 marked =
     record {
       expression = accept refl;
