@@ -14,5 +14,8 @@ use Rattle.sources.specs.Inner.Assembling.{verdictOf, memoryOf, Assemble
 use Rattle.statements.proofs.Computing.{computedLine}
 
 unfoldable pub computedSource : ℕ → ℕ → List ℕ → Assembled
-unfolding computedLine firstWordOf wordsOf linesOf bodyCells cellsIn cellsFrom firstOf does start names boundTo acted after bindings same valueOf usesBy upToEnd loanVerdict among nameVerdict taken actVerdict lineVerdict walkLines startWork worked workAfter endVerdict useVerdict usesVerdict filled lateVerdict verdictOf memoryOf assembleOf
+unfolding computedLine linesOf firstWordOf wordsOf bodyCells cellsIn cellsFrom
+    does start names boundTo acted after bindings same valueOf usesBy
+    firstOf upToEnd loanVerdict among nameVerdict taken actVerdict lineVerdict walkLines startWork worked workAfter
+    endVerdict useVerdict usesVerdict filled lateVerdict verdictOf memoryOf assembleOf
 computedSource M N source = assembleOf M N source

@@ -27,5 +27,11 @@ use Rattle.statements.specs.Reading.{labelRead, afterLabel, statementRea
 use Rattle.statements.specs.declared.LineRead.{LineRead}
 
 unfoldable pub computedLine : List ℕ → LineRead
-unfolding rank worthAfter run digitsAt radixAt unsignedAt keptOf table opcodes countOf allows isBlank isMark blanks closing tokenHere tokenAt tokensWithin tokensFrom capital isNamed statementWords wordIn registers placeIn registerCode Names.wordOf displacementOf depth within32 ofNumber operation operate worthOf markSymbol operand operator expressionRead starts indexStep Walk.walk operandsOf fits labelIn Operands.wordOf Operands.judged instructionRead cellsOf allInRange characters newline Items.walk itemsRead resultOf labelRead afterLabel statementRead lineRead
+unfolding rank worthAfter run digitsAt radixAt unsignedAt keptOf
+    isBlank isMark blanks closing tokenHere tokenAt tokensWithin tokensFrom
+    table opcodes countOf allows capital isNamed statementWords wordIn registers placeIn registerCode Names.wordOf
+    depth within32 ofNumber operation operate worthOf markSymbol operand operator expressionRead
+    displacementOf starts indexStep Walk.walk operandsOf fits labelIn Operands.wordOf Operands.judged instructionRead
+    cellsOf allInRange characters newline Items.walk itemsRead
+    resultOf labelRead afterLabel statementRead lineRead
 computedLine bytes = lineRead bytes
