@@ -7,13 +7,13 @@ use mathlib.Core.List.{List, [], _∷_, _++_}
 use mathlib.Core.Path.{_≡_}
 use lib.IntN.{pos, negℤ}
 use lib.ListN.{length, replicate}
+use Rattle.codes.specs.Flags.{forZ, forC, forV, forP, forS}
+use Rattle.codes.specs.Marks.{free, codeMark, dataMark}
 use Rattle.numerals.specs.Bytes.{bytes}
 use Rattle.arithmetic.specs.Cells.{cell}
-use Rattle.arithmetic.specs.Flags.{forZ, forC, forV, forP, forS}
 use Rattle.arithmetic.specs.Operations.{ADD, SUB, MUL, DIV}
 use Rattle.arithmetic.specs.declared.Outcome.{Outcome}
 use Rattle.arithmetic.specs.declared.Division.the-variants.{Done}
-use Rattle.sources.specs.Limits.{free, codeMark, dataMark}
 use Rattle.sources.specs.Image.{Accepted}
 
 -- ---- rows of source
