@@ -17,7 +17,7 @@ use Rattle.sources.proofs.Top as sources
 use Rattle.assembler.specs.Promise.{told, acceptance, Replies, accepts}
 use Rattle.assembler.specs.declared.Reply.{Reply}
 use Rattle.assembler.proofs.Top as assembler
-use Rattle.marked.specs.Marked.{_leaves_marked_, memoryOf, mapOf, MarkedTable}
+use Rattle.marked.specs.Marked.{_leaves_marked_, memoryWith, mapWith, MarkedTable}
 
 -- what the assembler as a function accepts, the rules accept
 accept : {M N : ℕ} {source memory marks : List ℕ} → assembleOf M N source ≡ accepted memory marks → Accepted M N source memory marks
@@ -29,7 +29,7 @@ unfolding computedSource ADD SUB MUL DIV outcome flagsOf leaves16 ones onesIn
 marked =
     record {
       expression = accept refl;
-      memory = accept refl;
+      memory-operand = accept refl;
       add = accept refl;
       move = accept refl;
       branch = accept refl;
@@ -47,13 +47,14 @@ pub assembled : (text : String) (cells : List ℕ) (mark : ℕ) → text leaves 
     → length memory ≡ suc (length cells)
     → length map ≡ suc (length cells)
     → Replies (bytes text) memory map r memory′ map′
-    → (told r ≡ acceptance (mapOf mark cells)) × (memory′ ≡ memoryOf cells) × (map′ ≡ mapOf mark cells)
+    → (told r ≡ acceptance (mapWith mark cells)) × (memory′ ≡ memoryWith cells) × (map′ ≡ mapWith mark cells)
 assembled text cells mark row {memory} {map} p q reply =
-    let there : Accepted (length memory) (length map) (bytes text) (memoryOf cells) (mapOf mark cells) =
-    subst (λ (n : ℕ). Accepted (length memory) n (bytes text) (memoryOf cells) (mapOf mark cells)) (sym q)
-    (subst (λ (n : ℕ). Accepted n (suc (length cells)) (bytes text) (memoryOf cells) (mapOf mark cells)) (sym p) row) in
-    let all = assembler.one-reply reply (accepts {reply = accepting (mapOf mark cells)} there refl) in
-    (ap told (all .0), all .1, all .2)
+    let there : Accepted (length memory) (length map) (bytes text) (memoryWith cells) (mapWith mark cells) =
+    subst (λ (n : ℕ). Accepted (length memory) n (bytes text) (memoryWith cells) (mapWith mark cells)) (sym q)
+    (subst (λ (n : ℕ). Accepted n (suc (length cells)) (bytes text) (memoryWith cells) (mapWith mark cells)) (sym p) row) in
+    let this : Replies (bytes text) memory map (accepting (mapWith mark cells)) (memoryWith cells) (mapWith mark cells) = accepts there refl in
+    let same = assembler.one-reply reply this in
+    (ap told (same .0), same .1, same .2)
   where
     accepting : List ℕ → Reply
     accepting marks =

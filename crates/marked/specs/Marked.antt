@@ -18,17 +18,17 @@ use Rattle.sources.specs.Image.{Accepted}
 
 -- ---- rows of source
 
--- memory and map of a cell more than these: they stand from cell 0 on, each with this mark, and the last cell is free
-abbrev pub memoryOf : List ℕ → List ℕ
-memoryOf cells = cells ++ (0 ∷ [])
+-- memory and map of one cell more than these: they stand from cell 0 on, each with this mark, and the last cell is free
+abbrev pub memoryWith : List ℕ → List ℕ
+memoryWith cells = cells ++ (0 ∷ [])
 
-abbrev pub mapOf : ℕ → List ℕ → List ℕ
-mapOf mark cells = replicate (length cells) mark ++ (free ∷ [])
+abbrev pub mapWith : ℕ → List ℕ → List ℕ
+mapWith mark cells = replicate (length cells) mark ++ (free ∷ [])
 
 infix 4 _leaves_marked_
--- this text, as the whole source, is accepted, and leaves exactly these cells
+-- this text, as a whole source, is accepted, and leaves exactly these cells with this mark
 abbrev pub _leaves_marked_ : String → List ℕ → ℕ → Type 0
-text leaves cells marked mark = Accepted (suc (length cells)) (suc (length cells)) (bytes text) (memoryOf cells) (mapOf mark cells)
+text leaves cells marked mark = Accepted (suc (length cells)) (suc (length cells)) (bytes text) (memoryWith cells) (mapWith mark cells)
 
 -- ---- rows of arithmetic
 
@@ -37,17 +37,17 @@ infixl 20 _with-flags_
 abbrev pub _with-flags_ : ℕ → ℕ → Outcome
 value with-flags flags = record { value = value; flags = flags }
 
--- the cell whose signed reading is the number below 0
+-- the cell whose signed reading is this number below 0
 abbrev pub minus : ℕ → ℕ
 minus n = cell (negℤ (pos n))
 
 -- ---- the table
 
 pub record MarkedTable : Type 0 where
-  -- "`(3+7*(16-1)/(4-1))%27` is 11": the value that EQU gives to x, and PUSH's word, 200, in front
+  -- "`(3+7*(16-1)/(4-1))%27` is 11": EQU gives it to x, and it stands behind the first word of `PUSH #x`
   pub expression : "x: EQU (3+7*(16-1)/(4-1))%27\nPUSH #x" leaves 200 ∷ 11 ∷ [] marked codeMark
-  -- "`/-30` is 65506": as an operand, after PUSH's word, 216
-  pub memory : "PUSH /-30" leaves 216 ∷ 65506 ∷ [] marked codeMark
+  -- "`/-30` is 65506": as an operand, behind the first word of PUSH
+  pub memory-operand : "PUSH /-30" leaves 216 ∷ 65506 ∷ [] marked codeMark
   -- "`ADD .R3,#0xFF` is 337,3,255"
   pub add : "ADD .R3,#0xFF" leaves 337 ∷ 3 ∷ 255 ∷ [] marked codeMark
   -- "`MOVE #6[.IX],.R1` is 170,6,1"
