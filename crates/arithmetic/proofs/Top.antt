@@ -1,27 +1,13 @@
--- What the arithmetic promises, for a reader. Each function's promise is one equation, r ≡ its meaning in specs/Operations.antt.
+-- What the arithmetic promises, for a reader. Each function's promise is one equation, r ≡ its meaning in specs/Operations.antt. The marked
+-- table of document 01 stands in the crate `marked`.
 use mathlib.Core.Path.{_≡_, refl, sym, _∙_}
 use mathlib.Core.Bool.{Bool, false}
 use Prim.Native.Nat.{ℕ, _<_}
-use lib.Count.{ones, onesIn}
 use lib.Signed.{quotZ, remZ}
 use Rattle.arithmetic.specs.Cells.{signed, leaves16}
 use Rattle.arithmetic.specs.Flags.{flagsOf}
-use Rattle.arithmetic.specs.Marked.{MarkedArithmetic}
-use Rattle.arithmetic.specs.Operations.{outcome, ADD, SUB, MUL, DIV, MOD, CMP, leastByMinusOne, stopOfDivision}
+use Rattle.arithmetic.specs.Operations.{SUB, DIV, MOD, CMP, leastByMinusOne, stopOfDivision}
 use Rattle.arithmetic.proofs.Laws.{flags-word, quotient-leaves, remainder-stays}
-
--- "Table to prove, marked set": its arithmetic rows
-pub marked : MarkedArithmetic
-unfolding ADD SUB MUL DIV outcome flagsOf leaves16 ones onesIn
-marked =
-    record {
-      sum-wraps = refl;
-      sum-overflows = refl;
-      difference-borrows = refl;
-      product-wraps = refl;
-      quotient-cuts = refl;
-      quotient-overflows = refl;
-    }
 
 -- "two replies meeting it coincide", of any of these promises
 pub replies-coincide : {A : Type 0} {meaning r s : A} → r ≡ meaning → s ≡ meaning → r ≡ s

@@ -2,4 +2,3 @@
 pub mod Cells
 pub mod Flags
 pub mod Operations
-pub mod Marked

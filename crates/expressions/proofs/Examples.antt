@@ -31,7 +31,7 @@ abbrev pub within : ℕ → String → List ℕ
 within n text = replicate n 40 ++ (bytes text ++ replicate n 41)
 
 pub record Examples : Type 0 where
-  pub marked : Says "(3+7*(16-1)/(4-1))%27" (Read (Is (pos 11)))
+  pub one-in-another : Says "(2+3*(5-1)/(4-2))%5" (Read (Is (pos 3)))
   pub products-first : Says "2+3*4" (Read (Is (pos 14)))
   pub parentheses-first : Says "(2+3)*4" (Read (Is (pos 20)))
   pub differences-left-to-right : Says "7-2-1" (Read (Is (pos 4)))
@@ -68,7 +68,7 @@ pub examples : Examples
 unfolding rank worthAfter run digitsAt radixAt unsignedAt isBlank isMark blanks closing tokenHere tokenAt tokensWithin tokensFrom depth within32 ofNumber operation operate worthOf markSymbol operand operator expressionRead
 examples =
     record {
-      marked = refl;
+      one-in-another = refl;
       products-first = refl;
       parentheses-first = refl;
       differences-left-to-right = refl;

@@ -123,7 +123,7 @@ depth-exactly = Exactly.depth-exactly
 
 -- ---- examples, and one reply
 
--- Texts that are easily misread, the marked row `(3+7*(16-1)/(4-1))%27` among them.
+-- Texts that are easily misread.
 pub examples : Examples
 examples = Examples.examples
 

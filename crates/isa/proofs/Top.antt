@@ -10,6 +10,7 @@ use borrow.Author.Tests.{ltb-true, lt-ltb}
 use lib.ListN.{length, take, drop}
 use Rattle.isa.specs.declared.Opcode.{Opcode}
 use Rattle.isa.specs.declared.Opcode.the-variants.{INC, BZ, BR, MOVE}
+use Rattle.isa.specs.declared.Operand.{Operand}
 use Rattle.isa.specs.declared.Operand.the-variants.{Absent, Register, IndexedSp, Relative}
 use Rattle.isa.specs.declared.Instruction.{Instruction}
 use Rattle.isa.specs.declared.Address.{Address}
@@ -19,23 +20,15 @@ use Rattle.isa.specs.Opcodes.{table, opcodes, opcodeOf, countOf}
 use Rattle.isa.specs.Operands.{allows, operandOf}
 use Rattle.codes.specs.Registers.{PC, isRegister}
 use Rattle.isa.specs.Encoding.{firstWordOf, wordsOf, allowed, Encoding, encodeOf, answered}
-use Rattle.isa.specs.Decoding.{modesAllowed, sizeIn, instructionIn, readUnless, decodeWord, decodeOf, stopOf}
-use Rattle.isa.specs.Marked.{MarkedInstructions, instruction}
+use Rattle.isa.specs.Decoding.{allowedBelow, modesAllowed, sizeIn, instructionIn, readUnless, decodeWord, decodeOf, stopOf}
 use Rattle.isa.proofs.Numbers as numbers
 use Rattle.isa.proofs.Words as words
 use Rattle.isa.proofs.FirstWords as first-words
 use Rattle.isa.proofs.RoundTrip as round-trip
 
--- "Table to prove, marked set": the rows on instructions, and "601 first words are allowed"
-pub marked : MarkedInstructions
-unfolding encodeOf allowed allows wordsOf firstWordOf table
-marked = record {
-  add = refl;
-  move = refl;
-  branch = refl;
-  memory = refl;
-  first-words = first-words.six-hundred-and-one;
-}
+-- "601 first words are allowed". The marked table of document 01 stands in the crate `marked`.
+pub allowed-first-words : allowedBelow 2496 ≡ 601
+allowed-first-words = first-words.six-hundred-and-one
 
 -- "Encoding any other instruction is 5": the words come back where the instruction is allowed, and 5 everywhere else
 pub encoder : (i : Instruction) → encodeOf i .refusal ≡ cond (allowed i) 0 5
@@ -85,6 +78,9 @@ few-operands = numbers.few-operands
 -- "Registers: R0..R9 0..9, A 10, SR 11, IX 12, IY 13, SP 14, PC 15": a code names a register up to PC, and none above
 pub register-codes : (code : ℕ) → (isRegister code ≡ true) ↔ (code ≤ PC)
 register-codes code = (λ e. omega (arith, ltb-true code 16 e), λ h. lt-ltb code 16 (omega arith))
+
+abbrev instruction : Opcode → Operand → Operand → Instruction
+instruction o a b = record { op = o; first = a; second = b }
 
 -- "Decoding refuses as stops 2, 3, 5, 4 below, in step order": the order itself is in `Refusals`; here it is at single words
 pub record RefusedExamples : Type 0 where

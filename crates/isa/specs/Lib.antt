@@ -3,4 +3,3 @@ pub mod Opcodes
 pub mod Operands
 pub mod Encoding
 pub mod Decoding
-pub mod Marked

@@ -31,15 +31,15 @@ written line = cellsFrom (bytes line) (tokensFrom (bytes line) 4)
 read-in : (line : String) {is : List Item} → walk (bytes line) item (tokensFrom (bytes line) 4) ≡ reads is → ItemsIn line is
 read-in line e = sound (bytes line) (in-line (bytes line) 4) e
 
--- the marked row
-abbrev pub texto : List Item
-texto = string (bytes "texto" ++ (10 ∷ [])) ∷ number (numeral false Decimal 33) ∷ []
+-- a string that holds a `\n`, and a number
+abbrev pub newlineItems : List Item
+newlineItems = string (bytes "ab" ++ (10 ∷ [])) ∷ number (numeral false Decimal 7) ∷ []
 
 pub record Examples : Type 0 where
-  -- "`\"texto\\n\",33` is eight cells"
-  pub marked-items : ItemsIn "DATA \"texto\\n\",33" texto
-  pub marked-cells : cellsOf texto ≡ bytes "texto" ++ (10 ∷ 0 ∷ 33 ∷ [])
-  pub marked-eight : dataIn "DATA \"texto\\n\",33" ≡ Cells 8
+  -- "a backslash only as `\n` (10)"
+  pub newline-items : ItemsIn "DATA \"ab\\n\",7" newlineItems
+  pub newline-cells : cellsOf newlineItems ≡ bytes "ab" ++ (10 ∷ 0 ∷ 7 ∷ [])
+  pub newline-five : dataIn "DATA \"ab\\n\",7" ≡ Cells 5
   -- "DATA \"a\",-1" of the first program takes cells 6, 7 and 8
   pub minus-one-items : ItemsIn "DATA \"a\",-1" (string (bytes "a") ∷ number (numeral true Decimal 1) ∷ [])
   pub minus-one-cells : cellsOf (string (bytes "a") ∷ number (numeral true Decimal 1) ∷ []) ≡ 97 ∷ 0 ∷ 65535 ∷ []
@@ -77,9 +77,9 @@ pub examples : Examples
 unfolding cellsFrom itemsRead walk characters cellsOf allInRange tokensFrom tokensWithin tokenAt tokenHere blanks closing isBlank isMark unsignedAt digitsAt radixAt run rank worthAfter
 examples =
     record {
-      marked-items = read-in "DATA \"texto\\n\",33" refl;
-      marked-cells = refl;
-      marked-eight = refl;
+      newline-items = read-in "DATA \"ab\\n\",7" refl;
+      newline-cells = refl;
+      newline-five = refl;
       minus-one-items = read-in "DATA \"a\",-1" refl;
       minus-one-cells = refl;
       empty-string = refl;

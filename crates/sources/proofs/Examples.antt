@@ -4,36 +4,10 @@ use Prim.Native.String.{String}
 use mathlib.Core.List.{List, [], _∷_, _++_}
 use mathlib.Core.Path.{_≡_, refl}
 use lib.ListN.{drop, replicate}
-use Rattle.numerals.specs.Bytes.{bytes, rank}
-use Rattle.numerals.specs.Digits.{worthAfter}
-use Rattle.numerals.specs.Reading.{run, digitsAt, radixAt, unsignedAt}
-use Rattle.numerals.specs.Numbers.{keptOf}
-use Rattle.isa.specs.Opcodes.{table, opcodes, countOf}
-use Rattle.isa.specs.Operands.{allows}
-use Rattle.isa.specs.Encoding.{firstWordOf, wordsOf}
-use Rattle.tokens.specs.Bytes.{isBlank, isMark}
-use Rattle.tokens.specs.Reading.{blanks, closing, tokenHere, tokenAt, tokensWithin, tokensFrom, linesOf}
-use Rattle.names.specs.Names.{capital, isNamed, statementWords, wordIn, registers, placeIn, registerCode}
-use Rattle.names.specs.Names as Names
-use Rattle.values.specs.Ranges.{displacementOf}
-use Rattle.expressions.specs.Trees.{depth}
-use Rattle.expressions.specs.Worths.{within32, ofNumber, operation, operate, worthOf}
-use Rattle.expressions.specs.Reading.{markSymbol, operand, operator, expressionRead}
-use Rattle.operands.specs.Inner.Walk.{starts, indexStep, operandsOf}
-use Rattle.operands.specs.Inner.Walk as Walk
-use Rattle.operands.specs.Checks.{fits, labelIn, instructionRead}
-use Rattle.operands.specs.Checks as Operands
-use Rattle.items.specs.Items.{cellsOf, allInRange}
-use Rattle.items.specs.Reading.{characters, newline, itemsRead}
-use Rattle.items.specs.Reading as Items
-use Rattle.statements.specs.Judging.{resultOf}
-use Rattle.statements.specs.Cells.{bodyCells, cellsIn}
-use Rattle.statements.specs.Reading.{labelRead, afterLabel, statementRead, lineRead}
-use Rattle.items.specs.Writing.{cellsFrom}
-use Rattle.sources.specs.Placing.{does, start, names, boundTo, acted, after, bindings}
-use Rattle.sources.specs.Uses.{same, valueOf, usesBy}
+use Rattle.numerals.specs.Bytes.{bytes}
 use Rattle.sources.specs.Order.{_on_}
-use Rattle.sources.specs.Inner.Assembling.{passes, firstOf, upToEnd, loanVerdict, among, nameVerdict, taken, actVerdict, lineVerdict, walkLines, startWork, worked, workAfter, endVerdict, useVerdict, usesVerdict, filled, lateVerdict, verdictOf, memoryOf, Assembled, accepted, refuses, assembleOf}
+use Rattle.sources.specs.Inner.Assembling.{passes, verdictOf, Assembled, accepted, refuses, assembleOf}
+use Rattle.sources.proofs.Computing.{computedSource}
 
 -- the texts as lines, each with its LF
 abbrev sourceOf : List String → List ℕ
@@ -106,7 +80,7 @@ pub record Examples : Type 0 where
   pub bad-loan : assembleOf 2 3 (sourceOf ("FOO" ∷ [])) ≡ refuses (1 on 0)
 
 pub examples : Examples
-unfolding rank worthAfter run digitsAt radixAt unsignedAt keptOf table opcodes countOf allows firstWordOf wordsOf isBlank isMark blanks closing tokenHere tokenAt tokensWithin tokensFrom linesOf capital isNamed statementWords wordIn registers placeIn registerCode Names.wordOf displacementOf depth within32 ofNumber operation operate worthOf markSymbol operand operator expressionRead starts indexStep Walk.walk operandsOf fits labelIn Operands.wordOf Operands.judged instructionRead cellsOf allInRange characters newline Items.walk itemsRead resultOf labelRead afterLabel statementRead lineRead bodyCells cellsIn cellsFrom firstOf does start names boundTo acted after bindings same valueOf usesBy upToEnd loanVerdict among nameVerdict taken actVerdict lineVerdict walkLines startWork worked workAfter endVerdict useVerdict usesVerdict filled lateVerdict verdictOf memoryOf assembleOf
+unfolding computedSource
 examples =
     record {
       printed = refl;

@@ -22,6 +22,7 @@ pub mod CommentLines
 pub mod WholeLines
 pub mod EndLines
 pub mod Comments
+pub mod Computing
 pub mod SpacingExamples
 pub mod Examples
 pub mod Top

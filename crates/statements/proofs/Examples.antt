@@ -4,39 +4,20 @@ use Prim.Native.String.{String}
 use mathlib.Core.List.{List, [], _∷_, _++_}
 use mathlib.Core.Path.{_≡_, refl}
 use lib.ListN.{replicate}
-use Rattle.numerals.specs.Bytes.{bytes, rank}
-use Rattle.numerals.specs.Digits.{worthAfter}
-use Rattle.numerals.specs.Reading.{run, digitsAt, radixAt, unsignedAt}
-use Rattle.numerals.specs.Numbers.{keptOf}
-use Rattle.isa.specs.Opcodes.{table, opcodes, countOf}
-use Rattle.isa.specs.Operands.{allows}
+use Rattle.numerals.specs.Bytes.{bytes}
 use Rattle.isa.specs.declared.Opcode.the-variants as Op
 use Rattle.isa.specs.declared.Operand.{Operand}
 use Rattle.isa.specs.declared.Operand.the-variants as O
-use Rattle.tokens.specs.Bytes.{isBlank, isMark}
-use Rattle.tokens.specs.Reading.{blanks, closing, tokenHere, tokenAt, tokensWithin, tokensFrom}
-use Rattle.names.specs.Names.{capital, isNamed, statementWords, wordIn, registers, placeIn, registerCode}
-use Rattle.names.specs.Names as Names
-use Rattle.values.specs.Ranges.{displacementOf}
 use Rattle.values.specs.declared.LabelIn.{LabelIn}
 use Rattle.values.specs.declared.LabelIn.the-variants.{Absent, Named}
-use Rattle.expressions.specs.Trees.{depth}
-use Rattle.expressions.specs.Worths.{within32, ofNumber, operation, operate, worthOf}
-use Rattle.expressions.specs.Reading.{markSymbol, operand, operator, expressionRead}
-use Rattle.operands.specs.Inner.Walk.{starts, indexStep, operandsOf}
-use Rattle.operands.specs.Inner.Walk as Walk
-use Rattle.operands.specs.Checks.{fits, labelIn, instructionRead}
-use Rattle.operands.specs.Checks as Operands
 use Rattle.operands.specs.declared.Given.{Given}
-use Rattle.items.specs.Items.{cellsOf, allInRange}
-use Rattle.items.specs.Reading.{characters, newline, itemsRead}
-use Rattle.items.specs.Reading as Items
-use Rattle.statements.specs.Judging.{refusalOf, resultOf, claimOf}
-use Rattle.statements.specs.Reading.{labelRead, afterLabel, statementRead, lineRead}
+use Rattle.statements.specs.Judging.{refusalOf, claimOf}
+use Rattle.statements.specs.Reading.{lineRead}
 use Rattle.statements.specs.declared.Statement.{Statement}
 use Rattle.statements.specs.declared.Statement.the-variants.{Nothing, Instruction, Org, Equ, Res, Data, End}
 use Rattle.statements.specs.declared.StatementRead.{StatementRead}
 use Rattle.statements.specs.declared.StatementRead.the-variants.{Passes, Fails}
+use Rattle.statements.proofs.Computing.{computedLine}
 
 -- a line of these bytes passes its own checks
 abbrev Line : List ℕ → LabelIn → Statement → Type 0
@@ -149,7 +130,7 @@ pub record Examples : Type 0 where
   pub claim-three : Claims 3 ("MOVE #x,.A" ∷ "DATA \"a\",-1" ∷ [])
 
 pub examples : Examples
-unfolding rank worthAfter run digitsAt radixAt unsignedAt keptOf table opcodes countOf allows isBlank isMark blanks closing tokenHere tokenAt tokensWithin tokensFrom capital isNamed statementWords wordIn registers placeIn registerCode Names.wordOf displacementOf depth within32 ofNumber operation operate worthOf markSymbol operand operator expressionRead starts indexStep Walk.walk operandsOf fits labelIn Operands.wordOf Operands.judged instructionRead cellsOf allInRange characters newline Items.walk itemsRead resultOf labelRead afterLabel statementRead lineRead
+unfolding computedLine
 examples =
     record {
       nothing-said = (refl, (refl, (refl, tt)));

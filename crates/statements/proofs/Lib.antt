@@ -12,5 +12,6 @@ pub mod CellsGiven
 pub mod Passing
 pub mod Claims
 pub mod Spacing
+pub mod Computing
 pub mod Examples
 pub mod Top
