@@ -14,7 +14,7 @@ use Rattle.statements.specs.Reading.{lineRead}
 use Rattle.statements.proofs.Top as Statements
 use Rattle.sources.specs.Sources.{spelled}
 use Rattle.sources.specs.Placing.{Bound, Place, names, labelled}
-use Rattle.sources.specs.Uses.{same}
+use Rattle.names.specs.Names.{same}
 use Rattle.sources.specs.Order.{_on_}
 use Rattle.sources.specs.Inner.Assembling.{passes, refused, firstOf, among, nameVerdict, labelVerdict}
 use Rattle.labels.specs.Labels.{window, wordBy, words, labelsBefore, zipped}

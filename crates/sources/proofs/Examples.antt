@@ -31,7 +31,7 @@ use Rattle.statements.specs.Cells.{bodyCells, cellsIn}
 use Rattle.statements.specs.Reading.{labelRead, afterLabel, statementRead, lineRead}
 use Rattle.items.specs.Writing.{cellsFrom}
 use Rattle.sources.specs.Placing.{does, start, names, boundTo, acted, after, bindings}
-use Rattle.sources.specs.Uses.{same, valueOf, usesBy}
+use Rattle.sources.specs.Uses.{valueOf, usesBy}
 use Rattle.sources.specs.Order.{_on_}
 use Rattle.sources.specs.Inner.Assembling.{passes, firstOf, upToEnd, loanVerdict, among, nameVerdict, taken, actVerdict, lineVerdict, walkLines, startWork, worked, workAfter, endVerdict, useVerdict, usesVerdict, filled, lateVerdict, verdictOf, memoryOf, Assembled, accepted, refuses, assembleOf}
 
@@ -106,7 +106,7 @@ pub record Examples : Type 0 where
   pub bad-loan : assembleOf 2 3 (sourceOf ("FOO" ∷ [])) ≡ refuses (1 on 0)
 
 pub examples : Examples
-unfolding rank worthAfter run digitsAt radixAt unsignedAt keptOf table opcodes countOf allows firstWordOf wordsOf isBlank isMark blanks closing tokenHere tokenAt tokensWithin tokensFrom linesOf capital isNamed statementWords wordIn registers placeIn registerCode Names.wordOf displacementOf depth within32 ofNumber operation operate worthOf markSymbol operand operator expressionRead starts indexStep Walk.walk operandsOf fits labelIn Operands.wordOf Operands.judged instructionRead cellsOf allInRange characters newline Items.walk itemsRead resultOf labelRead afterLabel statementRead lineRead bodyCells cellsIn cellsFrom firstOf does start names boundTo acted after bindings same valueOf usesBy upToEnd loanVerdict among nameVerdict taken actVerdict lineVerdict walkLines startWork worked workAfter endVerdict useVerdict usesVerdict filled lateVerdict verdictOf memoryOf assembleOf
+unfolding rank worthAfter run digitsAt radixAt unsignedAt keptOf table opcodes countOf allows firstWordOf wordsOf isBlank isMark blanks closing tokenHere tokenAt tokensWithin tokensFrom linesOf capital isNamed statementWords wordIn registers placeIn registerCode Names.wordOf displacementOf depth within32 ofNumber operation operate worthOf markSymbol operand operator expressionRead starts indexStep Walk.walk operandsOf fits labelIn Operands.wordOf Operands.judged instructionRead cellsOf allInRange characters newline Items.walk itemsRead resultOf labelRead afterLabel statementRead lineRead bodyCells cellsIn cellsFrom firstOf does start names boundTo acted after bindings valueOf usesBy upToEnd loanVerdict among nameVerdict taken actVerdict lineVerdict walkLines startWork worked workAfter endVerdict useVerdict usesVerdict filled lateVerdict verdictOf memoryOf assembleOf
 examples =
     record {
       printed = refl;
