@@ -78,7 +78,8 @@ returns-4 c =
         label-held (a .s .now) (a .starts .now) (a .keys .now) (a .line .now) vs ms (a .c) (a .n) k
             (record { fair = p .0; starts-long = p .1; keys-long = p .2; values-long = l; order = p .3; within = p .4 }) (few .if2 .left)
             (a .from + a .n .start) (c .key .result)
-            (word-kept (a .s .now) (a .line .now) (a .from + a .n .start) (a .n .start) size (c .key .result) byte (p .6) (c .key .ensures)),
+            (word-kept (a .s .now) (a .line .now) (a .from + a .n .start) (a .n .start) size (c .key .result) byte
+            (p .6 (a .n .start) size (omega (arith, p .3, p .4))) (c .key .ensures)),
       ),
     )
 
