@@ -1,12 +1,12 @@
 // A source to memory and map. Nothing lent is written before acceptance is certain: cells and marks are made in rows of our own.
 ghost use mathlib.Core.Path.{_≡_};
-ghost use Prim.Native.Nat.{_≤_};
+ghost use Prim.Native.Nat.{_≤_, _<_};
 ghost use lib.ListN.{length};
 ghost use Rattle.codes.specs.Limits.{mostCells, longestSource};
-ghost use Rattle.labels.specs.Labels.{labelsIn, Reach, farthest};
+ghost use Rattle.labels.specs.Labels.{labelsIn, Reach};
 ghost use Rattle.sources.specs.Order.{_on_};
 ghost use Rattle.sources.specs.Inner.Assembling.{passes};
-ghost use Rattle.uses.specs.Inner.Held.{usesHeld, Room};
+ghost use Rattle.uses.specs.Inner.Held.{usesHeld, Room, mostUses};
 ghost use Rattle.walking.specs.Inner.Walking.{Lent};
 ghost use Rattle.assembler.specs.Promise.{told, refusal, Replies};
 ghost use Rattle.assembler.specs.Inner.Parts.{outcome, outcomeBy, outcomeOfUses, outcomeOf};
@@ -22,6 +22,8 @@ use codes::marks::DATA;
 use settling::Settled;
 use settling::settle::settle;
 use sources::Line;
+use uses::keeping::MOST_USES;
+use uses::keeping::ROW_CELLS;
 use walking::Walked;
 use walking::walk::walk;
 
@@ -73,7 +75,7 @@ fn settle_and_accept(
 ) -> Reply
     requires { ⌜
         Reach labels (now starts) (now keys) (now values)
-        × (uses ≤ farthest)
+        × (uses < mostUses)
         × Room uses (now row) (now aways)
         × (length (now cells) ≡ length (now memory))
         × (length (now marks) ≡ length (now map))
@@ -155,8 +157,8 @@ fn assemble_lent(s: &[u8], memory: &mut [u16], map: &mut [u8]) -> Reply
     let mut values = [0u16; MOST_LABELS];
     let mut marks = [0u8; MOST_CELLS];
     let mut cells = [0u16; MOST_CELLS];
-    let mut row = [0u16; 131080];
-    let mut aways = [0u8; 32770];
+    let mut row = [0u16; ROW_CELLS];
+    let mut aways = [0u8; MOST_USES];
     assemble_over(
         s,
         &mut starts,

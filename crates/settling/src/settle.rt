@@ -1,7 +1,7 @@
 // All labels that operands name, in the order of lines and operands.
-ghost use Prim.Native.Nat.{_≤_};
-ghost use Rattle.labels.specs.Labels.{labelsIn, Reach, farthest};
-ghost use Rattle.uses.specs.Inner.Held.{usesHeld, Room};
+ghost use Prim.Native.Nat.{_<_};
+ghost use Rattle.labels.specs.Labels.{labelsIn, Reach};
+ghost use Rattle.uses.specs.Inner.Held.{usesHeld, Room, mostUses};
 ghost use Rattle.settling.specs.Inner.Settling.{SettlesUses};
 use super::Settled;
 use super::Word;
@@ -20,7 +20,7 @@ pub fn settle(
     uses: usize,
     cells: &mut [u16],
 ) -> Settled
-    requires { ⌜ Reach count (now starts) (now keys) (now values) × (uses ≤ farthest) × Room uses (now row) (now aways) ⌝ }
+    requires { ⌜ Reach count (now starts) (now keys) (now values) × (uses < mostUses) × Room uses (now row) (now aways) ⌝ }
     ensures { λ r. ⌜
         SettlesUses (labelsIn (now (s .entry)) (now (starts .entry)) (now (keys .entry)) (now (values .entry)) count)
         (usesHeld (now (s .entry)) (now (row .entry)) (now (aways .entry)) uses) (now (cells .entry)) (now (cells .exit)) r

@@ -5,6 +5,12 @@ ghost use mathlib.Core.List.{[], _∷_};
 ghost use Prim.Native.Nat.{_+_};
 ghost use Rattle.uses.specs.Inner.Held.{useHeld, Adds, Room};
 
+// A source of 32,768 bytes names fewer (`mostUses`).
+pub const MOST_USES: usize = 32770;
+
+// The cells of the first row.
+pub const ROW_CELLS: usize = 4 * MOST_USES;
+
 // One more.
 pub fn keep(
     row: &mut [u16],
