@@ -5,18 +5,18 @@ use mathlib.Core.Logic.{_⊎_, inl, inr}
 use mathlib.Core.Path.{_≡_, refl, sym, ap, subst, _∙_}
 use native.Mathlib.Omega.{arith}
 use lib.ListN.{length}
+use Rattle.codes.specs.Limits.{mostCells, longestSource}
 use Rattle.statements.specs.FirstFailing.{Pass, First}
 use Rattle.sources.specs.Order.{_on_, loanChecks, of-loans}
 use Rattle.sources.specs.Image.{Accepted}
-use Rattle.sources.specs.Inner.Assembling.{Verdict, passes, refused, loanVerdict, workOf, verdictOf, memoryOf, refuses, assembledBy, assembleOf}
+use Rattle.sources.specs.Inner.Assembling.{Verdict, passes, refused, loanVerdict, workOf, verdictOf, memoryOf, refuses, assembledBy, assembleOf, sourceVerdict}
 use Rattle.sources.proofs.Verdicts.{tells-pass}
 use Rattle.sources.proofs.LateDecided.{loans-tell}
 use Rattle.sources.proofs.Top as sources
 use Rattle.assembler.specs.Promise.{told, acceptance, refusal, Replies, accepts}
 use Rattle.assembler.specs.Promise as Promise
-use Rattle.assembler.specs.Inner.Parts.{Outcome, outcome, outcomeBy}
+use Rattle.assembler.specs.Inner.Parts.{Outcome, outcome, outcomeBy, outcomeOf}
 use Rattle.assembler.specs.declared.Reply.{Reply}
-use Rattle.assembler.proofs.Walks.{whole}
 
 module _ (source memory map : List ℕ) (r : Reply) where
   abbrev M : ℕ
@@ -27,31 +27,31 @@ module _ (source memory map : List ℕ) (r : Reply) where
 
   -- ---- 1, 2
 
-  pub bad-loan : told r ≡ refusal (1 on 0) → (M ≡ 0) ⊎ ((65536 < M) ⊎ (N ≡ M → ⊥)) → Replies source memory map r memory map
+  pub bad-loan : told r ≡ refusal (1 on 0) → (M ≡ 0) ⊎ ((mostCells < M) ⊎ (N ≡ M → ⊥)) → Replies source memory map r memory map
   unfolding First loanChecks
   bad-loan e h = Promise.refuses (1 on 0) (of-loans (inl (h, refl))) e refl refl
 
-  pub too-long : told r ≡ refusal (2 on 0) → (M ≡ 0 → ⊥) → M ≤ 65536 → N ≡ M → 32768 < length source → Replies source memory map r memory map
+  pub too-long : told r ≡ refusal (2 on 0) → (M ≡ 0 → ⊥) → M ≤ mostCells → N ≡ M → longestSource < length source → Replies source memory map r memory map
   unfolding First loanChecks
   too-long e a b c h = Promise.refuses (2 on 0) (of-loans (inr (good, inl (h, refl)))) e refl refl
     where
-      good : (M ≡ 0) ⊎ ((65536 < M) ⊎ (N ≡ M → ⊥)) → ⊥
+      good : (M ≡ 0) ⊎ ((mostCells < M) ⊎ (N ≡ M → ⊥)) → ⊥
       good (inl x) = a x
       good (inr (inl x)) = omega (arith, x, b)
       good (inr (inr x)) = x c
 
   -- ---- what is lent is right
 
-  loans-pass : (M ≡ 0 → ⊥) → M ≤ 65536 → N ≡ M → length source ≤ 32768 → Pass (loanChecks M N source)
+  loans-pass : (M ≡ 0 → ⊥) → M ≤ mostCells → N ≡ M → length source ≤ longestSource → Pass (loanChecks M N source)
   unfolding Pass loanChecks
   loans-pass a b c d = (good, (λ x. omega (arith, x, d), tt))
     where
-      good : (M ≡ 0) ⊎ ((65536 < M) ⊎ (N ≡ M → ⊥)) → ⊥
+      good : (M ≡ 0) ⊎ ((mostCells < M) ⊎ (N ≡ M → ⊥)) → ⊥
       good (inl x) = a x
       good (inr (inl x)) = omega (arith, x, b)
       good (inr (inr x)) = x c
 
-  verdict-is : Pass (loanChecks M N source) → verdictOf M N source ≡ whole M source
+  verdict-is : Pass (loanChecks M N source) → verdictOf M N source ≡ sourceVerdict M source
   unfolding verdictOf
   verdict-is h = let e : loanVerdict M N source ≡ passes = tells-pass _ _ (loans-tell M N source) h in rw e
 
@@ -74,7 +74,7 @@ module _ (source memory map : List ℕ) (r : Reply) where
         Promise.refuses why (sources.refused-exactly M N source why .0 (answer-by e)) (ap (λ (x : Outcome). x .reply) o) (ap (λ (x : Outcome). x .memory) o)
         (ap (λ (x : Outcome). x .map) o)
 
-    pub replies : (M ≡ 0 → ⊥) → M ≤ 65536 → N ≡ M → length source ≤ 32768
-        → outcome r memory′ map′ ≡ outcomeBy (whole M source) (memoryOf (workOf M source)) (workOf M source .place .marks) memory map
+    pub replies : (M ≡ 0 → ⊥) → M ≤ mostCells → N ≡ M → length source ≤ longestSource
+        → outcome r memory′ map′ ≡ outcomeOf M source memory map
         → Replies source memory map r memory′ map′
-    replies a b c d o = by-outcome (whole M source) (verdict-is (loans-pass a b c d)) o
+    replies a b c d o = by-outcome (sourceVerdict M source) (verdict-is (loans-pass a b c d)) o

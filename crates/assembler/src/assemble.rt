@@ -1,15 +1,15 @@
 // A source to memory and map. Nothing lent is written before acceptance is certain: cells and marks are made in rows of our own.
 ghost use mathlib.Core.Path.{_≡_};
-ghost use Prim.Native.Nat.{_+_, _*_, _≤_, _<_};
-ghost use lib.ListN.{length, replicate};
-ghost use Rattle.tokens.specs.Reading.{linesOf};
-ghost use Rattle.labels.specs.Labels.{words, zipped};
-ghost use Rattle.sources.specs.Placing.{start};
+ghost use Prim.Native.Nat.{_≤_, _<_};
+ghost use lib.ListN.{length};
+ghost use Rattle.codes.specs.Limits.{mostCells, longestSource};
+ghost use Rattle.labels.specs.Labels.{labelsIn, Reach};
 ghost use Rattle.sources.specs.Order.{_on_};
-ghost use Rattle.sources.specs.Inner.Assembling.{passes, andThen, upToEnd, walkLines, workOf, lateVerdict, memoryOf, usesVerdict, filled};
-ghost use Rattle.uses.specs.Inner.Held.{usesHeld};
+ghost use Rattle.sources.specs.Inner.Assembling.{passes};
+ghost use Rattle.uses.specs.Inner.Held.{usesHeld, Room, mostUses};
+ghost use Rattle.walking.specs.Inner.Walking.{Lent};
 ghost use Rattle.assembler.specs.Promise.{told, refusal, Replies};
-ghost use Rattle.assembler.specs.Inner.Parts.{outcome, outcomeBy};
+ghost use Rattle.assembler.specs.Inner.Parts.{outcome, outcomeBy, outcomeOfUses, outcomeOf};
 use super::Reply;
 use super::copying::copy_cells;
 use super::copying::copy_marks;
@@ -22,6 +22,8 @@ use codes::marks::DATA;
 use settling::Settled;
 use settling::settle::settle;
 use sources::Line;
+use uses::keeping::MOST_USES;
+use uses::keeping::ROW_CELLS;
 use walking::Walked;
 use walking::walk::walk;
 
@@ -39,7 +41,10 @@ fn refused(number: u8, line: Line) -> Reply
 // Acceptance: the whole memory and the whole map are rewritten.
 fn accept(cells: &[u16], marks: &[u8], memory: &mut [u16], map: &mut [u8]) -> Reply
     requires { ⌜ (length (now cells) ≡ length (now memory)) × (length (now marks) ≡ length (now map)) ⌝ }
-    ensures { λ r. ⌜ outcome r (now (memory .exit)) (now (map .exit)) ≡ outcomeBy passes (now (cells .entry)) (now (marks .entry)) (now (memory .entry)) (now (map .entry)) ⌝ }
+    ensures { λ r. ⌜
+        outcome r (now (memory .exit)) (now (map .exit))
+        ≡ outcomeBy passes (now (cells .entry)) (now (marks .entry)) (now (memory .entry)) (now (map .entry))
+        ⌝ }
 {
     copy_cells(cells, memory);
     copy_marks(marks, map);
@@ -68,8 +73,19 @@ fn settle_and_accept(
     memory: &mut [u16],
     map: &mut [u8],
 ) -> Reply
-    requires { ⌜ (labels ≤ length (now starts)) × (labels ≤ length (now keys)) × (labels ≤ length (now values)) × (uses ≤ 100000) × (4 * uses ≤ length (now row)) × (uses ≤ length (now aways)) × (length (now cells) ≡ length (now memory)) × (length (now marks) ≡ length (now map)) ⌝ }
-    ensures { λ r. ⌜ outcome r (now (memory .exit)) (now (map .exit)) ≡ outcomeBy (usesVerdict (zipped (words (now (s .entry)) (now (starts .entry)) (now (keys .entry)) labels) (now (values .entry))) (usesHeld (now (s .entry)) (now (row .entry)) (now (aways .entry)) uses)) (filled (zipped (words (now (s .entry)) (now (starts .entry)) (now (keys .entry)) labels) (now (values .entry))) (usesHeld (now (s .entry)) (now (row .entry)) (now (aways .entry)) uses) (now (cells .entry))) (now (marks .entry)) (now (memory .entry)) (now (map .entry)) ⌝ }
+    requires { ⌜
+        Reach labels (now starts) (now keys) (now values)
+        × (uses < mostUses)
+        × Room uses (now row) (now aways)
+        × (length (now cells) ≡ length (now memory))
+        × (length (now marks) ≡ length (now map))
+        ⌝ }
+    ensures { λ r. ⌜
+        outcome r (now (memory .exit)) (now (map .exit))
+        ≡ outcomeOfUses (labelsIn (now (s .entry)) (now (starts .entry)) (now (keys .entry)) (now (values .entry)) labels)
+        (usesHeld (now (s .entry)) (now (row .entry)) (now (aways .entry)) uses)
+        (now (cells .entry)) (now (marks .entry)) (now (memory .entry)) (now (map .entry))
+        ⌝ }
 {
     match settle(s, starts, keys, values, labels, row, aways, uses, cells) {
         Settled::Refused(f, l) => {
@@ -94,8 +110,15 @@ fn assemble_over(
     memory: &mut [u16],
     map: &mut [u8],
 ) -> Reply
-    requires { ⌜ (length (now s) ≤ 32768) × (length (now starts) ≡ 512) × (length (now keys) ≡ 512) × (length (now values) ≡ 512) × (length (now marks) ≤ 65536) × (now marks ≡ replicate (length (now marks)) 0) × (now cells ≡ replicate (length (now marks)) 0) × (131080 ≤ length (now row)) × (32770 ≤ length (now aways)) × (length (now memory) ≡ length (now marks)) × (length (now map) ≡ length (now marks)) ⌝ }
-    ensures { λ r. ⌜ outcome r (now (memory .exit)) (now (map .exit)) ≡ outcomeBy (andThen (walkLines (length (now (marks .entry))) 1 (start (length (now (marks .entry)))) (upToEnd (linesOf (now (s .entry))))) (lateVerdict (workOf (length (now (marks .entry))) (now (s .entry))) (length (upToEnd (linesOf (now (s .entry))))))) (memoryOf (workOf (length (now (marks .entry))) (now (s .entry)))) (workOf (length (now (marks .entry))) (now (s .entry)) .place .marks) (now (memory .entry)) (now (map .entry)) ⌝ }
+    requires { ⌜
+        Lent (now s) (now starts) (now keys) (now values) (now marks) (now cells) (now row) (now aways)
+        × (length (now memory) ≡ length (now marks))
+        × (length (now map) ≡ length (now marks))
+        ⌝ }
+    ensures { λ r. ⌜
+        outcome r (now (memory .exit)) (now (map .exit))
+        ≡ outcomeOf (length (now (marks .entry))) (now (s .entry)) (now (memory .entry)) (now (map .entry))
+        ⌝ }
 {
     match walk(s, starts, keys, values, marks, cells, row, aways) {
         Walked::Refused(f, l) => {
@@ -122,8 +145,11 @@ fn assemble_over(
 
 // The same over rows of our own: 512 labels, a map and a memory of 65,536 cells, and as many labels in operands as a source can name.
 fn assemble_lent(s: &[u8], memory: &mut [u16], map: &mut [u8]) -> Reply
-    requires { ⌜ (length (now s) ≤ 32768) × (length (now memory) ≤ 65536) × (length (now map) ≡ length (now memory)) ⌝ }
-    ensures { λ r. ⌜ outcome r (now (memory .exit)) (now (map .exit)) ≡ outcomeBy (andThen (walkLines (length (now (memory .entry))) 1 (start (length (now (memory .entry)))) (upToEnd (linesOf (now (s .entry))))) (lateVerdict (workOf (length (now (memory .entry))) (now (s .entry))) (length (upToEnd (linesOf (now (s .entry))))))) (memoryOf (workOf (length (now (memory .entry))) (now (s .entry)))) (workOf (length (now (memory .entry))) (now (s .entry)) .place .marks) (now (memory .entry)) (now (map .entry)) ⌝ }
+    requires { ⌜ (length (now s) ≤ longestSource) × (length (now memory) ≤ mostCells) × (length (now map) ≡ length (now memory)) ⌝ }
+    ensures { λ r. ⌜
+        outcome r (now (memory .exit)) (now (map .exit))
+        ≡ outcomeOf (length (now (memory .entry))) (now (s .entry)) (now (memory .entry)) (now (map .entry))
+        ⌝ }
 {
     let m = memory.len();
     let mut starts = [0u16; MOST_LABELS];
@@ -131,8 +157,8 @@ fn assemble_lent(s: &[u8], memory: &mut [u16], map: &mut [u8]) -> Reply
     let mut values = [0u16; MOST_LABELS];
     let mut marks = [0u8; MOST_CELLS];
     let mut cells = [0u16; MOST_CELLS];
-    let mut row = [0u16; 131080];
-    let mut aways = [0u8; 32770];
+    let mut row = [0u16; ROW_CELLS];
+    let mut aways = [0u8; MOST_USES];
     assemble_over(
         s,
         &mut starts,

@@ -16,13 +16,16 @@ module _ (W : Type 0) (number : ℕ → W) (operate : Operation → W → W → 
     -- "left to right": a sum's left side is a sum, its right side a product
     pub data Sum : List Token → W → Type 0 where
       one-product : {ts : List Token} {v : W} → Product ts v → Sum ts v
-      sum : {ts us : List Token} {a b : W} {o : Operation} (t : Token) → Sum ts a → SumMark t o → Product us b → Sum (ts ++ (t ∷ us)) (operate o a b)
+      sum : {ts us : List Token} {a b : W} {o : Operation} (t : Token) → Sum ts a → SumMark t o → Product us b
+          → Sum (ts ++ (t ∷ us)) (operate o a b)
 
     pub data Product : List Token → W → Type 0 where
       one-factor : {ts : List Token} {v : W} → Factor ts v → Product ts v
-      product : {ts us : List Token} {a b : W} {o : Operation} (t : Token) → Product ts a → ProductMark t o → Factor us b → Product (ts ++ (t ∷ us)) (operate o a b)
+      product : {ts us : List Token} {a b : W} {o : Operation} (t : Token) → Product ts a → ProductMark t o → Factor us b
+          → Product (ts ++ (t ∷ us)) (operate o a b)
 
     -- "an operand is a number or an expression in parentheses"
     pub data Factor : List Token → W → Type 0 where
       literal : {t : Token} {v : ℕ} {k : Radix} → t .kind ≡ K.Number v k → Factor (t ∷ []) (number v)
-      parentheses : {a : Token} {ts : List Token} {v : W} (z : Token) → IsMark (code "(") a → Sum ts v → IsMark (code ")") z → Factor (a ∷ (ts ++ (z ∷ []))) (enclose v)
+      parentheses : {a : Token} {ts : List Token} {v : W} (z : Token) → IsMark (code "(") a → Sum ts v → IsMark (code ")") z
+          → Factor (a ∷ (ts ++ (z ∷ []))) (enclose v)

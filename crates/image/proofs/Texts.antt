@@ -9,10 +9,10 @@ use borrow.Author.Tests.{eq-eqb, ne-eqb, eqb-true, eqb-false, leb-true, le-leb, 
 use lib.Dec.{leb, eqb}
 use lib.ListN.{length, getD, drop, length-append, drop-of-length-le}
 use lib.Seq.{drop-cons}
-use Rattle.numerals.specs.Bytes.{bytes}
+use Rattle.numerals.specs.Bytes.{LF, bytes}
 use Rattle.numerals.specs.Writing.{decimal}
 use Rattle.numerals.proofs.Filling.{length-decimal}
-use Rattle.image.specs.Image.{kind, cellLine, cellLines, claimed, headLines, LF, textOf, imageText}
+use Rattle.image.specs.Image.{kind, cellLine, cellLines, claimed, headLines, textOf, imageText}
 use Rattle.image.specs.Printing.{knownMarks}
 use Rattle.image.specs.Inner.Pieces.{piece, kindAndValue, cellsText}
 

@@ -5,7 +5,7 @@ use mathlib.Core.List.{List, [], _∷_, _++_}
 use lib.Dec.{eqb}
 use lib.ListN.{length, getD}
 use Rattle.codes.specs.Marks.{free, codeMark}
-use Rattle.numerals.specs.Bytes.{bytes}
+use Rattle.numerals.specs.Bytes.{LF, bytes}
 use Rattle.numerals.specs.Writing.{decimal}
 
 -- how a claimed cell's mark is printed
@@ -33,9 +33,6 @@ headLines size number = bytes "version=1" ∷ (bytes "size=" ++ decimal size) �
 
 abbrev pub imageLines : List ℕ → List ℕ → List (List ℕ)
 imageLines memory marks = headLines (length memory) (claimed marks) ++ cellLines memory 0 marks
-
-abbrev pub LF : ℕ
-LF = 10
 
 -- "one line each", as 01 says of a refusal: an LF after every line, the last too
 unfoldable pub textOf : List (List ℕ) → List ℕ

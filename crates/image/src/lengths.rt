@@ -2,6 +2,7 @@
 ghost use mathlib.Core.Path.{_≡_};
 ghost use Prim.Native.Nat.{_≤_};
 ghost use lib.ListN.{length};
+ghost use Rattle.codes.specs.Limits.{mostCells};
 ghost use Rattle.numerals.specs.Writing.{decimal};
 ghost use Rattle.image.specs.Image.{claimed, imageText};
 ghost use Rattle.image.specs.Inner.Pieces.{piece, cellsText};
@@ -40,7 +41,7 @@ pub(crate) fn claimed_in(map: &[u8]) -> usize
 
 // The lines of all cells.
 fn cells_length(memory: &[u16], map: &[u8]) -> usize
-    requires { ⌜ (length (now map) ≡ length (now memory)) × (length (now memory) ≤ 65536) ⌝ }
+    requires { ⌜ (length (now map) ≡ length (now memory)) × (length (now memory) ≤ mostCells) ⌝ }
     ensures { λ r. ⌜ r ≡ length (cellsText (now (memory .entry)) (now (map .entry))) ⌝ }
 {
     let mut n: usize = 0;
@@ -54,7 +55,7 @@ fn cells_length(memory: &[u16], map: &[u8]) -> usize
 
 // The whole text: the first three lines are two decimals and 25 bytes more.
 pub(crate) fn text_length(memory: &[u16], map: &[u8]) -> usize
-    requires { ⌜ (length (now map) ≡ length (now memory)) × (length (now memory) ≤ 65536) ⌝ }
+    requires { ⌜ (length (now map) ≡ length (now memory)) × (length (now memory) ≤ mostCells) ⌝ }
     ensures { λ r. ⌜ r ≡ length (imageText (now (memory .entry)) (now (map .entry))) ⌝ }
 {
     let size = decimal_length(memory.len() as u32);

@@ -3,6 +3,7 @@ ghost use mathlib.Core.Path.{_≡_};
 ghost use mathlib.Core.List.{_++_};
 ghost use Prim.Native.Nat.{_+_, _≤_};
 ghost use lib.ListN.{length};
+ghost use Rattle.codes.specs.Limits.{mostCells};
 ghost use Rattle.numerals.specs.Writing.{decimal};
 ghost use Rattle.ports.specs.Overwriting.{overwrite};
 ghost use Rattle.image.specs.Image.{headLines, textOf, imageText};
@@ -55,7 +56,7 @@ fn cell(room: &mut [u8], at: usize, address: u32, mark: u8, value: u16) -> usize
 fn cells(room: &mut [u8], from: usize, memory: &[u16], map: &[u8])
     requires { ⌜
         (length (now map) ≡ length (now memory))
-        × (length (now memory) ≤ 65536)
+        × (length (now memory) ≤ mostCells)
         × (from + length (cellsText (now memory) (now map)) ≤ length (now room))
         ⌝ }
     ensures { λ _. ⌜ now (room .exit) ≡ overwrite (now (room .entry)) from (cellsText (now (memory .entry)) (now (map .entry))) ⌝ }
@@ -83,7 +84,7 @@ fn head(room: &mut [u8], size: u32, number: u32) -> usize
 pub(crate) fn write(room: &mut [u8], memory: &[u16], map: &[u8])
     requires { ⌜
         (length (now map) ≡ length (now memory))
-        × (length (now memory) ≤ 65536)
+        × (length (now memory) ≤ mostCells)
         × (length (imageText (now memory) (now map)) ≤ length (now room))
         ⌝ }
     ensures { λ _. ⌜ now (room .exit) ≡ overwrite (now (room .entry)) 0 (imageText (now (memory .entry)) (now (map .entry))) ⌝ }

@@ -43,7 +43,10 @@ fn put(row: &mut [u16], at: usize, k: usize, v: u16)
 // The string whose opening quote stands right before a place: "a cell a character and a 0 cell".
 fn write_string(s: &[u8], from: usize, row: &mut [u16], at: usize, k: usize)
     requires { ⌜ k ≤ from ⌝ }
-    ensures { λ _. ⌜ ((cs rest : List ℕ) → Characters (drop from (now (s .entry))) cs rest → now (row .exit) ≡ sets (now (row .entry)) (at + k) (cs ++ (0 ∷ []))) ⌝ }
+    ensures { λ _. ⌜
+        ((cs rest : List ℕ) → Characters (drop from (now (s .entry))) cs rest
+        → now (row .exit) ≡ sets (now (row .entry)) (at + k) (cs ++ (0 ∷ [])))
+        ⌝ }
 {
     let mut i = from;
     let mut n = k;

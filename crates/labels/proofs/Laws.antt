@@ -10,9 +10,9 @@ use lib.ListN.{length, getD, drop, take, set, replicate}
 use lib.Seq.{drop-cons, take-suc-set, getD-take, getD-drop, slice, slice-empty, slice-cons}
 use borrow.Author.Tests.{eq-eqb, ne-eqb, eqb-true, eqb-false}
 use Rattle.values.specs.declared.Name.{Name}
+use Rattle.names.specs.Names.{same}
+use Rattle.names.proofs.Same.{same-other-by}
 use Rattle.sources.specs.Sources.{spelled}
-use Rattle.sources.specs.Uses.{same}
-use Rattle.sources.proofs.Tests.{same-decides}
 use Rattle.labels.specs.Labels.{window, words, labelsBefore, keyOf, wordBy, OtherKeys}
 
 pub length-window : (s : List ℕ) (a n : ℕ) → length (window s a n) ≡ n
@@ -52,14 +52,6 @@ window-cons s a i n h =
     let e : n - i ≡ suc (n - (i + 1)) = omega arith in
     let q : a + i + 1 ≡ a + (i + 1) = omega arith in
     ap (λ (m : ℕ). window s (a + i) m) e ∙ ap (λ (x : ℕ). getD s (a + i) 0 ∷ window s x (n - (i + 1))) q
-
--- words are other words where anything that is told of a word tells them apart
-pub same-other-by : (f : List ℕ → ℕ) (x y : List ℕ) → (f x ≡ f y → ⊥) → same x y ≡ false
-same-other-by f x y h = go (same x y) refl
-  where
-    go : (b : Bool) → same x y ≡ b → b ≡ false
-    go true e = absurd (h (ap f (same-decides x y .1 e)))
-    go false e = refl
 
 -- ---- keys
 
@@ -104,7 +96,7 @@ key-small s a (suc n) h k = let e = length-window s (a + 1) n in omega (arith, e
 -- a word with the key of another is that one if their other bytes are the same
 pub key-same : (s t : List ℕ) (a b n k : ℕ) → k ≡ keyOf (window t b n) → getD t b 0 < 256
     → same (wordBy s a k) (window t b n) ≡ same (window s (a + 1) (n - 1)) (window t (b + 1) (n - 1))
-unfolding keyOf wordBy window same
+unfolding keyOf wordBy window
 key-same s t a b zero k e h = rw e
 key-same s t a b (suc n) k e h =
     let q = parts n (getD t b 0) h in
@@ -116,15 +108,13 @@ key-same s t a b (suc n) k e h =
 module _ (s t : List ℕ) (a b n : ℕ) where
   pub same-more : (i : ℕ) → i < n → getD s (a + i) 0 ≡ getD t (b + i) 0
       → same (window s (a + i) (n - i)) (window t (b + i) (n - i)) ≡ same (window s (a + (i + 1)) (n - (i + 1))) (window t (b + (i + 1)) (n - (i + 1)))
-  unfolding same
   same-more i h e = rw (window-cons s a i n h, window-cons t b i n h, eq-eqb (getD s (a + i) 0) (getD t (b + i) 0) e)
 
   pub same-stop : (i : ℕ) → i < n → (getD s (a + i) 0 ≡ getD t (b + i) 0 → ⊥) → same (window s (a + i) (n - i)) (window t (b + i) (n - i)) ≡ false
-  unfolding same
   same-stop i h e = rw (window-cons s a i n h, window-cons t b i n h, ne-eqb (getD s (a + i) 0) (getD t (b + i) 0) e)
 
   pub same-end : (i : ℕ) → n ≤ i → same (window s (a + i) (n - i)) (window t (b + i) (n - i)) ≡ true
-  unfolding same window
+  unfolding window
   same-end i h = let e : n - i ≡ 0 = omega arith in rw e
 
 -- ---- the words held, and a word's place among them

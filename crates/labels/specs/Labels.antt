@@ -4,8 +4,9 @@ use mathlib.Core.Bool.{cond}
 use mathlib.Core.List.{List, [], _∷_}
 use mathlib.Core.Path.{_≡_}
 use lib.ListN.{length, getD}
+use Rattle.codes.specs.Limits.{mostLabels}
+use Rattle.names.specs.Names.{same}
 use Rattle.sources.specs.Placing.{Bound}
-use Rattle.sources.specs.Uses.{same}
 
 -- the n bytes from a place on
 unfoldable pub window : List ℕ → ℕ → ℕ → List ℕ
@@ -45,6 +46,32 @@ unfoldable pub zipped : List (List ℕ) → List ℕ → List Bound
 zipped [] vs = []
 zipped (w ∷ ws) [] = []
 zipped (w ∷ ws) (v ∷ vs) = record { name = w; value = v } ∷ zipped ws vs
+
+-- the first n labels that the rows hold, with their values
+abbrev pub labelsIn : List ℕ → List ℕ → List ℕ → List ℕ → ℕ → List Bound
+labelsIn s starts keys values n = zipped (words s starts keys n) values
+
+-- ---- the rows
+
+-- they have room for every label: "labels at most 512"
+pub record Rows (starts keys values : List ℕ) : Type 0 where
+  pub starts-long : length starts ≡ mostLabels
+  pub keys-long : length keys ≡ mostLabels
+  pub values-long : length values ≡ mostLabels
+
+-- they reach as far as n labels
+pub record Reach (n : ℕ) (starts keys values : List ℕ) : Type 0 where
+  pub starts-reach : n ≤ length starts
+  pub keys-reach : n ≤ length keys
+  pub values-reach : n ≤ length values
+
+-- a place below this is so small that no sum of two wraps
+abbrev pub farthest : ℕ
+farthest = 100000
+
+-- a number that a cell of a row can hold
+abbrev pub InCell : ℕ → Type 0
+InCell n = n < 65536
 
 -- none of the labels from a place up to another has this key
 abbrev pub OtherKeys : List ℕ → ℕ → ℕ → ℕ → Type 0

@@ -2,8 +2,8 @@
 ghost use mathlib.Core.Path.{_≡_};
 ghost use Prim.Native.Nat.{_+_, _-_, _≤_, _<_};
 ghost use lib.ListN.{length, getD};
-ghost use Rattle.sources.specs.Uses.{same};
-ghost use Rattle.labels.specs.Labels.{window, labelsBefore, words, keyOf, OtherKeys};
+ghost use Rattle.names.specs.Names.{same};
+ghost use Rattle.labels.specs.Labels.{window, labelsBefore, words, keyOf, OtherKeys, farthest, InCell};
 
 // The byte at a place, 0 past the end.
 fn byte(s: &[u8], i: usize) -> u8
@@ -17,7 +17,7 @@ fn byte(s: &[u8], i: usize) -> u8
 
 // Whether two names of one length that begin alike are the same: n bytes of s at a, and of t at b.
 fn same_rest(s: &[u8], a: usize, t: &[u8], b: usize, n: usize) -> bool
-    requires { ⌜ (a < 100000) × (b < 100000) × (n < 100000) ⌝ }
+    requires { ⌜ (a < farthest) × (b < farthest) × (n < farthest) ⌝ }
     ensures { λ r. ⌜ r ≡ same (window (now (s .entry)) (a + 1) (n - 1)) (window (now (t .entry)) (b + 1) (n - 1)) ⌝ }
 {
     let mut i: usize = 1;
@@ -67,7 +67,7 @@ pub fn find(
     start: usize,
     size: usize,
 ) -> usize
-    requires { ⌜ (start < 100000) × (size < 65536) × (count ≤ length (now starts)) × (count ≤ length (now keys)) ⌝ }
+    requires { ⌜ (start < farthest) × InCell size × (count ≤ length (now starts)) × (count ≤ length (now keys)) ⌝ }
     ensures { λ r. ⌜ r ≡ labelsBefore (window (now (line .entry)) start size) (words (now (s .entry)) (now (starts .entry)) (now (keys .entry)) count) ⌝ }
 {
     let wanted = key(line, start, size as u16);

@@ -12,12 +12,13 @@ use borrow.Author.Tests.{eqb-true}
 use Rattle.numerals.specs.Bytes.{bytes}
 use Rattle.isa.specs.Opcodes.{table, opcodes, opcodeOf}
 use Rattle.isa.specs.declared.Opcode.{Opcode}
-use Rattle.isa.proofs.Tests.{both-true, every-at}
+use Rattle.isa.proofs.Tests.{every-at}
 use Rattle.isa.proofs.Numbers.{same-number, each}
 use Rattle.names.specs.declared.Word.{Word}
 use Rattle.names.specs.declared.Word.the-variants.{Instructs, Org, Equ, Res, Data, End, Unknown}
-use Rattle.names.specs.Names.{capital, same, isNamed, Entry, statementWords, wordIn, wordOf, registers, placeIn, registerCode}
+use Rattle.names.specs.Names.{capital, isNamed, Entry, statementWords, wordIn, wordOf, registers, placeIn, registerCode}
 use Rattle.names.specs.Inner.Packing.{wordAt, directives}
+use Rattle.names.proofs.Same.{same-equal}
 use Rattle.names.proofs.Places.{statementNames, word-at-place}
 
 -- ---- case plays no part
@@ -39,15 +40,6 @@ word-by-case w w′ e = word-in-by-case w w′ statementWords e
 pub register-by-case : (w w′ : List ℕ) → map capital w ≡ map capital w′ → registerCode w ≡ registerCode w′
 unfolding registerCode
 register-by-case w w′ e = place-in-by-case w w′ registers e
-
--- a word that a name is has the name's capitals
-same-equal : (v n : List ℕ) → same v n ≡ true → v ≡ n
-same-equal [] [] e = refl
-same-equal [] (y ∷ ys) e = absurd (false≢true e)
-same-equal (x ∷ xs) [] e = absurd (false≢true e)
-same-equal (x ∷ xs) (y ∷ ys) e =
-    let both = both-true (eqb x y) (same xs ys) e in
-    rw (eqb-true x y (both .0), same-equal xs ys (both .1))
 
 -- two words that one name is differ in case alone
 named-alike : (w w′ : List ℕ) (name : String) → isNamed w name ≡ true → isNamed w′ name ≡ true → map capital w ≡ map capital w′

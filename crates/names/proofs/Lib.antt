@@ -1,4 +1,5 @@
 -- Laws of the definitions, by topic; Top.antt restates what the crate promises.
+pub mod Same
 pub mod Packs
 pub mod Places
 pub mod Exactly

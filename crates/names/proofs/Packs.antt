@@ -16,6 +16,7 @@ use Rattle.isa.proofs.Tests.{and-false, both-true}
 use Rattle.numerals.specs.Bytes.{bytes, between}
 use Rattle.names.specs.Names.{capital, same, isNamed, placeIn}
 use Rattle.names.specs.Inner.Packing.{pack, digit, numberOf, placeOf}
+use Rattle.names.proofs.Same.{same-other-by}
 
 -- ---- a search
 
@@ -160,13 +161,6 @@ same-pack (x ∷ xs) (y ∷ ys) c =
         let h = eqb-false (digit x) y e in
         rw e (sym (ne-eqb (pack ys * 256 + y) (pack (map digit xs) * 256 + digit x) (λ q. h (omega arith))))
 
--- a longer word is no name
-same-length : (v n : List ℕ) → (length v ≡ length n → ⊥) → same v n ≡ false
-same-length [] [] h = absurd (h refl)
-same-length [] (y ∷ ys) h = refl
-same-length (x ∷ xs) [] h = refl
-same-length (x ∷ xs) (y ∷ ys) h = rw (same-length xs ys (λ e. h (ap suc e))) (and-false (eqb x y))
-
 -- ---- names
 
 -- a name of one to six such bytes
@@ -194,7 +188,7 @@ same-number w (y ∷ ys) c =
     go true e p l =
         let k = ltb-true 6 (length w) e in
         let v = above-one y (and-l (plain y) (plains ys) p) in
-        same-length (map capital w) (y ∷ ys) (λ q. absurd (omega (arith, length-map w capital)))
+        same-other-by length (map capital w) (y ∷ ys) (λ q. absurd (omega (arith, length-map w capital)))
         ∙ sym (ne-eqb (pack ys * 256 + y) 0 (omega arith))
     go false e p l = same-pack w (y ∷ ys) p
 

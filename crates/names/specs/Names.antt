@@ -15,6 +15,7 @@ use Rattle.names.specs.declared.Word.the-variants.{Instructs, Org, Equ, 
 unfoldable pub capital : ℕ → ℕ
 capital b = cond (between (code "a") (code "z") b) (b - 32) b
 
+-- two words are byte by byte the same
 abbrev pub same : List ℕ → List ℕ → Bool
 same [] [] = true
 same [] (y ∷ ys) = false

@@ -12,6 +12,10 @@ abbrev pub bytes : String → List ℕ
 bytes Text.[] = []
 bytes (Text._∷_ c s) = code c ∷ bytes s
 
+-- the byte that ends a line
+abbrev pub LF : ℕ
+LF = 10
+
 abbrev pub between : ℕ → ℕ → ℕ → Bool
 between least most b = leb least b && leb b most
 

@@ -8,13 +8,14 @@ use lib.Dec.{ltb, leb}
 use lib.ListN.{length, take, drop, set, take-append-drop}
 use lib.Seq.{take-append-le, drop-append-le, length-take-le, length-slice}
 use borrow.Author.Tests.{lt-ltb, le-ltb, ltb-true, ltb-false}
+use Rattle.codes.specs.Limits.{mostLabels, longestLabel}
 use Rattle.values.specs.declared.LabelIn.the-variants.{Named}
 use Rattle.values.specs.declared.Name.{Name}
 use Rattle.statements.specs.Reading.{lineRead}
 use Rattle.statements.proofs.Top as Statements
 use Rattle.sources.specs.Sources.{spelled}
 use Rattle.sources.specs.Placing.{Bound, Place, names, labelled}
-use Rattle.sources.specs.Uses.{same}
+use Rattle.names.specs.Names.{same}
 use Rattle.sources.specs.Order.{_on_}
 use Rattle.sources.specs.Inner.Assembling.{passes, refused, firstOf, among, nameVerdict, labelVerdict}
 use Rattle.labels.specs.Labels.{window, wordBy, words, labelsBefore, zipped}
@@ -66,9 +67,9 @@ names-all c ws vs ms l h =
 -- what `declare` is lent: rows for 512 labels, and a label within its line
 pub record Lent (starts keys line vs : List ℕ) (c : Counters) (n : Name) : Type 0 where
   pub fair : Fair c
-  pub starts-long : length starts ≡ 512
-  pub keys-long : length keys ≡ 512
-  pub values-long : length vs ≡ 512
+  pub starts-long : length starts ≡ mostLabels
+  pub keys-long : length keys ≡ mostLabels
+  pub values-long : length vs ≡ mostLabels
   pub order : n .start ≤ n .end
   pub within : n .end ≤ length line
 
@@ -84,7 +85,7 @@ module _ (s starts keys line vs ms : List ℕ) (c : Counters) (n : Name) (k : �
       length-words s starts keys count (omega (arith, lent .fair .few, lent .starts-long)) (omega (arith, lent .fair .few, lent .keys-long))
 
   -- by the tests' answers
-  pub label-by : {x y z : Bool} {i : ℕ} → ltb 64 (n .end - n .start) ≡ x → leb 512 count ≡ y
+  pub label-by : {x y z : Bool} {i : ℕ} → ltb longestLabel (n .end - n .start) ≡ x → leb mostLabels count ≡ y
       → i ≡ labelsBefore (window line (n .start) (n .end - n .start)) held
       → ltb i count ≡ z
       → labelVerdict k (placeIn s starts keys vs ms c) line (Named n) ≡ cond (x || y) (refused (10 on k)) (cond z (refused (9 on k)) passes)
@@ -101,7 +102,7 @@ module _ (s starts keys line vs ms : List ℕ) (c : Counters) (n : Name) (k : �
       rw (a, w, held-long, e, f, q)
 
   -- one label more
-  pub label-held : count < 512 → (a m : ℕ)
+  pub label-held : count < mostLabels → (a m : ℕ)
       → window line (n .start) (n .end - n .start) ≡ wordBy s a m
       → placeIn s (set starts count a) (set keys count m) vs ms (record { at = c .at; bound = c .bound; waiting = c .waiting + 1 })
       ≡ labelled (placeIn s starts keys vs ms c) line (Named n)

@@ -8,6 +8,7 @@ use lib.Dec.{ltb, leb}
 use lib.ListN.{length, take, drop, length-drop}
 use lib.Seq.{drop-length}
 use borrow.Author.Tests.{lt-ltb, leb-false}
+use Rattle.codes.specs.Limits.{mostCells}
 use Rattle.isa.specs.declared.Address.{Address}
 use Rattle.labels.specs.Labels.{zipped}
 use Rattle.sources.specs.Placing.{Bound, Place, boundTo, boundAll, boundBy, movedBy, marked, acted}
@@ -45,10 +46,10 @@ pub start-as : {g : Gives} {p : Place} (q : Place) → g ≡ Start → p ≡ bou
 start-as {g} q e f = f ∙ sym (ap (λ (x : Gives). boundBy x q) e)
 
 -- what `bind_by` asks for
-pub binds-fine : (c : Counters) (g : Gives) → (givesStart g && (ltb 0 (c .waiting) && leb 65536 (c .at .0))) ≡ false → BindsFine c g
+pub binds-fine : (c : Counters) (g : Gives) → (givesStart g && (ltb 0 (c .waiting) && leb mostCells (c .at .0))) ≡ false → BindsFine c g
 binds-fine c Waits e = tt
 binds-fine c (Number v) e = tt
-binds-fine c Start e = λ h. leb-false 65536 (c .at .0) (rw (lt-ltb 0 (c .waiting) h) at e)
+binds-fine c Start e = λ h. leb-false mostCells (c .at .0) (rw (lt-ltb 0 (c .waiting) h) at e)
 
 -- ---- the verdict and the place
 
@@ -57,7 +58,7 @@ waiting-long c ws l = omega (arith, length-drop (c .bound) ws)
 
 -- the verdict, by the tests' answers
 pub place-by : (M k : ℕ) (c : Counters) (a : Act) (ws : List (List ℕ)) (vs ms : List ℕ) {x y z t : Bool} → length ws ≡ c .bound + c .waiting
-    → (givesStart (a .gives) && (ltb 0 (c .waiting) && leb 65536 (c .at .0))) ≡ x
+    → (givesStart (a .gives) && (ltb 0 (c .waiting) && leb mostCells (c .at .0))) ≡ x
     → reservesTooFar (a .moves) (c .at .0) ≡ y
     → pastAt M (c .at .0) (a .claims) ≡ z
     → taken ms (c .at .0) (a .claims) ≡ t

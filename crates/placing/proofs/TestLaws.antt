@@ -5,6 +5,7 @@ use mathlib.Core.Path.{_≡_, refl, sym, ap, _∙_}
 use native.Mathlib.Omega.{arith}
 use lib.Dec.{ltb, leb}
 use borrow.Author.Tests.{lt-ltb, le-ltb, ltb-true, ltb-false}
+use Rattle.codes.specs.Limits.{mostCells}
 use Rattle.sources.specs.Placing.{movedBy}
 use Rattle.sources.specs.Inner.Assembling.{givesStart, reservesTooFar}
 use Rattle.sources.specs.declared.Gives.{Gives}
@@ -40,20 +41,20 @@ and-false : (b : Bool) → (b && false) ≡ false
 and-false true = refl
 and-false false = refl
 
-pub label-none : (g : Gives) (w at : ℕ) → w ≡ 0 → false ≡ (givesStart g && (ltb 0 w && leb 65536 at))
+pub label-none : (g : Gives) (w at : ℕ) → w ≡ 0 → false ≡ (givesStart g && (ltb 0 w && leb mostCells at))
 label-none g w at e = rw e (sym (and-false (givesStart g)))
 
-pub label-some : (g : Gives) (w at : ℕ) → g ≡ Start → (w ≡ 0 → ⊥) → leb 65536 at ≡ (givesStart g && (ltb 0 w && leb 65536 at))
+pub label-some : (g : Gives) (w at : ℕ) → g ≡ Start → (w ≡ 0 → ⊥) → leb mostCells at ≡ (givesStart g && (ltb 0 w && leb mostCells at))
 label-some g w at e h = rw (e, lt-ltb 0 w (omega (arith, h)))
 
 -- ---- 6: RES goes too far
 
-pub reserves-test : (m : Moves) (at n : ℕ) → m ≡ Reserving n → at ≤ 65536 → ltb (65536 - at) n ≡ reservesTooFar m at
-reserves-test m at n e h = go (ltb (65536 - at) n) refl ∙ sym (ap (λ (x : Moves). reservesTooFar x at) e)
+pub reserves-test : (m : Moves) (at n : ℕ) → m ≡ Reserving n → at ≤ mostCells → ltb (mostCells - at) n ≡ reservesTooFar m at
+reserves-test m at n e h = go (ltb (mostCells - at) n) refl ∙ sym (ap (λ (x : Moves). reservesTooFar x at) e)
   where
-    go : (b : Bool) → ltb (65536 - at) n ≡ b → b ≡ ltb 65536 (at + n)
-    go true f = let l = ltb-true (65536 - at) n f in sym (lt-ltb 65536 (at + n) (omega arith))
-    go false f = let l = ltb-false (65536 - at) n f in sym (le-ltb 65536 (at + n) (omega arith))
+    go : (b : Bool) → ltb (mostCells - at) n ≡ b → b ≡ ltb mostCells (at + n)
+    go true f = let l = ltb-true (mostCells - at) n f in sym (lt-ltb mostCells (at + n) (omega arith))
+    go false f = let l = ltb-false (mostCells - at) n f in sym (le-ltb mostCells (at + n) (omega arith))
 
 -- ---- where an act leads
 
@@ -61,13 +62,13 @@ pub moved-as : {m m′ : Moves} (at : ℕ) → m ≡ m′ → movedBy m′ at �
 moved-as at e = sym (ap (λ (x : Moves). movedBy x at) e)
 
 -- once the tests of 6 and 11 have passed it is an address
-pub moved-low : (M : ℕ) (m : Moves) (at claims : ℕ) → Sound m claims → at ≤ 65536 → M ≤ 65536 → reservesTooFar m at ≡ false
+pub moved-low : (M : ℕ) (m : Moves) (at claims : ℕ) → Sound m claims → at ≤ mostCells → M ≤ mostCells → reservesTooFar m at ≡ false
     → pastAt M at claims ≡ false
-    → movedBy m at ≤ 65536
+    → movedBy m at ≤ mostCells
 moved-low M (On n) at claims s h k e f = go (ltb 0 claims) refl
   where
-    go : (b : Bool) → ltb 0 claims ≡ b → at + n ≤ 65536
+    go : (b : Bool) → ltb 0 claims ≡ b → at + n ≤ mostCells
     go true q = omega (arith, not-past M at claims f (ltb-true 0 claims q))
     go false q = omega (arith, ltb-false 0 claims q)
-moved-low M (Reserving n) at claims s h k e f = ltb-false 65536 (at + n) e
+moved-low M (Reserving n) at claims s h k e f = ltb-false mostCells (at + n) e
 moved-low M (To v) at claims s h k e f = s

@@ -1,13 +1,11 @@
 // A line's own label: too long or the 513th, known already, or one more that waits.
 ghost use mathlib.Core.Path.{_≡_};
 ghost use mathlib.Core.List.{List};
-ghost use Prim.Native.Nat.{ℕ, _+_, _-_, _≤_, _<_};
+ghost use Prim.Native.Nat.{ℕ, _+_, _≤_};
 ghost use lib.ListN.{length};
-ghost use Rattle.labels.specs.Labels.{window};
-ghost use Rattle.values.specs.declared.LabelIn.the-variants.{Named};
-ghost use Rattle.sources.specs.Placing.{labelled};
-ghost use Rattle.sources.specs.Inner.Assembling.{labelVerdict};
-ghost use Rattle.placing.specs.Inner.State.{Fair, FairDid, Tells, placeIn};
+ghost use Rattle.codes.specs.Limits.{mostLabels, longestSource};
+ghost use Rattle.labels.specs.Labels.{Part};
+ghost use Rattle.placing.specs.Inner.State.{Fair, FairDid, TellsLabel, placeIn};
 use super::Counters;
 use super::Did;
 use codes::limits::LONGEST_LABEL;
@@ -25,8 +23,21 @@ pub(crate) fn declare(
     c: Counters,
     n: Name,
 ) -> Did
-    requires { ⌜ Fair c × (length (now starts) ≡ 512) × (length (now keys) ≡ 512) × (n .start ≤ n .end) × (n .end ≤ length (now line)) × (from + n .end ≤ 32768) × (window (now line) (n .start) (n .end - n .start) ≡ window (now s) (from + n .start) (n .end - n .start)) ⌝ }
-    ensures { λ r. ⌜ FairDid r × ((k : ℕ) (vs ms : List ℕ) → length vs ≡ 512 → Tells k (labelVerdict k (placeIn (now (s .entry)) (now (starts .entry)) (now (keys .entry)) vs ms c) (now (line .entry)) (Named n)) (labelled (placeIn (now (s .entry)) (now (starts .entry)) (now (keys .entry)) vs ms c) (now (line .entry)) (Named n)) (placeIn (now (s .entry)) (now (starts .exit)) (now (keys .exit)) vs ms) r) ⌝ }
+    requires { ⌜
+        Fair c
+        × (length (now starts) ≡ mostLabels)
+        × (length (now keys) ≡ mostLabels)
+        × (n .start ≤ n .end)
+        × (n .end ≤ length (now line))
+        × (from + n .end ≤ longestSource)
+        × Part (now s) from (now line)
+        ⌝ }
+    ensures { λ r. ⌜
+        FairDid r
+        × ((k : ℕ) (vs ms : List ℕ) → length vs ≡ mostLabels → TellsLabel (now (line .entry)) n
+        (placeIn (now (s .entry)) (now (starts .entry)) (now (keys .entry)) vs ms c)
+        (placeIn (now (s .entry)) (now (starts .exit)) (now (keys .exit)) vs ms) k r)
+        ⌝ }
 {
     let start = n.start;
     let size = n.end - start;

@@ -4,10 +4,9 @@ ghost use Prim.Native.Nat.{ℕ, _+_, _≤_};
 ghost use lib.ListN.{length};
 ghost use Rattle.statements.specs.Reading.{lineRead};
 ghost use Rattle.values.specs.declared.LabelIn.the-variants.{Named};
-ghost use Rattle.labels.specs.Labels.{Part};
-ghost use Rattle.sources.specs.Placing.{after};
-ghost use Rattle.sources.specs.Inner.Assembling.{readLine, lineVerdict};
-ghost use Rattle.placing.specs.Inner.State.{placeIn, Fair, FairDid, Tells};
+ghost use Rattle.codes.specs.Limits.{mostCells, longestSource};
+ghost use Rattle.labels.specs.Labels.{Part, Rows};
+ghost use Rattle.placing.specs.Inner.State.{placeIn, Fair, FairDid, TellsLine};
 use super::Counters;
 use super::Did;
 use super::declaring::declare;
@@ -28,8 +27,21 @@ fn place_named(
     marks: &mut [u8],
     c: Counters,
 ) -> Did
-    requires { ⌜ Fair c × (length (now starts) ≡ 512) × (length (now keys) ≡ 512) × (length (now values) ≡ 512) × (length (now marks) ≤ 65536) × (read ≡ lineRead (now line)) × (from + length (now line) ≤ 32768) × Part (now s) from (now line) × (read .label ≡ Named n) ⌝ }
-    ensures { λ r. ⌜ FairDid r × ((k : ℕ) → Tells k (lineVerdict (length (now (marks .entry))) k (placeIn (now (s .entry)) (now (starts .entry)) (now (keys .entry)) (now (values .entry)) (now (marks .entry)) c) (readLine (now (line .entry)))) (after (placeIn (now (s .entry)) (now (starts .entry)) (now (keys .entry)) (now (values .entry)) (now (marks .entry)) c) (readLine (now (line .entry)))) (placeIn (now (s .entry)) (now (starts .exit)) (now (keys .exit)) (now (values .exit)) (now (marks .exit))) r) ⌝ }
+    requires { ⌜
+        Fair c
+        × Rows (now starts) (now keys) (now values)
+        × (length (now marks) ≤ mostCells)
+        × (read ≡ lineRead (now line))
+        × (from + length (now line) ≤ longestSource)
+        × Part (now s) from (now line)
+        × (read .label ≡ Named n)
+        ⌝ }
+    ensures { λ r. ⌜
+        FairDid r
+        × ((k : ℕ) → TellsLine (length (now (marks .entry))) (now (line .entry))
+        (placeIn (now (s .entry)) (now (starts .entry)) (now (keys .entry)) (now (values .entry)) (now (marks .entry)) c)
+        (placeIn (now (s .entry)) (now (starts .exit)) (now (keys .exit)) (now (values .exit)) (now (marks .exit))) k r)
+        ⌝ }
 {
     let st = read.statement;
     match declare(s, from, line, starts, keys, c, n) {
@@ -49,8 +61,20 @@ pub fn place_line(
     marks: &mut [u8],
     c: Counters,
 ) -> Did
-    requires { ⌜ Fair c × (length (now starts) ≡ 512) × (length (now keys) ≡ 512) × (length (now values) ≡ 512) × (length (now marks) ≤ 65536) × (read ≡ lineRead (now line)) × (from + length (now line) ≤ 32768) × Part (now s) from (now line) ⌝ }
-    ensures { λ r. ⌜ FairDid r × ((k : ℕ) → Tells k (lineVerdict (length (now (marks .entry))) k (placeIn (now (s .entry)) (now (starts .entry)) (now (keys .entry)) (now (values .entry)) (now (marks .entry)) c) (readLine (now (line .entry)))) (after (placeIn (now (s .entry)) (now (starts .entry)) (now (keys .entry)) (now (values .entry)) (now (marks .entry)) c) (readLine (now (line .entry)))) (placeIn (now (s .entry)) (now (starts .exit)) (now (keys .exit)) (now (values .exit)) (now (marks .exit))) r) ⌝ }
+    requires { ⌜
+        Fair c
+        × Rows (now starts) (now keys) (now values)
+        × (length (now marks) ≤ mostCells)
+        × (read ≡ lineRead (now line))
+        × (from + length (now line) ≤ longestSource)
+        × Part (now s) from (now line)
+        ⌝ }
+    ensures { λ r. ⌜
+        FairDid r
+        × ((k : ℕ) → TellsLine (length (now (marks .entry))) (now (line .entry))
+        (placeIn (now (s .entry)) (now (starts .entry)) (now (keys .entry)) (now (values .entry)) (now (marks .entry)) c)
+        (placeIn (now (s .entry)) (now (starts .exit)) (now (keys .exit)) (now (values .exit)) (now (marks .exit))) k r)
+        ⌝ }
 {
     let label = read.label;
     let st = read.statement;

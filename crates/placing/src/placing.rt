@@ -1,13 +1,13 @@
 // A statement at its place: its address, its cells, and the labels that wait for it.
 ghost use mathlib.Core.Bool.{_&&_};
 ghost use mathlib.Core.Path.{_≡_};
-ghost use mathlib.Core.List.{List};
 ghost use Prim.Native.Nat.{ℕ, _+_, _≤_, _<_};
 ghost use lib.Dec.{ltb, leb};
 ghost use lib.ListN.{length};
-ghost use Rattle.sources.specs.Placing.{doesRead, movedBy, acted};
-ghost use Rattle.sources.specs.Inner.Assembling.{andThen, givesStart, reservesTooFar, ownVerdict, actVerdict};
-ghost use Rattle.placing.specs.Inner.State.{stateOf, Fair, FairDid, Keeps, Tells, Sound, pastAt};
+ghost use Rattle.codes.specs.Limits.{mostCells, mostLabels};
+ghost use Rattle.sources.specs.Placing.{movedBy};
+ghost use Rattle.sources.specs.Inner.Assembling.{givesStart, reservesTooFar};
+ghost use Rattle.placing.specs.Inner.State.{stateOf, Fair, FairDid, Keeps, WithNames, TellsAct, TellsStatement, Sound, pastAt};
 use super::Counters;
 use super::Did;
 use super::acts::act;
@@ -24,7 +24,7 @@ use statements::refusals::number_of;
 
 // A label that waits would get 65,536.
 fn label_out(g: Gives, waiting: usize, at: usize) -> bool
-    ensures { λ r. ⌜ r ≡ (givesStart g && (ltb 0 waiting && leb 65536 at)) ⌝ }
+    ensures { λ r. ⌜ r ≡ (givesStart g && (ltb 0 waiting && leb mostCells at)) ⌝ }
 {
     match g {
         Gives::Waits => false,
@@ -40,7 +40,7 @@ fn label_out(g: Gives, waiting: usize, at: usize) -> bool
 
 // RES moves the address above 65,536.
 fn reserves_out(m: Moves, at: usize) -> bool
-    requires { ⌜ at ≤ 65536 ⌝ }
+    requires { ⌜ at ≤ mostCells ⌝ }
     ensures { λ r. ⌜ r ≡ reservesTooFar m at ⌝ }
 {
     match m {
@@ -64,7 +64,7 @@ fn is_past(size: usize, at: usize, n: usize) -> bool
 }
 
 fn moved(m: Moves, at: usize) -> usize
-    requires { ⌜ movedBy m at ≤ 65536 ⌝ }
+    requires { ⌜ movedBy m at ≤ mostCells ⌝ }
     ensures { λ r. ⌜ r ≡ movedBy m at ⌝ }
 {
     match m {
@@ -75,8 +75,13 @@ fn moved(m: Moves, at: usize) -> usize
 }
 
 fn place(values: &mut [u16], marks: &mut [u8], c: Counters, a: Act) -> Did
-    requires { ⌜ Fair c × (length (now values) ≡ 512) × (length (now marks) ≤ 65536) × Sound (a .moves) (a .claims) ⌝ }
-    ensures { λ r. ⌜ FairDid r × Keeps (c .bound + c .waiting) r × ((k : ℕ) (ws : List (List ℕ)) → length ws ≡ c .bound + c .waiting → Tells k (actVerdict (length (now (marks .entry))) k (stateOf ws (now (values .entry)) (now (marks .entry)) c) a) (acted (stateOf ws (now (values .entry)) (now (marks .entry)) c) a) (stateOf ws (now (values .exit)) (now (marks .exit))) r) ⌝ }
+    requires { ⌜ Fair c × (length (now values) ≡ mostLabels) × (length (now marks) ≤ mostCells) × Sound (a .moves) (a .claims) ⌝ }
+    ensures { λ r. ⌜
+        FairDid r
+        × Keeps (c .bound + c .waiting) r
+        × ((k : ℕ) → WithNames c (λ ws. TellsAct (length (now (marks .entry))) a
+        (stateOf ws (now (values .entry)) (now (marks .entry)) c) (stateOf ws (now (values .exit)) (now (marks .exit))) k r))
+        ⌝ }
 {
     let at = c.at.0;
     let gives = a.gives;
@@ -113,8 +118,13 @@ pub(crate) fn place_statement(
     c: Counters,
     s: StatementRead,
 ) -> Did
-    requires { ⌜ Fair c × (length (now values) ≡ 512) × (length (now marks) ≤ 65536) ⌝ }
-    ensures { λ r. ⌜ FairDid r × Keeps (c .bound + c .waiting) r × ((k : ℕ) (ws : List (List ℕ)) → length ws ≡ c .bound + c .waiting → Tells k (andThen (ownVerdict k s) (actVerdict (length (now (marks .entry))) k (stateOf ws (now (values .entry)) (now (marks .entry)) c) (doesRead s))) (acted (stateOf ws (now (values .entry)) (now (marks .entry)) c) (doesRead s)) (stateOf ws (now (values .exit)) (now (marks .exit))) r) ⌝ }
+    requires { ⌜ Fair c × (length (now values) ≡ mostLabels) × (length (now marks) ≤ mostCells) ⌝ }
+    ensures { λ r. ⌜
+        FairDid r
+        × Keeps (c .bound + c .waiting) r
+        × ((k : ℕ) → WithNames c (λ ws. TellsStatement (length (now (marks .entry))) s
+        (stateOf ws (now (values .entry)) (now (marks .entry)) c) (stateOf ws (now (values .exit)) (now (marks .exit))) k r))
+        ⌝ }
 {
     match s {
         StatementRead::Fails(why) => Did::No(number_of(why)),

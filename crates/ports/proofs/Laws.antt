@@ -14,6 +14,7 @@ use lib.ListN.{length, getD, take, drop, length-append}
 use lib.Seq.{getD-drop}
 use mir.Syntax.{w16}
 use mir.Val.{ofZ}
+use Rattle.numerals.specs.Bytes.{LF}
 use Rattle.numerals.specs.Numbers.{inRange, valueOf, keptOf}
 use Rattle.numerals.specs.Reading.{orZero, wholly, numberAt, lineNumber}
 use Rattle.numerals.specs.declared.Kept.the-variants.{Cell, OutOfRange}
@@ -22,7 +23,7 @@ use Rattle.numerals.specs.declared.NumberRead.the-variants.{Found, Absent}
 use Rattle.numerals.specs.Writing.{signedDecimal}
 use Rattle.ports.specs.Overwriting.{overwrite}
 use Rattle.codes.specs.Stops.{memoryEnd, inputEnd, outputShort}
-use Rattle.ports.specs.Input.{LF, lineAt, afterLine, byteTaken, numberTaken, Passed, passed, stringTaken}
+use Rattle.ports.specs.Input.{lineAt, afterLine, byteTaken, numberTaken, Passed, passed, stringTaken}
 use Rattle.ports.specs.Output.{lowByte, stringOf, endsInZero, textPut, bytePut, numberPut, stringPut}
 use Rattle.ports.specs.declared.Taken.{Taken}
 use Rattle.ports.specs.declared.Taken.the-variants.{Value, NoValue}

@@ -9,6 +9,7 @@ use borrow.Author.Tests.{lt-ltb, le-ltb, le-leb, lt-leb}
 use lib.Dec.{leb}
 use lib.ListN.{length, getD, take, drop, length-drop, length-map}
 use lib.Seq.{length-take-le, take-all}
+use Rattle.numerals.specs.Bytes.{LF}
 use Rattle.numerals.specs.Reading.{lineNumber}
 use Rattle.numerals.specs.Writing.{signedDecimal, written}
 use Rattle.numerals.specs.declared.Written.{Written}
@@ -17,7 +18,7 @@ use Rattle.numerals.proofs.Top.{signed-length}
 use Rattle.ports.specs.Overwriting.{overwrite}
 use Rattle.ports.specs.Searching.{upTo}
 use Rattle.codes.specs.Stops.{inputEnd, memoryEnd, outputShort}
-use Rattle.ports.specs.Input.{LF, lineAt, afterLine, byteTaken, numberTaken, passed, stringTaken}
+use Rattle.ports.specs.Input.{lineAt, afterLine, byteTaken, numberTaken, passed, stringTaken}
 use Rattle.ports.specs.Output.{lowByte, stringOf, textPut, stringPut}
 use Rattle.ports.specs.declared.Taken.the-variants.{Value, NoValue}
 use Rattle.ports.specs.declared.Moved.the-variants.{To, Short}

@@ -8,11 +8,12 @@ use native.Mathlib.Omega.{arith}
 use borrow.Author.Tests.{lt-ltb, le-ltb, le-leb, lt-leb, ltb-true, ltb-false}
 use lib.Dec.{ltb}
 use lib.ListN.{length, drop, length-append, length-drop}
+use Rattle.numerals.specs.Bytes.{LF}
 use Rattle.numerals.specs.Reading.{lineNumber}
 use Rattle.ports.specs.Overwriting.{overwrite}
 use Rattle.ports.specs.Searching.{upTo}
 use Rattle.codes.specs.Stops.{memoryEnd}
-use Rattle.ports.specs.Input.{LF, lineAt, afterLine, numberTaken, passed, stringTaken}
+use Rattle.ports.specs.Input.{lineAt, afterLine, numberTaken, passed, stringTaken}
 use Rattle.ports.specs.Output.{stringOf, endsInZero}
 use Rattle.ports.specs.Rules.{Free, Line, ended, last, StringFrom, Stands}
 use Rattle.ports.specs.declared.Taken.the-variants.{Value}

@@ -6,6 +6,7 @@ use mathlib.Core.List.{List, [], _∷_, _++_}
 use lib.Dec.{ltb, leb}
 use lib.ListN.{length, getD, drop}
 use Rattle.codes.specs.Stops.{memoryEnd, inputEnd}
+use Rattle.numerals.specs.Bytes.{LF}
 use Rattle.numerals.specs.Reading.{lineNumber}
 use Rattle.ports.specs.Overwriting.{overwrite}
 use Rattle.ports.specs.Searching.{upTo}
@@ -13,9 +14,6 @@ use Rattle.ports.specs.declared.Taken.{Taken}
 use Rattle.ports.specs.declared.Taken.the-variants.{Value, NoValue}
 use Rattle.ports.specs.declared.Moved.{Moved}
 use Rattle.ports.specs.declared.Moved.the-variants.{To, Short}
-
-abbrev pub LF : ℕ
-LF = 10
 
 -- the line that a text begins with: up to its LF, or all of it ("the last may lack it")
 abbrev pub lineOf : List ℕ → List ℕ

@@ -3,7 +3,7 @@ use Prim.Native.Nat.{ℕ, _+_, _<_}
 use mathlib.Core.Path.{_≡_}
 use mathlib.Core.List.{List, _∷_, _++_}
 use lib.ListN.{length, getD, take, drop}
-use Rattle.ports.specs.Input.{LF}
+use Rattle.numerals.specs.Bytes.{LF}
 
 -- none of the elements is x
 abbrev pub Free : ℕ → List ℕ → Type 0

@@ -7,8 +7,9 @@ use native.Mathlib.Omega.{arith}
 use native.Mathlib.Numerals.{add-one}
 use lib.ListN.{length, getD, set}
 use borrow.Author.Tests.{eq-eqb, ne-eqb, lt-ltb, le-ltb}
+use Rattle.names.specs.Names.{same}
 use Rattle.sources.specs.Placing.{Bound}
-use Rattle.sources.specs.Uses.{Value, known, unknown, same, valueOf, from, Use, countedWord}
+use Rattle.sources.specs.Uses.{Value, known, unknown, valueOf, from, Use, countedWord}
 use Rattle.sources.specs.Order.{Refusal, _on_}
 use Rattle.sources.specs.Inner.Assembling.{Verdict, passes, refused, andThen, firstOf, tooFar, useVerdict, usesVerdict, filled}
 use Rattle.statements.proofs.Labelling.{never}

@@ -1,10 +1,8 @@
 // All labels that operands name, in the order of lines and operands.
-ghost use Prim.Native.Nat.{_*_, _≤_};
-ghost use lib.ListN.{length};
-ghost use Rattle.labels.specs.Labels.{words, zipped};
-ghost use Rattle.sources.specs.Inner.Assembling.{usesVerdict, filled};
-ghost use Rattle.uses.specs.Inner.Held.{usesHeld};
-ghost use Rattle.settling.specs.Inner.Settling.{Settles};
+ghost use Prim.Native.Nat.{_<_};
+ghost use Rattle.labels.specs.Labels.{labelsIn, Reach};
+ghost use Rattle.uses.specs.Inner.Held.{usesHeld, Room, mostUses};
+ghost use Rattle.settling.specs.Inner.Settling.{SettlesUses};
 use super::Settled;
 use super::Word;
 use super::words::word;
@@ -22,8 +20,11 @@ pub fn settle(
     uses: usize,
     cells: &mut [u16],
 ) -> Settled
-    requires { ⌜ (count ≤ length (now starts)) × (count ≤ length (now keys)) × (count ≤ length (now values)) × (uses ≤ 100000) × (4 * uses ≤ length (now row)) × (uses ≤ length (now aways)) ⌝ }
-    ensures { λ r. ⌜ Settles (usesVerdict (zipped (words (now (s .entry)) (now (starts .entry)) (now (keys .entry)) count) (now (values .entry))) (usesHeld (now (s .entry)) (now (row .entry)) (now (aways .entry)) uses)) (filled (zipped (words (now (s .entry)) (now (starts .entry)) (now (keys .entry)) count) (now (values .entry))) (usesHeld (now (s .entry)) (now (row .entry)) (now (aways .entry)) uses) (now (cells .entry))) (now (cells .exit)) r ⌝ }
+    requires { ⌜ Reach count (now starts) (now keys) (now values) × (uses < mostUses) × Room uses (now row) (now aways) ⌝ }
+    ensures { λ r. ⌜
+        SettlesUses (labelsIn (now (s .entry)) (now (starts .entry)) (now (keys .entry)) (now (values .entry)) count)
+        (usesHeld (now (s .entry)) (now (row .entry)) (now (aways .entry)) uses) (now (cells .entry)) (now (cells .exit)) r
+        ⌝ }
 {
     let mut i: usize = 0;
     while i < uses {

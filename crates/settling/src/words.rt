@@ -1,11 +1,9 @@
 // The word that a label stands for (sources/specs/Uses.antt, `countedWord`), or 13 or 14.
 ghost use Prim.Native.Nat.{_+_, _≤_, _<_};
-ghost use lib.ListN.{length};
-ghost use Rattle.labels.specs.Labels.{window, words, zipped};
-ghost use Rattle.sources.specs.Uses.{valueOf, countedWord};
-ghost use Rattle.sources.specs.Inner.Assembling.{useVerdict};
-ghost use Rattle.uses.specs.Inner.Held.{countedBy, useHeld};
-ghost use Rattle.settling.specs.Inner.Settling.{Finds, Reaches, Tells};
+ghost use Rattle.codes.specs.Limits.{mostCells};
+ghost use Rattle.labels.specs.Labels.{window, labelsIn, Reach, farthest, InCell};
+ghost use Rattle.sources.specs.Uses.{valueOf};
+ghost use Rattle.settling.specs.Inner.Settling.{Finds, Reaches, TellsUse};
 use super::Word;
 use labels::finding::find;
 
@@ -19,8 +17,10 @@ fn look_up(
     start: usize,
     size: usize,
 ) -> Word
-    requires { ⌜ (start < 100000) × (size < 65536) × (count ≤ length (now starts)) × (count ≤ length (now keys)) × (count ≤ length (now values)) ⌝ }
-    ensures { λ r. ⌜ Finds (valueOf (zipped (words (now (s .entry)) (now (starts .entry)) (now (keys .entry)) count) (now (values .entry))) (window (now (s .entry)) start size)) r ⌝ }
+    requires { ⌜ (start < farthest) × InCell size × Reach count (now starts) (now keys) (now values) ⌝ }
+    ensures { λ r. ⌜
+        Finds (valueOf (labelsIn (now (s .entry)) (now (starts .entry)) (now (keys .entry)) (now (values .entry)) count) (window (now (s .entry)) start size)) r
+        ⌝ }
 {
     let k = find(s, starts, keys, count, s, start, size);
     if k < count {
@@ -31,7 +31,7 @@ fn look_up(
 
 // A value less the address after the instruction, if it lies from -32768 to 32767.
 fn distance(value: u16, next: usize) -> Word
-    requires { ⌜ next ≤ 65536 + 300 ⌝ }
+    requires { ⌜ next ≤ mostCells + 300 ⌝ }
     ensures { λ r. ⌜ Reaches value next r ⌝ }
 {
     let v = value as usize;
@@ -56,8 +56,10 @@ pub(crate) fn word(
     cell: usize,
     away: usize,
 ) -> Word
-    requires { ⌜ (start < 100000) × (size < 65536) × (count ≤ length (now starts)) × (count ≤ length (now keys)) × (count ≤ length (now values)) × (cell < 65536) × (away < 256) ⌝ }
-    ensures { λ r. ⌜ Tells (λ k. useVerdict (zipped (words (now (s .entry)) (now (starts .entry)) (now (keys .entry)) count) (now (values .entry))) (useHeld (now (s .entry)) start size cell k away)) (countedWord (countedBy cell away) (valueOf (zipped (words (now (s .entry)) (now (starts .entry)) (now (keys .entry)) count) (now (values .entry))) (window (now (s .entry)) start size))) r ⌝ }
+    requires { ⌜ (start < farthest) × InCell size × Reach count (now starts) (now keys) (now values) × InCell cell × (away < 256) ⌝ }
+    ensures { λ r. ⌜
+        TellsUse (labelsIn (now (s .entry)) (now (starts .entry)) (now (keys .entry)) (now (values .entry)) count) (now (s .entry)) start size cell away r
+        ⌝ }
 {
     match look_up(s, starts, keys, values, count, start, size) {
         Word::No(f) => Word::No(f),

@@ -8,7 +8,7 @@ use lib.Dec.{ltb}
 use lib.ListN.{length, replicate, length-replicate}
 use Rattle.codes.specs.Limits.{longestSource}
 use Rattle.sources.specs.Placing.{Place, names, act}
-use Rattle.sources.specs.Uses.{known, plainly, from, countedWord, same}
+use Rattle.sources.specs.Uses.{known, plainly, from, countedWord}
 use Rattle.sources.specs.Order.{_on_}
 use Rattle.sources.specs.Image.{cellsMarked}
 use Rattle.sources.specs.Inner.Assembling.{passes, refused, firstOf, loanVerdict, among, nameVerdict, taken, actVerdict, endVerdict, tooFar}
@@ -78,7 +78,7 @@ pub record Edges : Type 0 where
   pub marked-2 : cellsMarked 2 (0 ∷ 1 ∷ 2 ∷ 1 ∷ 1 ∷ []) ≡ 1
 
 pub edges : Edges
-unfolding firstOf loanVerdict names same among nameVerdict taken actVerdict endVerdict cellsMarked
+unfolding firstOf loanVerdict names among nameVerdict taken actVerdict endVerdict cellsMarked
 edges =
     record {
       no-cell = refl;

@@ -9,10 +9,12 @@ use lib.Dec.{eqb, leb, ltb}
 use lib.ListN.{length, getD}
 use borrow.Author.Tests.{ltb-true, leb-true, eqb-true, lt-ltb, le-leb, eq-eqb, eqb-false}
 use Rattle.statements.proofs.Labelling.{never}
+use Rattle.names.specs.Names.{same}
+use Rattle.names.proofs.Same.{equal-same, same-equal}
 use Rattle.codes.specs.Limits.{mostCells}
 use Rattle.codes.specs.Marks.{free}
 use Rattle.sources.specs.Placing.{Place}
-use Rattle.sources.specs.Uses.{Value, known, unknown, same, Counted, plainly, from}
+use Rattle.sources.specs.Uses.{Value, known, unknown, Counted, plainly, from}
 use Rattle.sources.specs.Order.{LabelOut, ReservesTooFar, PastEnd, TooFar}
 use Rattle.sources.specs.Inner.Assembling.{among, givesStart, labelOut, reservesTooFar, pastEnd, taken, isUnknown, tooFar}
 use Rattle.sources.specs.declared.Act.{Act}
@@ -53,13 +55,7 @@ not-decides false f = (λ h. refl, λ e x. let z : false ≡ true = f .0 x in ne
 -- ---- words
 
 pub same-decides : (x y : List ℕ) → Decides (same x y) (x ≡ y)
-unfolding same
-same-decides [] [] = (λ e. refl, λ e. refl)
-same-decides [] (y ∷ ys) = (λ e. never (cc), λ e. never (cc))
-same-decides (x ∷ xs) [] = (λ e. never (cc), λ e. never (cc))
-same-decides (x ∷ xs) (y ∷ ys) =
-    let k = and-decides (eqb x y) (same xs ys) (eq-decides x y) (same-decides xs ys) in
-    (λ e. let a : x ≡ y = cc in let b : xs ≡ ys = cc in k .0 (a, b), λ e. let h = k .1 e in rw (h .0, h .1))
+same-decides x y = (equal-same x y, same-equal x y)
 
 pub among-decides : (w : List ℕ) (xs : List (List ℕ)) → Decides (among w xs) (List·Memᴰ w xs)
 unfolding among

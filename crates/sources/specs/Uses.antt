@@ -1,13 +1,13 @@
 -- The labels that operands name, in the order of lines and of operands, and the word that each stands for (01, "Rules of writing":
 -- "`$label` is the label's value less the address after the instruction, as plain numbers").
 use Prim.Native.Nat.{ℕ, _+_, _-_, _%_}
-use mathlib.Core.Bool.{Bool, true, false, cond, _&&_}
+use mathlib.Core.Bool.{cond}
 use mathlib.Core.List.{List, [], _∷_, _++_}
-use lib.Dec.{eqb}
 use lib.ListN.{length}
 use Rattle.isa.specs.Operands.{operandWords}
 use Rattle.isa.specs.declared.Operand.{Operand}
 use Rattle.isa.specs.declared.Operand.the-variants as O
+use Rattle.names.specs.Names.{same}
 use Rattle.values.specs.declared.LabelIn.{LabelIn}
 use Rattle.values.specs.declared.LabelIn.the-variants.{Absent, Named}
 use Rattle.operands.specs.declared.Given.{Given}
@@ -25,13 +25,7 @@ pub data Value : Type 0 where
   known : ℕ → Value
   unknown : Value
 
--- two names are byte by byte the same: "Labels keep case"
-unfoldable pub same : List ℕ → List ℕ → Bool
-same [] [] = true
-same [] (y ∷ ys) = false
-same (x ∷ xs) [] = false
-same (x ∷ xs) (y ∷ ys) = eqb x y && same xs ys
-
+-- "Labels keep case": the value of the label that has this name
 unfoldable pub valueOf : List Bound → List ℕ → Value
 valueOf [] w = unknown
 valueOf (b ∷ bs) w = cond (same (b .name) w) (known (b .value)) (valueOf bs w)

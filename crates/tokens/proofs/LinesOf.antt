@@ -11,7 +11,8 @@ use lib.Ieee.Fits.{and-l, and-r}
 use lib.ListN.{length, getD, take, drop, length-drop, drop-of-length-le}
 use lib.Seq.{drop-cons, drop-drop}
 use borrow.Author.Tests.{eq-eqb, ne-eqb, eqb-true, not-true}
-use Rattle.tokens.specs.Lines.{LF, noLF, Lines, none, last, more}
+use Rattle.numerals.specs.Bytes.{LF}
+use Rattle.tokens.specs.Lines.{noLF, Lines, none, last, more}
 use Rattle.tokens.specs.Reading.{lineLength, before, linesOf}
 
 -- ---- the loop

@@ -4,9 +4,7 @@ use Prim.Native.Nat.{ℕ}
 use mathlib.Core.Bool.{Bool, true, not, _&&_}
 use mathlib.Core.List.{List, [], _∷_, _++_}
 use lib.Dec.{eqb, T}
-
-abbrev pub LF : ℕ
-LF = 10
+use Rattle.numerals.specs.Bytes.{LF}
 
 -- a line holds no LF
 abbrev pub noLF : List ℕ → Bool

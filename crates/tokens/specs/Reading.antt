@@ -6,11 +6,10 @@ use mathlib.Core.Bool.{Bool, cond}
 use mathlib.Core.List.{List, [], _∷_}
 use lib.Dec.{leb, eqb}
 use lib.ListN.{length, getD, drop}
-use Rattle.numerals.specs.Bytes.{isDigit, isWordByte, anyWordByte}
+use Rattle.numerals.specs.Bytes.{LF, isDigit, isWordByte, anyWordByte}
 use Rattle.numerals.specs.Reading.{run, unsignedAt}
 use Rattle.numerals.specs.declared.NumberRead.{NumberRead}
 use Rattle.numerals.specs.declared.NumberRead.the-variants.{Found, Absent}
-use Rattle.tokens.specs.Lines.{LF}
 use Rattle.tokens.specs.Bytes.{isBlank, isMark, isQuote, isSemicolon}
 use Rattle.tokens.specs.Strings.{backslash, isPlain}
 use Rattle.tokens.specs.Rows.{token}

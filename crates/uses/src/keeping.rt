@@ -1,11 +1,15 @@
 // The labels that operands name, one after the other in two lent rows (specs/Inner/Held.antt): four cells each in the first, the name's place
 // and length in the source, the cell of the operand's word, and the line; in the second how far the address after the instruction lies
 // behind that cell, 0 where the label's value stands as it is.
-ghost use mathlib.Core.Path.{_≡_};
-ghost use mathlib.Core.List.{List, [], _∷_, _++_};
-ghost use Prim.Native.Nat.{ℕ, _+_, _*_, _≤_, _<_};
-ghost use lib.ListN.{length};
-ghost use Rattle.uses.specs.Inner.Held.{useHeld, usesHeld};
+ghost use mathlib.Core.List.{[], _∷_};
+ghost use Prim.Native.Nat.{_+_};
+ghost use Rattle.uses.specs.Inner.Held.{useHeld, Adds, Room};
+
+// A source of 32,768 bytes names fewer (`mostUses`).
+pub const MOST_USES: usize = 32770;
+
+// The cells of the first row.
+pub const ROW_CELLS: usize = 4 * MOST_USES;
 
 // One more.
 pub fn keep(
@@ -18,8 +22,10 @@ pub fn keep(
     line: u16,
     away: u8,
 )
-    requires { ⌜ (4 * count + 4 ≤ length (now row)) × (count < length (now aways)) ⌝ }
-    ensures { λ _. ⌜ ((s : List ℕ) → usesHeld s (now (row .exit)) (now (aways .exit)) (count + 1) ≡ usesHeld s (now (row .entry)) (now (aways .entry)) count ++ (useHeld s start size cell line away ∷ [])) ⌝ }
+    requires { ⌜ Room (count + 1) (now row) (now aways) ⌝ }
+    ensures { λ _. ⌜
+        Adds (now (row .entry)) (now (aways .entry)) count (λ s. useHeld s start size cell line away ∷ []) (now (row .exit)) (now (aways .exit)) (count + 1)
+        ⌝ }
 {
     let base = 4 * count;
     row[base] = start;

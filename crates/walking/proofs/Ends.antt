@@ -7,6 +7,7 @@ use native.Mathlib.Omega.{arith}
 use lib.Dec.{ltb, leb}
 use lib.ListN.{length, drop, length-drop}
 use lib.Seq.{take-all}
+use Rattle.codes.specs.Limits.{mostCells, mostLabels}
 use Rattle.sources.specs.Placing.{Place, boundTo, boundAll, bindings}
 use Rattle.sources.specs.Order.{_on_}
 use Rattle.sources.specs.Inner.Assembling.{Verdict, passes, refused, firstOf, andThen, Work, endVerdict}
@@ -32,8 +33,8 @@ pub refused-early : (v : Verdict) (w : Work) (n : ℕ) (of : Counters → ℕ �
 refused-early v w n of e q h = ap (λ (x : Verdict). andThen x e) (subst (Says v w n of) q h)
 
 module _ (s starts keys vs ms memory row aways : List ℕ) (v : Verdict) (w : Work) (n : ℕ) {r : Lines} {c : Counters} {named : ℕ} {l : Line}
-    (q : r ≡ L.Passes c named l) (h : Says v w n (workIn s starts keys vs ms memory row aways) r) (ls : length starts ≡ 512)
-    (ll : length keys ≡ 512) where
+    (q : r ≡ L.Passes c named l) (h : Says v w n (workIn s starts keys vs ms memory row aways) r) (ls : length starts ≡ mostLabels)
+    (ll : length keys ≡ mostLabels) where
   told : Says v w n (workIn s starts keys vs ms memory row aways) (L.Passes c named l)
   told = subst (Says v w n (workIn s starts keys vs ms memory row aways)) q h
 
@@ -46,23 +47,23 @@ module _ (s starts keys vs ms memory row aways : List ℕ) (v : Verdict) (w : Wo
   all-there : length held ≡ c .bound + c .waiting
   all-there = length-words s starts keys (c .bound + c .waiting) (omega (arith, told .3 .few, ls)) (omega (arith, told .3 .few, ll))
 
-  end-by : {b : Bool} → b ≡ (ltb 0 (c .waiting) && leb 65536 (c .at .0)) → endVerdict n (w .place) ≡ cond b (refused (6 on n)) passes
+  end-by : {b : Bool} → b ≡ (ltb 0 (c .waiting) && leb mostCells (c .at .0)) → endVerdict n (w .place) ≡ cond b (refused (6 on n)) passes
   unfolding endVerdict firstOf
   end-by e =
       let d : length (drop (c .bound) held) ≡ c .waiting = omega (arith, length-drop (c .bound) held, all-there) in
       ap (λ (x : Work). endVerdict n (x .place)) (sym (told .1))
-      ∙ ap (λ (b : Bool). cond b (refused (6 on n)) passes) (ap (λ (i : ℕ). ltb 0 i && leb 65536 (c .at .0)) d ∙ sym e)
+      ∙ ap (λ (b : Bool). cond b (refused (6 on n)) passes) (ap (λ (i : ℕ). ltb 0 i && leb mostCells (c .at .0)) d ∙ sym e)
 
   -- a label that waits would get 65,536
-  pub refused-late : {b : Bool} → b ≡ (ltb 0 (c .waiting) && leb 65536 (c .at .0)) → b ≡ true → andThen v (endVerdict n (w .place)) ≡ refused (6 on l .0)
+  pub refused-late : {b : Bool} → b ≡ (ltb 0 (c .waiting) && leb mostCells (c .at .0)) → b ≡ true → andThen v (endVerdict n (w .place)) ≡ refused (6 on l .0)
   refused-late e t =
       ap₂ andThen (told .0) (end-by e ∙ ap (λ (b : Bool). cond b (refused (6 on n)) passes) t) ∙ ap (λ (i : ℕ). refused (6 on i)) (sym (told .2))
 
   -- no label is late
-  pub passes-end : {b : Bool} → b ≡ (ltb 0 (c .waiting) && leb 65536 (c .at .0)) → b ≡ false → andThen v (endVerdict n (w .place)) ≡ passes
+  pub passes-end : {b : Bool} → b ≡ (ltb 0 (c .waiting) && leb mostCells (c .at .0)) → b ≡ false → andThen v (endVerdict n (w .place)) ≡ passes
   passes-end e t = ap₂ andThen (told .0) (end-by e ∙ ap (λ (b : Bool). cond b (refused (6 on n)) passes) t)
 
-  pub binds-at-end : {b : Bool} → b ≡ (ltb 0 (c .waiting) && leb 65536 (c .at .0)) → b ≡ false → BindsFine c Start
+  pub binds-at-end : {b : Bool} → b ≡ (ltb 0 (c .waiting) && leb mostCells (c .at .0)) → b ≡ false → BindsFine c Start
   binds-at-end e t = binds-fine c Start (sym e ∙ t)
 
   -- every label is bound, and the rows hold what the lines have come to

@@ -5,6 +5,7 @@ use mathlib.Core.Path.{_≡_, refl, sym, ap, ap₂, subst, _∙_}
 use native.Mathlib.Omega.{arith}
 use borrow.Author.Tests.{ne-eqb}
 use lib.ListN.{length}
+use Rattle.codes.specs.Limits.{mostCells}
 use Rattle.isa.specs.Operands.{operandWords}
 use Rattle.isa.specs.declared.Operand.{Operand}
 use Rattle.isa.specs.declared.Operand.the-variants as O
@@ -13,14 +14,14 @@ use Rattle.values.specs.declared.LabelIn.the-variants.{Absent, Named}
 use Rattle.values.specs.declared.Name.{Name}
 use Rattle.operands.specs.declared.Given.{Given}
 use Rattle.statements.specs.declared.Statement.{Statement}
-use Rattle.labels.specs.Labels.{window}
+use Rattle.labels.specs.Labels.{window, InCell}
 use Rattle.sources.specs.Uses.{Counted, from, Use, countedFor, secondCell, usesBy}
 use Rattle.uses.specs.Inner.Held.{countedBy, useHeld}
 use Rattle.walking.specs.Inner.Noting.{awayFor, Placeable, notedBy, noted}
 
 -- what is asked of a label that is named
 pub placeable : (start cell next : ℕ) {l : LabelIn} {n : Name} → l ≡ Named n → Placeable start cell next l
-    → (n .start ≤ n .end) × (start + n .end < 65536) × (cell < next) × (next ≤ cell + 2) × (next ≤ 65536)
+    → (n .start ≤ n .end) × InCell (start + n .end) × (cell < next) × (next ≤ cell + 2) × (next ≤ mostCells)
 placeable start cell next e h = subst (Placeable start cell next) e h
 
 -- the distance that is kept gives the address after the instruction back

@@ -5,6 +5,7 @@ use mathlib.Core.List.{List, [], _∷_, _++_}
 use mathlib.Core.Path.{_≡_, refl, sym, ap, ap₂, subst, _∙_}
 use native.Mathlib.Omega.{arith}
 use lib.ListN.{length, length-append}
+use Rattle.codes.specs.Limits.{mostCells, longestSource}
 use Rattle.isa.specs.Opcodes.{countOf}
 use Rattle.isa.specs.Operands.{operandWords, wordOf}
 use Rattle.isa.specs.Encoding.{allowed, wordsOf, encodeOf}
@@ -121,7 +122,7 @@ module _ (line : List ℕ) {op : Opcode} {a b : Given} (e : lineRead line .state
         sym (ap (λ (i : Instruction). length (wordsOf i)) (both-stand op a b)) ∙ words-claimed line e (wordOf (a .operand)) (wordOf (b .operand)),
       )
 
-  module _ (start at : ℕ) (fits : start + length line ≤ 32768) (room : at + suc (countOf op) ≤ 65536) {n : ℕ} (m : n ≡ countOf op) where
+  module _ (start at : ℕ) (fits : start + length line ≤ longestSource) (room : at + suc (countOf op) ≤ mostCells) {n : ℕ} (m : n ≡ countOf op) where
     -- the labels of both operands fit where they are kept
     pub first-placeable : Placeable start (at + 1) (at + n + 1) (a .label)
     first-placeable = go (a .label) refl (operand-labels-within line e .0)

@@ -6,6 +6,7 @@ use mathlib.Core.Path.{_≡_, refl, sym, ap, ap₂, subst, _∙_}
 use native.Mathlib.Omega.{arith}
 use lib.ListN.{length, take, drop, replicate, length-drop, length-take}
 use lib.Seq.{sets}
+use Rattle.codes.specs.Limits.{mostCells, longestSource, mostLabels}
 use Rattle.tokens.specs.Reading.{lineLength}
 use Rattle.tokens.proofs.Top.{line-within}
 use Rattle.statements.specs.Reading.{lineRead}
@@ -21,7 +22,7 @@ use Rattle.sources.specs.declared.Act.{Act}
 use Rattle.sources.proofs.Loop.{lineAt, linesFrom, goesOn, lines-over, lines-on}
 use Rattle.labels.specs.Labels.{words, zipped, Part}
 use Rattle.labels.proofs.Laws.{window-part}
-use Rattle.uses.specs.Inner.Held.{usesHeld}
+use Rattle.uses.specs.Inner.Held.{usesHeld, mostUses}
 use Rattle.placing.specs.Inner.State.{placeIn, Fair, FairDid, Tells}
 use Rattle.placing.specs.declared.Counters.{Counters}
 use Rattle.placing.specs.declared.Did.{Did}
@@ -148,16 +149,16 @@ module _ (M : ℕ) (s : List ℕ) (from k : ℕ) (w : Work) where
 
 pub record Left (M : ℕ) (s starts keys values marks cells row aways : List ℕ) (long few far : ℕ) (c : Counters) (from number uses : ℕ) : Type 0 where
   pub fair : Fair c
-  pub starts-long : length starts ≡ 512
-  pub keys-long : length keys ≡ 512
-  pub values-long : length values ≡ 512
+  pub starts-long : length starts ≡ mostLabels
+  pub keys-long : length keys ≡ mostLabels
+  pub values-long : length values ≡ mostLabels
   pub marks-long : length marks ≡ M
   pub cells-long : length cells ≡ long
   pub row-long : length row ≡ few
   pub aways-long : length aways ≡ far
   pub few-lines : number ≤ from
   pub few-uses : from < length s → uses ≤ from
-  pub uses-fit : uses ≤ 32769
+  pub uses-fit : uses < mostUses
   pub left : Same M 1 (startWork M) (linesFrom s 0) (number + 1) (workIn s starts keys values marks cells row aways c uses) (linesFrom s from)
 
 -- before the first line
@@ -168,7 +169,7 @@ unfolding startWork start words zipped usesHeld
 start-work s starts keys values marks cells row aways e f =
     of-parts (ap (λ (m : List ℕ). record { at = 0; bound = []; waiting = []; marks = m }) (sym e)) (sym f) refl
 
-pub left-at-start : (s starts keys values marks cells row aways : List ℕ) → length starts ≡ 512 → length keys ≡ 512 → length values ≡ 512
+pub left-at-start : (s starts keys values marks cells row aways : List ℕ) → length starts ≡ mostLabels → length keys ≡ mostLabels → length values ≡ mostLabels
     → marks ≡ replicate (length marks) 0
     → cells ≡ replicate (length marks) 0
     → Left (length marks) s starts keys values marks cells row aways (length cells) (length row) (length aways)
@@ -242,7 +243,7 @@ module _ (M : ℕ) (s starts keys values marks cells row aways : List ℕ) (long
     Told of r =
         Tells (number + 1) (lineVerdict (length marks) (number + 1) (now .place) (readLine line)) (after (now .place) (readLine line)) of r
 
-    pub line-fits : length s ≤ 32768 → from + length line ≤ 32768
+    pub line-fits : length s ≤ longestSource → from + length line ≤ longestSource
     line-fits k = let g = end-within s from e h in omega (arith, line-long s from end (omega (arith, e)) g, g, k)
 
     -- the line fails
@@ -259,10 +260,10 @@ module _ (M : ℕ) (s starts keys values marks cells row aways : List ℕ) (long
       line-passes = subst (λ (m : ℕ). lineVerdict m (number + 1) (now .place) (readLine line) ≡ passes) (inv .marks-long) (subst (Told of) q t .0)
 
       -- its cells are there
-      pub turn-room : {read : LineRead} → read ≡ lineRead line → M ≤ 65536 → 0 < doesRead (read .statement) .claims
-          → c .at .0 + doesRead (read .statement) .claims ≤ 65536
+      pub turn-room : {read : LineRead} → read ≡ lineRead line → M ≤ mostCells → 0 < doesRead (read .statement) .claims
+          → c .at .0 + doesRead (read .statement) .claims ≤ mostCells
       turn-room a m =
-          subst (λ (x : LineRead). 0 < doesRead (x .statement) .claims → c .at .0 + doesRead (x .statement) .claims ≤ 65536) (sym a)
+          subst (λ (x : LineRead). 0 < doesRead (x .statement) .claims → c .at .0 + doesRead (x .statement) .claims ≤ mostCells) (sym a)
           (λ z. let g = room-there M (number + 1) (now .place) (readLine line) line-passes z in omega (arith, g, m))
 
       -- and the loop goes on
@@ -276,7 +277,7 @@ module _ (M : ℕ) (s starts keys values marks cells row aways : List ℕ) (long
           → length cells′ ≡ length cells
           → length row′ ≡ length row
           → length aways′ ≡ length aways
-          → length s ≤ 32768
+          → length s ≤ longestSource
           → cells′ ≡ sets cells (c .at .0) (rawRead line (read .statement))
           → usesHeld s row′ aways′ uses′ ≡ usesHeld s row aways uses ++ usesRead (number + 1) line (c .at .0) (read .statement)
           → uses′ ≤ uses + length line + 1

@@ -1,16 +1,17 @@
 // The labels that a statement's operands name (sources/specs/Uses.antt, `usesBy`).
 ghost use mathlib.Core.Path.{_≡_};
-ghost use mathlib.Core.List.{List, _++_};
-ghost use Prim.Native.Nat.{ℕ, _+_, _*_, _≤_, _<_};
+ghost use mathlib.Core.List.{_++_};
+ghost use Prim.Native.Nat.{_+_, _≤_, _<_};
 ghost use lib.ListN.{length};
 ghost use Rattle.isa.specs.Operands.{operandWords};
 ghost use Rattle.statements.specs.Judging.{claimOf};
 ghost use Rattle.statements.specs.Reading.{lineRead};
 ghost use Rattle.statements.specs.declared.StatementRead.the-variants.{Passes};
+ghost use Rattle.codes.specs.Limits.{mostCells, longestSource};
 ghost use Rattle.sources.specs.Uses.{usesBy, secondCell};
-ghost use Rattle.uses.specs.Inner.Held.{usesHeld};
-ghost use Rattle.labels.specs.Labels.{Part};
-ghost use Rattle.walking.specs.Inner.Noting.{awayFor, noted, Noted, Placeable};
+ghost use Rattle.labels.specs.Labels.{InCell};
+ghost use Rattle.uses.specs.Inner.Held.{Adds, Room};
+ghost use Rattle.walking.specs.Inner.Noting.{awayFor, noted, AddsOf, Placeable};
 use isa::Operand;
 use isa::opcodes::operand_count;
 use operands::Given;
@@ -64,8 +65,12 @@ fn note(
     next: usize,
     g: Given,
 ) -> usize
-    requires { ⌜ (4 * count + 4 ≤ length (now row)) × (count < length (now aways)) × (number < 65536) × Placeable from cell next (g .label) ⌝ }
-    ensures { λ r. ⌜ Noted (λ s. usesHeld s (now (row .entry)) (now (aways .entry)) count) (λ s. noted s from number cell next g) (λ s. usesHeld s (now (row .exit)) (now (aways .exit)) r) × (count ≤ r) × (r ≤ count + 1) ⌝ }
+    requires { ⌜ Room (count + 1) (now row) (now aways) × InCell number × Placeable from cell next (g .label) ⌝ }
+    ensures { λ r. ⌜
+        Adds (now (row .entry)) (now (aways .entry)) count (λ s. noted s from number cell next g) (now (row .exit)) (now (aways .exit)) r
+        × (count ≤ r)
+        × (r ≤ count + 1)
+        ⌝ }
 {
     let o = g.operand;
     let label = g.label;
@@ -107,8 +112,19 @@ fn note_operands(
     a: Given,
     b: Given,
 ) -> usize
-    requires { ⌜ (4 * count + 8 ≤ length (now row)) × (count + 2 ≤ length (now aways)) × (number < 65536) × (at ≤ 65536) × Placeable from (at + 1) next (a .label) × Placeable from (secondCell at a) next (b .label) ⌝ }
-    ensures { λ r. ⌜ Noted (λ s. usesHeld s (now (row .entry)) (now (aways .entry)) count) (λ s. noted s from number (at + 1) next a ++ noted s from number (secondCell at a) next b) (λ s. usesHeld s (now (row .exit)) (now (aways .exit)) r) × (count ≤ r) × (r ≤ count + 2) ⌝ }
+    requires { ⌜
+        Room (count + 2) (now row) (now aways)
+        × InCell number
+        × (at ≤ mostCells)
+        × Placeable from (at + 1) next (a .label)
+        × Placeable from (secondCell at a) next (b .label)
+        ⌝ }
+    ensures { λ r. ⌜
+        Adds (now (row .entry)) (now (aways .entry)) count
+        (λ s. noted s from number (at + 1) next a ++ noted s from number (secondCell at a) next b) (now (row .exit)) (now (aways .exit)) r
+        × (count ≤ r)
+        × (r ≤ count + 2)
+        ⌝ }
 {
     let o = a.operand;
     let second = at + 1 + width(o);
@@ -127,8 +143,20 @@ pub(crate) fn note_statement(
     aways: &mut [u8],
     count: usize,
 ) -> usize
-    requires { ⌜ (lineRead (now line) .statement ≡ Passes says) × (from + length (now line) ≤ 32768) × (number < 65536) × (at ≤ 65536) × (0 < claimOf says → at + claimOf says ≤ 65536) × (4 * count + 8 ≤ length (now row)) × (count + 2 ≤ length (now aways)) ⌝ }
-    ensures { λ r. ⌜ ((s : List ℕ) → Part s from (now (line .entry)) → usesHeld s (now (row .exit)) (now (aways .exit)) r ≡ usesHeld s (now (row .entry)) (now (aways .entry)) count ++ usesBy number (now (line .entry)) at says) × (count ≤ r) × (r ≤ count + length (now (line .entry)) + 1) ⌝ }
+    requires { ⌜
+        (lineRead (now line) .statement ≡ Passes says)
+        × (from + length (now line) ≤ longestSource)
+        × InCell number
+        × (at ≤ mostCells)
+        × (0 < claimOf says → at + claimOf says ≤ mostCells)
+        × Room (count + 2) (now row) (now aways)
+        ⌝ }
+    ensures { λ r. ⌜
+        AddsOf from (now (line .entry)) (now (row .entry)) (now (aways .entry)) count
+        (usesBy number (now (line .entry)) at says) (now (row .exit)) (now (aways .exit)) r
+        × (count ≤ r)
+        × (r ≤ count + length (now (line .entry)) + 1)
+        ⌝ }
 {
     match says {
         Statement::Instruction(op, a, b) => {

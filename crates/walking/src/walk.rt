@@ -1,19 +1,19 @@
 // All lines of a source up to END, and the source's end.
 ghost use mathlib.Core.Bool.{cond, _&&_};
-ghost use mathlib.Core.List.{List, _++_};
 ghost use mathlib.Core.Path.{_≡_};
-ghost use Prim.Native.Nat.{ℕ, _+_, _*_, _≤_, _<_};
+ghost use Prim.Native.Nat.{_+_, _≤_, _<_};
 ghost use lib.Dec.{ltb, leb};
-ghost use lib.ListN.{length, replicate};
+ghost use lib.ListN.{length};
 ghost use lib.Seq.{sets};
-ghost use Rattle.tokens.specs.Reading.{linesOf};
+ghost use Rattle.codes.specs.Limits.{mostCells, longestSource};
 ghost use Rattle.statements.specs.Reading.{lineRead};
-ghost use Rattle.sources.specs.Placing.{doesRead, start};
+ghost use Rattle.sources.specs.Placing.{doesRead};
 ghost use Rattle.sources.specs.Uses.{usesRead};
-ghost use Rattle.sources.specs.Inner.Assembling.{endsIt, upToEnd, andThen, walkLines, rawRead, workOf, endVerdict};
-ghost use Rattle.uses.specs.Inner.Held.{usesHeld};
-ghost use Rattle.labels.specs.Labels.{Part};
-ghost use Rattle.walking.specs.Inner.Walking.{workIn, Says, Holds, Ends};
+ghost use Rattle.sources.specs.Inner.Assembling.{endsIt, rawRead};
+ghost use Rattle.labels.specs.Labels.{InCell};
+ghost use Rattle.uses.specs.Inner.Held.{Room};
+ghost use Rattle.walking.specs.Inner.Noting.{AddsOf};
+ghost use Rattle.walking.specs.Inner.Walking.{Lent, workIn, SaysLines, Holds, EndsSource};
 use super::Lines;
 use super::Walked;
 use super::noting::note_statement;
@@ -60,8 +60,21 @@ fn keep_line(
     aways: &mut [u8],
     count: usize,
 ) -> usize
-    requires { ⌜ (lineRead (now line) .statement ≡ read) × (from + length (now line) ≤ 32768) × (number < 65536) × (at ≤ 65536) × (0 < doesRead read .claims → at + doesRead read .claims ≤ 65536) × (4 * count + 8 ≤ length (now row)) × (count + 2 ≤ length (now aways)) ⌝ }
-    ensures { λ r. ⌜ (now (cells .exit) ≡ sets (now (cells .entry)) at (rawRead (now (line .entry)) read)) × ((s : List ℕ) → Part s from (now (line .entry)) → usesHeld s (now (row .exit)) (now (aways .exit)) r ≡ usesHeld s (now (row .entry)) (now (aways .entry)) count ++ usesRead number (now (line .entry)) at read) × (count ≤ r) × (r ≤ count + length (now (line .entry)) + 1) ⌝ }
+    requires { ⌜
+        (lineRead (now line) .statement ≡ read)
+        × (from + length (now line) ≤ longestSource)
+        × InCell number
+        × (at ≤ mostCells)
+        × (0 < doesRead read .claims → at + doesRead read .claims ≤ mostCells)
+        × Room (count + 2) (now row) (now aways)
+        ⌝ }
+    ensures { λ r. ⌜
+        (now (cells .exit) ≡ sets (now (cells .entry)) at (rawRead (now (line .entry)) read))
+        × AddsOf from (now (line .entry)) (now (row .entry)) (now (aways .entry)) count
+        (usesRead number (now (line .entry)) at read) (now (row .exit)) (now (aways .exit)) r
+        × (count ≤ r)
+        × (r ≤ count + length (now (line .entry)) + 1)
+        ⌝ }
 {
     match read {
         StatementRead::Fails(_) => {
@@ -84,8 +97,12 @@ fn walk_lines(
     row: &mut [u16],
     aways: &mut [u8],
 ) -> Lines
-    requires { ⌜ (length (now s) ≤ 32768) × (length (now starts) ≡ 512) × (length (now keys) ≡ 512) × (length (now values) ≡ 512) × (length (now marks) ≤ 65536) × (now marks ≡ replicate (length (now marks)) 0) × (now cells ≡ replicate (length (now marks)) 0) × (131080 ≤ length (now row)) × (32770 ≤ length (now aways)) ⌝ }
-    ensures { λ r. ⌜ Says (walkLines (length (now (marks .entry))) 1 (start (length (now (marks .entry)))) (upToEnd (linesOf (now (s .entry))))) (workOf (length (now (marks .entry))) (now (s .entry))) (length (upToEnd (linesOf (now (s .entry))))) (workIn (now (s .entry)) (now (starts .exit)) (now (keys .exit)) (now (values .exit)) (now (marks .exit)) (now (cells .exit)) (now (row .exit)) (now (aways .exit))) r ⌝ }
+    requires { ⌜ Lent (now s) (now starts) (now keys) (now values) (now marks) (now cells) (now row) (now aways) ⌝ }
+    ensures { λ r. ⌜
+        SaysLines (length (now (marks .entry))) (now (s .entry))
+        (workIn (now (s .entry)) (now (starts .exit)) (now (keys .exit)) (now (values .exit)) (now (marks .exit))
+        (now (cells .exit)) (now (row .exit)) (now (aways .exit))) r
+        ⌝ }
 {
     let mut c = Counters {
         at: Address(0),
@@ -118,7 +135,7 @@ fn walk_lines(
 
 // A label that waits at the source's end would get 65,536.
 fn is_late(waiting: usize, at: usize) -> bool
-    ensures { λ r. ⌜ r ≡ (ltb 0 waiting && leb 65536 at) ⌝ }
+    ensures { λ r. ⌜ r ≡ (ltb 0 waiting && leb mostCells at) ⌝ }
 {
     if waiting == 0 {
         return false;
@@ -137,8 +154,12 @@ pub fn walk(
     row: &mut [u16],
     aways: &mut [u8],
 ) -> Walked
-    requires { ⌜ (length (now s) ≤ 32768) × (length (now starts) ≡ 512) × (length (now keys) ≡ 512) × (length (now values) ≡ 512) × (length (now marks) ≤ 65536) × (now marks ≡ replicate (length (now marks)) 0) × (now cells ≡ replicate (length (now marks)) 0) × (131080 ≤ length (now row)) × (32770 ≤ length (now aways)) ⌝ }
-    ensures { λ r. ⌜ Ends (andThen (walkLines (length (now (marks .entry))) 1 (start (length (now (marks .entry)))) (upToEnd (linesOf (now (s .entry))))) (endVerdict (length (upToEnd (linesOf (now (s .entry))))) (workOf (length (now (marks .entry))) (now (s .entry)) .place))) (Holds (now (s .entry)) (now (starts .exit)) (now (keys .exit)) (now (values .exit)) (now (marks .exit)) (now (cells .exit)) (now (row .exit)) (now (aways .exit)) (workOf (length (now (marks .entry))) (now (s .entry)))) r ⌝ }
+    requires { ⌜ Lent (now s) (now starts) (now keys) (now values) (now marks) (now cells) (now row) (now aways) ⌝ }
+    ensures { λ r. ⌜
+        EndsSource (length (now (marks .entry))) (now (s .entry))
+        (Holds (now (s .entry)) (now (starts .exit)) (now (keys .exit)) (now (values .exit)) (now (marks .exit))
+        (now (cells .exit)) (now (row .exit)) (now (aways .exit))) r
+        ⌝ }
 {
     match walk_lines(s, starts, keys, values, marks, cells, row, aways) {
         Lines::Refused(f, l) => Walked::Refused(f, l),

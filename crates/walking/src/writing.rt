@@ -3,6 +3,7 @@ ghost use mathlib.Core.Bool.{true};
 ghost use mathlib.Core.Path.{_≡_};
 ghost use Prim.Native.Nat.{_≤_};
 ghost use lib.Seq.{sets};
+ghost use Rattle.codes.specs.Limits.{mostCells};
 ghost use Rattle.isa.specs.Encoding.{wordsOf, allowed};
 ghost use Rattle.statements.specs.Reading.{lineRead};
 ghost use Rattle.statements.specs.declared.StatementRead.the-variants.{Passes};
@@ -15,7 +16,7 @@ use statements::cells::write_cells;
 use uses::cells::put;
 
 fn write_words(i: Instruction, cells: &mut [u16], at: usize)
-    requires { ⌜ (allowed i ≡ true) × (at ≤ 65536) ⌝ }
+    requires { ⌜ (allowed i ≡ true) × (at ≤ mostCells) ⌝ }
     ensures { λ _. ⌜ now (cells .exit) ≡ sets (now (cells .entry)) at (wordsOf i) ⌝ }
 {
     match encode(i) {
@@ -41,7 +42,7 @@ fn write_words(i: Instruction, cells: &mut [u16], at: usize)
 }
 
 pub(crate) fn write_statement(line: &[u8], says: Statement, cells: &mut [u16], at: usize)
-    requires { ⌜ (lineRead (now line) .statement ≡ Passes says) × (at ≤ 65536) ⌝ }
+    requires { ⌜ (lineRead (now line) .statement ≡ Passes says) × (at ≤ mostCells) ⌝ }
     ensures { λ _. ⌜ now (cells .exit) ≡ sets (now (cells .entry)) at (rawBy (now (line .entry)) says) ⌝ }
 {
     match says {

@@ -1,7 +1,9 @@
 -- What the parts of `assemble` promise one another: reply, memory and map by a verdict.
 use Prim.Native.Nat.{ℕ}
 use mathlib.Core.List.{List}
-use Rattle.sources.specs.Inner.Assembling.{Verdict, passes, refused}
+use Rattle.sources.specs.Placing.{Bound}
+use Rattle.sources.specs.Uses.{Use}
+use Rattle.sources.specs.Inner.Assembling.{Verdict, passes, refused, usesVerdict, filled, workOf, memoryOf, sourceVerdict}
 use Rattle.assembler.specs.Promise.{Told, told, acceptance, refusal}
 use Rattle.assembler.specs.declared.Reply.{Reply}
 
@@ -18,3 +20,12 @@ outcome r memory map = record { reply = told r; memory = memory; map = map }
 abbrev pub outcomeBy : Verdict → List ℕ → List ℕ → List ℕ → List ℕ → Outcome
 outcomeBy passes image marks memory map = record { reply = acceptance marks; memory = image; map = marks }
 outcomeBy (refused why) image marks memory map = record { reply = refusal why; memory = memory; map = map }
+
+-- where every line has passed: by the labels that operands name, among those that are bound
+abbrev pub outcomeOfUses : List Bound → List Use → List ℕ → List ℕ → List ℕ → List ℕ → Outcome
+outcomeOfUses bs us cells marks memory map = outcomeBy (usesVerdict bs us) (filled bs us cells) marks memory map
+
+-- where nothing is wrong with what is lent: by the source, over so many cells
+abbrev pub outcomeOf : ℕ → List ℕ → List ℕ → List ℕ → Outcome
+outcomeOf M source memory map =
+    outcomeBy (sourceVerdict M source) (memoryOf (workOf M source)) (workOf M source .place .marks) memory map

@@ -5,11 +5,11 @@ use mathlib.Core.Bool.{cond}
 use mathlib.Core.List.{List, [], _∷_, _++_}
 use lib.Dec.{eqb}
 use lib.ListN.{length}
-use Rattle.numerals.specs.Bytes.{bytes}
+use Rattle.numerals.specs.Bytes.{LF, bytes}
 use Rattle.numerals.specs.Writing.{decimal}
 use Rattle.ports.specs.Overwriting.{overwrite}
 use Rattle.codes.specs.Marks.{free}
-use Rattle.image.specs.Image.{kind, cellLine, cellLines, LF, textOf}
+use Rattle.image.specs.Image.{kind, cellLine, cellLines, textOf}
 
 -- a cell's line with its LF, and nothing for a free cell
 unfoldable pub piece : ℕ → ℕ → ℕ → List ℕ

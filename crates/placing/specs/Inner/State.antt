@@ -4,12 +4,16 @@ use mathlib.Core.Bool.{Bool, _&&_}
 use mathlib.Core.List.{List}
 use mathlib.Core.Path.{_≡_}
 use lib.Dec.{ltb}
-use lib.ListN.{take, drop}
+use lib.ListN.{length, take, drop}
 use Rattle.labels.specs.Labels.{words, zipped}
 use Rattle.codes.specs.Limits.{mostCells, mostLabels}
-use Rattle.sources.specs.Placing.{Place}
+use Rattle.values.specs.declared.LabelIn.the-variants.{Named}
+use Rattle.values.specs.declared.Name.{Name}
+use Rattle.statements.specs.declared.StatementRead.{StatementRead}
+use Rattle.sources.specs.Placing.{Place, doesRead, labelled, acted, after}
 use Rattle.sources.specs.Order.{_on_}
-use Rattle.sources.specs.Inner.Assembling.{Verdict, passes, refused}
+use Rattle.sources.specs.Inner.Assembling.{Verdict, passes, refused, andThen, readLine, labelVerdict, ownVerdict, actVerdict, lineVerdict}
+use Rattle.sources.specs.declared.Act.{Act}
 use Rattle.sources.specs.declared.Gives.{Gives}
 use Rattle.sources.specs.declared.Gives.the-variants.{Waits, Number, Start}
 use Rattle.sources.specs.declared.Moves.{Moves}
@@ -43,6 +47,34 @@ Keeps n (No f) = Unit {0}
 abbrev pub Tells : ℕ → Verdict → Place → (Counters → Place) → Did → Type 0
 Tells k v p of (Go c) = (v ≡ passes) × (of c ≡ p)
 Tells k v p of (No f) = v ≡ refused (f on k)
+
+-- whatever names the labels have, as many as the counters say
+abbrev pub WithNames : Counters → (List (List ℕ) → Type 0) → Type 0
+WithNames c P = (ws : List (List ℕ)) → length ws ≡ c .bound + c .waiting → P ws
+
+-- it tells of an act, at a place with so many cells
+abbrev pub TellsAct : ℕ → Act → Place → (Counters → Place) → ℕ → Did → Type 0
+TellsAct M a p of k r = Tells k (actVerdict M k p a) (acted p a) of r
+
+-- of a statement: its own refusal, then its act
+abbrev pub TellsStatement : ℕ → StatementRead → Place → (Counters → Place) → ℕ → Did → Type 0
+TellsStatement M s p of k r = Tells k (andThen (ownVerdict k s) (actVerdict M k p (doesRead s))) (acted p (doesRead s)) of r
+
+-- of a line's own label
+abbrev pub TellsLabel : List ℕ → Name → Place → (Counters → Place) → ℕ → Did → Type 0
+TellsLabel line n p of k r = Tells k (labelVerdict k p line (Named n)) (labelled p line (Named n)) of r
+
+-- of a whole line
+abbrev pub TellsLine : ℕ → List ℕ → Place → (Counters → Place) → ℕ → Did → Type 0
+TellsLine M line p of k r = Tells k (lineVerdict M k p (readLine line)) (after p (readLine line)) of r
+
+-- counters after labels have been bound: at the same address, as many labels, and the place is the earlier one, bound so
+abbrev pub Binds : (Place → Place) → Counters → List ℕ → Counters → List ℕ → Type 0
+Binds bound c vs c′ vs′ =
+    Fair c′
+    × (c′ .at .0 ≡ c .at .0)
+    × (c′ .bound + c′ .waiting ≡ c .bound + c .waiting)
+    × ((ws : List (List ℕ)) (ms : List ℕ) → length ws ≡ c .bound + c .waiting → stateOf ws vs′ ms c′ ≡ bound (stateOf ws vs ms c))
 
 -- where an act leads is an address, unless it passes the memory's end or 65,536
 abbrev pub Sound : Moves → ℕ → Type 0

@@ -9,6 +9,7 @@ use lib.ListN.{length, getD, replicate, set}
 use lib.Seq.{sets}
 use Rattle.isa.specs.Encoding.{wordsOf}
 use Rattle.tokens.specs.Reading.{linesOf}
+use Rattle.names.specs.Names.{same}
 use Rattle.values.specs.declared.LabelIn.{LabelIn}
 use Rattle.values.specs.declared.LabelIn.the-variants.{Absent, Named}
 use Rattle.statements.specs.Judging.{numberOf}
@@ -22,7 +23,7 @@ use Rattle.codes.specs.Limits.{mostCells, longestSource, mostLabels, longestLab
 use Rattle.codes.specs.Marks.{free}
 use Rattle.sources.specs.Sources.{spelled}
 use Rattle.sources.specs.Placing.{doesRead, Bound, Place, start, names, labelled, Judged, after, bindings}
-use Rattle.sources.specs.Uses.{Value, known, unknown, same, valueOf, Counted, plainly, from, Use, usesRead, countedWord}
+use Rattle.sources.specs.Uses.{Value, known, unknown, valueOf, Counted, plainly, from, Use, usesRead, countedWord}
 use Rattle.sources.specs.Order.{Refusal, _on_}
 use Rattle.sources.specs.declared.Act.{Act}
 use Rattle.sources.specs.declared.Gives.{Gives}
@@ -225,15 +226,24 @@ linesRead source = map readLine (upToEnd (linesOf source))
 abbrev pub workOf : ℕ → List ℕ → Work
 workOf M source = workAfter 1 (startWork M) (linesRead source)
 
+-- the verdict on its lines
+abbrev pub linesVerdict : ℕ → List ℕ → Verdict
+linesVerdict M source = walkLines M 1 (start M) (upToEnd (linesOf source))
+
+-- the number of its last line
+abbrev pub lastLine : List ℕ → ℕ
+lastLine source = length (upToEnd (linesOf source))
+
 -- what the checks after the last line say
 unfoldable pub lateVerdict : Work → ℕ → Verdict
 lateVerdict w k = andThen (endVerdict k (w .place)) (usesVerdict (bindings (w .place)) (w .uses))
 
+-- the verdict on a source, where nothing is wrong with what is lent
+abbrev pub sourceVerdict : ℕ → List ℕ → Verdict
+sourceVerdict M source = andThen (linesVerdict M source) (lateVerdict (workOf M source) (lastLine source))
+
 unfoldable pub verdictOf : ℕ → ℕ → List ℕ → Verdict
-verdictOf M N source =
-    andThen (loanVerdict M N source)
-    (andThen (walkLines M 1 (start M) (upToEnd (linesOf source)))
-    (lateVerdict (workOf M source) (length (upToEnd (linesOf source)))))
+verdictOf M N source = andThen (loanVerdict M N source) (sourceVerdict M source)
 
 unfoldable pub memoryOf : Work → List ℕ
 memoryOf w = filled (bindings (w .place)) (w .uses) (w .cells)

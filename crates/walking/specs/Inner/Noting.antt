@@ -7,8 +7,10 @@ use Rattle.isa.specs.declared.Operand.the-variants as O
 use Rattle.values.specs.declared.LabelIn.{LabelIn}
 use Rattle.values.specs.declared.LabelIn.the-variants.{Absent, Named}
 use Rattle.operands.specs.declared.Given.{Given}
-use Rattle.labels.specs.Labels.{window}
+use Rattle.codes.specs.Limits.{mostCells}
+use Rattle.labels.specs.Labels.{window, Part, InCell}
 use Rattle.sources.specs.Uses.{Use, countedFor}
+use Rattle.uses.specs.Inner.Held.{usesHeld}
 
 -- how far the address after the instruction lies behind the operand's cell, where its label's value is counted from there
 abbrev pub awayFor : Operand → ℕ → ℕ
@@ -25,7 +27,7 @@ awayFor (O.Relative d) n = n
 -- a label's place and the operand's cell fit where they are kept
 abbrev pub Placeable : ℕ → ℕ → ℕ → LabelIn → Type 0
 Placeable from cell next Absent = Unit {0}
-Placeable from cell next (Named n) = (n .start ≤ n .end) × (from + n .end < 65536) × (cell < next) × (next ≤ cell + 2) × (next ≤ 65536)
+Placeable from cell next (Named n) = (n .start ≤ n .end) × InCell (from + n .end) × (cell < next) × (next ≤ cell + 2) × (next ≤ mostCells)
 
 -- as `useBy`, with the name where it stands in the source
 abbrev pub notedBy : List ℕ → ℕ → ℕ → ℕ → ℕ → Operand → LabelIn → List Use
@@ -36,6 +38,6 @@ notedBy s from k cell next o (Named n) =
 abbrev pub noted : List ℕ → ℕ → ℕ → ℕ → ℕ → Given → List Use
 noted s from k cell next g = notedBy s from k cell next (g .operand) (g .label)
 
--- whatever the source, what was held and then these are held now
-abbrev pub Noted : (List ℕ → List Use) → (List ℕ → List Use) → (List ℕ → List Use) → Type 0
-Noted before these held = (s : List ℕ) → held s ≡ before s ++ these s
+-- of a line that starts at a place, whatever its source: the rows held n labels, and hold m now, those and then these
+abbrev pub AddsOf : ℕ → List ℕ → List ℕ → List ℕ → ℕ → List Use → List ℕ → List ℕ → ℕ → Type 0
+AddsOf from line row aways n these row′ aways′ m = (s : List ℕ) → Part s from line → usesHeld s row′ aways′ m ≡ usesHeld s row aways n ++ these

@@ -2,10 +2,8 @@ use native.Mathlib.Omega.{arith}
 use Prim.Native.Nat.{ℕ}
 use mathlib.Core.Path.{refl, sym, ap, _∙_}
 use lib.ListN.{length, length-replicate}
-use Rattle.sources.specs.Inner.Assembling.{workOf, memoryOf}
-use Rattle.assembler.specs.Inner.Parts.{outcomeBy}
+use Rattle.assembler.specs.Inner.Parts.{outcomeOf}
 use Rattle.assembler.proofs.Rows.{zeros-count, zeros-alone}
-use Rattle.assembler.proofs.Walks.{whole}
 use borrow.Author.Needs.{needs}
 use Rattle.assembler.proofs.assemble.assemble_lent.Statement.{statement}
 use Rattle.assembler.proofs.assemble.assemble_lent.Tie as tie
@@ -54,7 +52,19 @@ assemble-over-requires : tie.Need-assemble-over-requires
 assemble-over-requires c κs =
     let z = zeros-count 65536 (length (c .before .before .before .before .before .before .before .before .before .before .before .before .args .memory .now)) (c .before .before .before .before .before .before .before .before .before .before .before .before .pre .1) in
     let a = zeros-alone 65536 (length (c .before .before .before .before .before .before .before .before .before .before .before .before .args .memory .now)) (c .before .before .before .before .before .before .before .before .before .before .before .before .pre .1) in
-    ((c .before .before .before .before .before .before .before .before .before .before .before .before .pre .0), refl, refl, refl, omega (arith, (c .before .before .before .before .before .before .before .before .before .before .before .before .pre .1), z), a, a, omega (arith, length-replicate {A = ℕ} 131080 0), omega (arith, length-replicate {A = ℕ} 32770 0), z, (c .before .before .before .before .before .before .before .before .before .before .before .before .pre .2) ∙ z)
+    let p = c .before .before .before .before .before .before .before .before .before .before .before .before .pre in (
+      record {
+        short = p .0;
+        rows = record { starts-long = refl; keys-long = refl; values-long = refl };
+        few-cells = omega (arith, p .1, z);
+        marks-empty = a;
+        cells-empty = a;
+        room =
+            record { cells = omega (arith, length-replicate {A = ℕ} 131080 0); distances = omega (arith, length-replicate {A = ℕ} 32770 0) };
+      },
+      z,
+      p .2 ∙ z,
+    )
 
 -- src/assemble.rt:124:1
 same-length : tie.Need-same-length
@@ -69,7 +79,7 @@ returns : tie.Need-returns
 returns c =
     let z = zeros-count 65536 (length (c .before .before .before .before .before .before .before .before .before .before .before .before .before .before .before .before .before .before .before .before .before .before .before .before .args .memory .now)) (c .before .before .before .before .before .before .before .before .before .before .before .before .before .before .before .before .before .before .before .before .before .before .before .before .pre .1) in
     let s = (c .before .before .before .before .before .before .before .before .before .before .before .before .before .before .before .before .before .before .before .before .before .before .before .before .args .s .now) in
-    (c .before .before .before .before .before .before .before .before .before .before .before .assemble-over .ensures) ∙ ap (λ (M : ℕ). outcomeBy (whole M s) (memoryOf (workOf M s)) (workOf M s .place .marks) (c .before .before .before .before .before .before .before .before .before .before .before .before .before .before .before .before .before .before .before .before .before .before .before .before .args .memory .now) (c .before .before .before .before .before .before .before .before .before .before .before .before .before .before .before .before .before .before .before .before .before .before .before .before .args .map .now)) (sym z)
+    (c .before .before .before .before .before .before .before .before .before .before .before .assemble-over .ensures) ∙ ap (λ (M : ℕ). outcomeOf M s (c .before .before .before .before .before .before .before .before .before .before .before .before .before .before .before .before .before .before .before .before .before .before .before .before .args .memory .now) (c .before .before .before .before .before .before .before .before .before .before .before .before .before .before .before .before .before .before .before .before .before .before .before .before .args .map .now)) (sym z)
 
 pub assemble-lent-spec : {M : Type 1} → statement M
 assemble-lent-spec =

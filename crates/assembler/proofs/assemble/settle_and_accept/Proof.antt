@@ -13,7 +13,7 @@ use Rattle.settling.proofs.settle.settle.Reads as settle-reads
 
 -- src/assemble.rt:73:11
 settle-requires : tie.Need-settle-requires
-settle-requires c κs = ((c .before .before .before .before .before .before .before .before .before .before .before .pre .0), (c .before .before .before .before .before .before .before .before .before .before .before .pre .1), (c .before .before .before .before .before .before .before .before .before .before .before .pre .2), (c .before .before .before .before .before .before .before .before .before .before .before .pre .3), (c .before .before .before .before .before .before .before .before .before .before .before .pre .4), (c .before .before .before .before .before .before .before .before .before .before .before .pre .5))
+settle-requires c κs = let p = c .before .before .before .before .before .before .before .before .before .before .before .pre in (p .0, p .1, p .2)
 
 -- src/assemble.rt:74:26
 enum-known-f : tie.Need-enum-known-f

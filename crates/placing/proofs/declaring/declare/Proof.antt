@@ -5,6 +5,7 @@ use mathlib.Core.Path.{refl}
 use native.Mathlib.Omega.{arith}
 use lib.ListN.{getD}
 use borrow.Author.Tests.{lt-ltb, le-ltb, le-leb, lt-leb}
+use Rattle.codes.specs.Limits.{mostLabels, longestLabel}
 use Rattle.labels.proofs.Laws.{key-small, word-kept}
 use Rattle.placing.proofs.LabelLaws.{label-by, label-held}
 use Rattle.placing.proofs.declaring.declare.Statement.{statement}
@@ -18,7 +19,7 @@ returns c =
       tt,
       λ k vs ms l. label-by (a .s .now) (a .starts .now) (a .keys .now) (a .line .now) vs ms (a .c) (a .n) k
           (record { fair = p .0; starts-long = p .1; keys-long = p .2; values-long = l; order = p .3; within = p .4 })
-          (lt-ltb 64 (a .n .end - a .n .start) (c .if1 .taken)) refl refl refl,
+          (lt-ltb longestLabel (a .n .end - a .n .start) (c .if1 .taken)) refl refl refl,
     )
 
 returns-2 : tie.Need-returns-2
@@ -30,7 +31,7 @@ returns-2 c =
       tt,
       λ k vs ms l. label-by (a .s .now) (a .starts .now) (a .keys .now) (a .line .now) vs ms (a .c) (a .n) k
           (record { fair = p .0; starts-long = p .1; keys-long = p .2; values-long = l; order = p .3; within = p .4 })
-          (le-ltb 64 (a .n .end - a .n .start) (short .if1 .left)) (le-leb 512 (a .c .bound + a .c .waiting) (c .if2 .taken)) refl refl,
+          (le-ltb longestLabel (a .n .end - a .n .start) (short .if1 .left)) (le-leb mostLabels (a .c .bound + a .c .waiting) (c .if2 .taken)) refl refl,
     )
 
 returns-3 : tie.Need-returns-3
@@ -44,7 +45,7 @@ returns-3 c =
       tt,
       λ k vs ms l. label-by (a .s .now) (a .starts .now) (a .keys .now) (a .line .now) vs ms (a .c) (a .n) k
           (record { fair = p .0; starts-long = p .1; keys-long = p .2; values-long = l; order = p .3; within = p .4 })
-          (le-ltb 64 (a .n .end - a .n .start) (short .if1 .left)) (lt-leb 512 count (few .if2 .left)) (c .before .find .ensures)
+          (le-ltb longestLabel (a .n .end - a .n .start) (short .if1 .left)) (lt-leb mostLabels count (few .if2 .left)) (c .before .find .ensures)
           (lt-ltb (c .before .find .result) count (c .if3 .taken)),
     )
 
@@ -73,12 +74,13 @@ returns-4 c =
       λ k vs ms l. (
         label-by (a .s .now) (a .starts .now) (a .keys .now) (a .line .now) vs ms (a .c) (a .n) k
             (record { fair = p .0; starts-long = p .1; keys-long = p .2; values-long = l; order = p .3; within = p .4 })
-            (le-ltb 64 size (short .if1 .left)) (lt-leb 512 count (few .if2 .left)) (left .before .find .ensures)
+            (le-ltb longestLabel size (short .if1 .left)) (lt-leb mostLabels count (few .if2 .left)) (left .before .find .ensures)
             (le-ltb (left .before .find .result) count (left .if3 .left)),
         label-held (a .s .now) (a .starts .now) (a .keys .now) (a .line .now) vs ms (a .c) (a .n) k
             (record { fair = p .0; starts-long = p .1; keys-long = p .2; values-long = l; order = p .3; within = p .4 }) (few .if2 .left)
             (a .from + a .n .start) (c .key .result)
-            (word-kept (a .s .now) (a .line .now) (a .from + a .n .start) (a .n .start) size (c .key .result) byte (p .6) (c .key .ensures)),
+            (word-kept (a .s .now) (a .line .now) (a .from + a .n .start) (a .n .start) size (c .key .result) byte
+            (p .6 (a .n .start) size (omega (arith, p .3, p .4))) (c .key .ensures)),
       ),
     )
 

@@ -22,15 +22,15 @@ declare-requires c κs =
     let start = c .before .before .before .before .before .before .before .before in
     let a = start .args in
     let p = start .pre in
-    let w = label-within (a .line .now) (ap (λ (r : LineRead). r .label) (sym (p .5)) ∙ p .8) in
-    (p .0, p .1, p .2, w .0, w .1, omega (arith, w .1, p .6), p .7 (a .n .start) (a .n .end - a .n .start) (omega (arith, w .0, w .1)))
+    let w = label-within (a .line .now) (ap (λ (r : LineRead). r .label) (sym (p .3)) ∙ p .6) in
+    (p .0, p .1 .starts-long, p .1 .keys-long, w .0, w .1, omega (arith, w .1, p .4), p .5)
 
 place-statement-requires : tie.Need-place-statement-requires
 place-statement-requires c κs =
     let did = c .before .before .before in
     let declared = did .before .before .before .before .before .before in
     let p = declared .before .before .before .before .before .before .before .before .before .pre in
-    (subst FairDid (did .d .given .1) (declared .declare .ensures .0), p .3, p .4)
+    (subst FairDid (did .d .given .1) (declared .declare .ensures .0), p .1 .values-long, p .2)
 
 returns : tie.Need-returns
 returns c =
@@ -44,10 +44,10 @@ returns c =
     let place = placeIn (a .s .now) (a .starts .now) (a .keys .now) (a .values .now) (a .marks .now) (a .c) in
     let f = c .before .f .given in (
       tt,
-      λ k. as-read (length (a .marks .now)) k place (a .line .now) (λ z. place) (No (f .0 .0)) (p .5)
-          (label-fails (length (a .marks .now)) k place (record { bytes = a .line .now; read = a .read }) (p .8)
+      λ k. as-read (length (a .marks .now)) k place (a .line .now) (λ z. place) (No (f .0 .0)) (p .3)
+          (label-fails (length (a .marks .now)) k place (record { bytes = a .line .now; read = a .read }) (p .6)
           (tells-by k (labelVerdict k place (a .line .now) (Named (a .n))) (labelled place (a .line .now) (Named (a .n)))
-          (placeIn (a .s .now) starts keys (a .values .now) (a .marks .now)) (f .1) (d .ensures .1 k (a .values .now) (a .marks .now) (p .3)))),
+          (placeIn (a .s .now) starts keys (a .values .now) (a .marks .now)) (f .1) (d .ensures .1 k (a .values .now) (a .marks .now) (p .1 .values-long)))),
     )
 
 returns-2 : tie.Need-returns-2
@@ -66,14 +66,14 @@ returns-2 c =
     let fair = subst FairDid (g .1) (d .ensures .0) in
     let n = g .0 .0 .bound + g .0 .0 .waiting in
     let e = placed .place-statement in
-    let long = length-words (a .s .now) starts keys n (omega (arith, fair .few, p .1, d .kept .1 .1 .1 .0))
-    (omega (arith, fair .few, p .2, d .kept .1 .1 .1 .1 .0)) in (
+    let long = length-words (a .s .now) starts keys n (omega (arith, fair .few, p .1 .starts-long, d .kept .1 .1 .1 .0))
+    (omega (arith, fair .few, p .1 .keys-long, d .kept .1 .1 .1 .1 .0)) in (
       e .ensures .0,
-      λ k. as-read (length (a .marks .now)) k place (a .line .now) (placeIn (a .s .now) starts keys (e .last .0) (e .last .1 .0)) (e .result) (p .5)
+      λ k. as-read (length (a .marks .now)) k place (a .line .now) (placeIn (a .s .now) starts keys (e .last .0) (e .last .1 .0)) (e .result) (p .3)
           (named-placed (length (a .marks .now)) k (a .s .now) (a .starts .now) (a .keys .now) starts keys (a .values .now) (a .marks .now)
-          (e .last .0) (e .last .1 .0) (a .line .now) (a .c) (a .read) (g .0 .0) (e .result) (p .8)
+          (e .last .0) (e .last .1 .0) (a .line .now) (a .c) (a .read) (g .0 .0) (e .result) (p .6)
           (tells-by k (labelVerdict k place (a .line .now) (Named (a .n))) (labelled place (a .line .now) (Named (a .n)))
-          (placeIn (a .s .now) starts keys (a .values .now) (a .marks .now)) (g .1) (d .ensures .1 k (a .values .now) (a .marks .now) (p .3)))
+          (placeIn (a .s .now) starts keys (a .values .now) (a .marks .now)) (g .1) (d .ensures .1 k (a .values .now) (a .marks .now) (p .1 .values-long)))
           (e .ensures .1) (e .ensures .2 k (words (a .s .now) starts keys n) long)),
     )
 

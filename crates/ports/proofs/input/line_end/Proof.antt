@@ -4,7 +4,8 @@ use Prim.Native.Nat.{_+_, _-_}
 use native.Mathlib.Omega.{arith}
 use borrow.Author.Needs.{needs}
 use lib.ListN.{length}
-use Rattle.ports.specs.Input.{LF, lineAt}
+use Rattle.numerals.specs.Bytes.{LF}
+use Rattle.ports.specs.Input.{lineAt}
 use Rattle.ports.proofs.Searches.{search-more, search-here, search-none}
 use Rattle.ports.proofs.input.line_end.Statement.{statement}
 use Rattle.ports.proofs.input.line_end.Tie as tie

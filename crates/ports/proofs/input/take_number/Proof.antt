@@ -2,7 +2,7 @@
 use mathlib.Core.Path.{sym}
 use native.Mathlib.Omega.{arith}
 use borrow.Author.Needs.{needs}
-use Rattle.ports.specs.Input.{LF}
+use Rattle.numerals.specs.Bytes.{LF}
 use Rattle.ports.proofs.Searches.{upTo-ends, upTo-part}
 use Rattle.ports.proofs.Outcomes.{number-none, number-taken}
 use Rattle.ports.proofs.input.take_number.Statement.{statement}

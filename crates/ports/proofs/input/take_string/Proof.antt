@@ -5,7 +5,7 @@ use native.Mathlib.Omega.{arith}
 use borrow.Author.Tests.{leb-true}
 use borrow.Author.Needs.{needs}
 use lib.ListN.{length}
-use Rattle.ports.specs.Input.{LF}
+use Rattle.numerals.specs.Bytes.{LF}
 use Rattle.ports.proofs.Searches.{upTo-ends}
 use Rattle.ports.proofs.Outcomes.{string-none, string-taken, string-long}
 use Rattle.ports.proofs.input.take_string.Statement.{statement}

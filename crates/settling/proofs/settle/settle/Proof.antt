@@ -7,7 +7,7 @@ use Prim.Native.Nat.{ℕ, _+_, _*_, _-_, _≤_}
 use lib.ListN.{length, getD, set}
 use Rattle.sources.specs.Order.{_on_}
 use Rattle.sources.specs.Inner.Assembling.{passes, usesVerdict, filled}
-use Rattle.labels.specs.Labels.{words, zipped}
+use Rattle.labels.specs.Labels.{labelsIn}
 use Rattle.uses.specs.Inner.Held.{usesHeld}
 use Rattle.settling.proofs.Laws.{nothing-held, nothing-filled, one-passes, all-refused, one-filled}
 use Rattle.settling.proofs.settle.settle.Statement.{statement}
@@ -15,7 +15,7 @@ use Rattle.settling.proofs.settle.settle.Tie as tie
 
 abbrev Inv-loop : tie.InvT-loop
 Inv-loop s starts keys values count row aways uses cells₀ i₀ cells i =
-    let bs = zipped (words s starts keys count) values in
+    let bs = labelsIn s starts keys values count in
     (i ≤ uses)
     × (usesVerdict bs (usesHeld s row aways i) ≡ passes)
     × (cells ≡ filled bs (usesHeld s row aways i) cells₀)
@@ -51,8 +51,6 @@ word-requires c κs =
       omega (arith, known (4 * i)),
       omega (arith, known (4 * i + 1)),
       start .pre .0,
-      start .pre .1,
-      start .pre .2,
       omega (arith, known (4 * i + 2)),
       omega (arith, c .shared-slice-known11 .given i),
     )
@@ -64,7 +62,7 @@ returns : tie.Need-returns Inv-loop μ-loop
 returns c =
     let l = c .before .before .before .before .before .before .before .before .before .before in
     let a = l .before .before .before .before .before .before .before .before .args in
-    let bs = zipped (words (a .s .now) (a .starts .now) (a .keys .now) (a .count)) (a .values .now) in
+    let bs = labelsIn (a .s .now) (a .starts .now) (a .keys .now) (a .values .now) (a .count) in
     let w = c .before .before .before .word in
     all-refused bs (a .s .now) (a .row .now) (a .aways .now) (l .loop .i) (a .uses) (c .before .f .given .0 .0) (w .result)
     (c .before .before .before .before .before .before .before .before .before .loop-test .taken) (l .loop .inv .1) (w .ensures) (c .before .f .given .1)
@@ -73,7 +71,7 @@ loop-again : tie.Need-loop-again Inv-loop μ-loop
 loop-again c =
     let l = c .before .before .before .before .before .before .before .before .before .before .before .before .before .before in
     let a = l .before .before .before .before .before .before .before .before .args in
-    let bs = zipped (words (a .s .now) (a .starts .now) (a .keys .now) (a .count)) (a .values .now) in
+    let bs = labelsIn (a .s .now) (a .starts .now) (a .keys .now) (a .values .now) (a .count) in
     let i = l .loop .i in
     let v = c .before .before .before .before .before in
     let w = v .before .before .word in
@@ -93,7 +91,7 @@ returns-2 : tie.Need-returns-2 Inv-loop μ-loop
 returns-2 c =
     let l = c .before in
     let a = l .before .before .before .before .before .before .before .before .args in
-    let bs = zipped (words (a .s .now) (a .starts .now) (a .keys .now) (a .count)) (a .values .now) in
+    let bs = labelsIn (a .s .now) (a .starts .now) (a .keys .now) (a .values .now) (a .count) in
     let q : l .loop .i ≡ a .uses = omega (arith, c .loop-test .left, l .loop .inv .0) in (
       ap (λ (n : ℕ). usesVerdict bs (usesHeld (a .s .now) (a .row .now) (a .aways .now) n)) (sym q) ∙ l .loop .inv .1,
       l .loop .inv .2 ∙ ap (λ (n : ℕ). filled bs (usesHeld (a .s .now) (a .row .now) (a .aways .now) n) (a .cells .now)) q,

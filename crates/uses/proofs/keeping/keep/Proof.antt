@@ -8,22 +8,22 @@ use Rattle.uses.proofs.keeping.keep.Statement.{statement}
 use Rattle.uses.proofs.keeping.keep.Tie as tie
 
 slice-write-row-2 : tie.Need-slice-write-row-2
-slice-write-row-2 c = omega (arith, c .pre .0, length-set (c .args .row .now) (4 * c .args .count) (c .args .start))
+slice-write-row-2 c = omega (arith, c .pre .cells, length-set (c .args .row .now) (4 * c .args .count) (c .args .start))
 
 slice-write-row-3 : tie.Need-slice-write-row-3
 slice-write-row-3 c =
     let r = set (c .args .row .now) (4 * c .args .count) (c .args .start) in
-    omega (arith, c .pre .0, length-set (c .args .row .now) (4 * c .args .count) (c .args .start), length-set r (4 * c .args .count + 1) (c .args .size))
+    omega (arith, c .pre .cells, length-set (c .args .row .now) (4 * c .args .count) (c .args .start), length-set r (4 * c .args .count + 1) (c .args .size))
 
 slice-write-row-4 : tie.Need-slice-write-row-4
 slice-write-row-4 c =
     let r = set (c .args .row .now) (4 * c .args .count) (c .args .start) in
     let q = set r (4 * c .args .count + 1) (c .args .size) in
     omega
-    (arith, c .pre .0, length-set (c .args .row .now) (4 * c .args .count) (c .args .start), length-set r (4 * c .args .count + 1) (c .args .size), length-set q (4 * c .args .count + 2) (c .args .cell))
+    (arith, c .pre .cells, length-set (c .args .row .now) (4 * c .args .count) (c .args .start), length-set r (4 * c .args .count + 1) (c .args .size), length-set q (4 * c .args .count + 2) (c .args .cell))
 
 returns : tie.Need-returns
-returns c = λ s. one-more s (c .args .row .now) (c .args .aways .now) (c .args .count) (c .args .start) (c .args .size) (c .args .cell) (c .args .line) (c .args .away) (c .pre .0) (c .pre .1)
+returns c = λ s. one-more s (c .args .row .now) (c .args .aways .now) (c .args .count) (c .args .start) (c .args .size) (c .args .cell) (c .args .line) (c .args .away) (omega (arith, c .pre .cells)) (omega (arith, c .pre .distances))
 
 pub keep-spec : {M : Type 1} → statement M
 keep-spec =

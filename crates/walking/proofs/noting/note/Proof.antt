@@ -17,49 +17,49 @@ sub-size : tie.Need-sub-size
 sub-size c =
     let l = c .before .before in
     let k = l .before .before .before .before in
-    let h = placeable (k .args .from) (k .args .cell) (k .args .next) (l .label .given .1) (k .pre .3) in
+    let h = placeable (k .args .from) (k .args .cell) (k .args .next) (l .label .given .1) (k .pre .2) in
     omega (arith, h .0, h .1, h .2, h .3, h .4)
 
 sub-behind : tie.Need-sub-behind
 sub-behind c =
     let l = c .before .before in
     let k = l .before .before .before .before in
-    let h = placeable (k .args .from) (k .args .cell) (k .args .next) (l .label .given .1) (k .pre .3) in
+    let h = placeable (k .args .from) (k .args .cell) (k .args .next) (l .label .given .1) (k .pre .2) in
     omega (arith, h .0, h .1, h .2, h .3, h .4)
 
 cast-behind : tie.Need-cast-behind
 cast-behind c =
     let l = c .before .before in
     let k = l .before .before .before .before in
-    let h = placeable (k .args .from) (k .args .cell) (k .args .next) (l .label .given .1) (k .pre .3) in
+    let h = placeable (k .args .from) (k .args .cell) (k .args .next) (l .label .given .1) (k .pre .2) in
     omega (arith, h .0, h .1, h .2, h .3, h .4)
 
 add-place : tie.Need-add-place
 add-place c =
     let l = c .before .before .before in
     let k = l .before .before .before .before in
-    let h = placeable (k .args .from) (k .args .cell) (k .args .next) (l .label .given .1) (k .pre .3) in
+    let h = placeable (k .args .from) (k .args .cell) (k .args .next) (l .label .given .1) (k .pre .2) in
     omega (arith, h .0, h .1, h .2, h .3, h .4)
 
 cast-place : tie.Need-cast-place
 cast-place c =
     let l = c .before .before .before in
     let k = l .before .before .before .before in
-    let h = placeable (k .args .from) (k .args .cell) (k .args .next) (l .label .given .1) (k .pre .3) in
+    let h = placeable (k .args .from) (k .args .cell) (k .args .next) (l .label .given .1) (k .pre .2) in
     omega (arith, h .0, h .1, h .2, h .3, h .4)
 
 cast-long : tie.Need-cast-long
 cast-long c =
     let l = c .before .before .before in
     let k = l .before .before .before .before in
-    let h = placeable (k .args .from) (k .args .cell) (k .args .next) (l .label .given .1) (k .pre .3) in
+    let h = placeable (k .args .from) (k .args .cell) (k .args .next) (l .label .given .1) (k .pre .2) in
     omega (arith, h .0, h .1, h .2, h .3, h .4)
 
 cast-keep : tie.Need-cast-keep
 cast-keep c =
     let l = c .before .before .before .before .before in
     let k = l .before .before .before .before in
-    let h = placeable (k .args .from) (k .args .cell) (k .args .next) (l .label .given .1) (k .pre .3) in
+    let h = placeable (k .args .from) (k .args .cell) (k .args .next) (l .label .given .1) (k .pre .2) in
     omega (arith, h .0, h .1, h .2, h .3, h .4)
 
 returns-2 : tie.Need-returns-2
@@ -69,7 +69,7 @@ returns-2 c =
     let l = w .before .before .before in
     let k = l .before .before .before .before in
     let a = k .args in
-    let h = placeable (a .from) (a .cell) (a .next) (l .label .given .1) (k .pre .3) in (
+    let h = placeable (a .from) (a .cell) (a .next) (l .label .given .1) (k .pre .2) in (
       λ s. noted-one s (a .from) (a .number) (a .cell) (a .next) (a .g)
           (usesHeld s (a .row .now) (a .aways .now) (a .count)) {vs = usesHeld s (p .keep .last .0) (p .keep .last .1 .0) (a .count + 1)}
           (l .label .given .1) (h .2) (w .away .ensures) (p .keep .ensures s),

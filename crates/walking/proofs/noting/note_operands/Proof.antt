@@ -12,7 +12,7 @@ use Rattle.walking.proofs.noting.note_operands.Tie as tie
 add-second-2 : tie.Need-add-second-2
 add-second-2 c =
     let a = c .before .before .before .args in
-    omega (arith, c .width .ensures, few-words (a .a .operand), c .before .before .before .pre .3)
+    omega (arith, c .width .ensures, few-words (a .a .operand), c .before .before .before .pre .2)
 
 note-requires-2 : tie.Need-note-requires-2
 note-requires-2 c κs =
@@ -20,10 +20,12 @@ note-requires-2 c κs =
     let w = n .before .before .before in
     let k = w .before .before .before in
     let a = k .args in (
-      omega (arith, k .pre .0, n .note .ensures .2, n .note .kept .0),
-      omega (arith, k .pre .1, n .note .ensures .2, n .note .kept .1 .0),
-      k .pre .2,
-      subst (λ (i : ℕ). Placeable (a .from) i (a .next) (a .b .label)) (second-cell (a .at) (a .a) (w .width .ensures)) (k .pre .5),
+      record {
+        cells = omega (arith, k .pre .0 .cells, n .note .ensures .2, n .note .kept .0);
+        distances = omega (arith, k .pre .0 .distances, n .note .ensures .2, n .note .kept .1 .0);
+      },
+      k .pre .1,
+      subst (λ (i : ℕ). Placeable (a .from) i (a .next) (a .b .label)) (second-cell (a .at) (a .a) (w .width .ensures)) (k .pre .4),
     )
 
 returns : tie.Need-returns

@@ -4,6 +4,7 @@ use native.Mathlib.Omega.{arith}
 use Prim.Native.Nat.{_+_, _≤_, _<_}
 use mathlib.Core.List.{_++_}
 use mathlib.Core.Path.{refl, sym, ap, subst, _∙_}
+use Rattle.codes.specs.Limits.{mostCells}
 use Rattle.isa.proofs.Top.{few-operands}
 use Rattle.statements.specs.Judging.{claimOf}
 use Rattle.statements.specs.declared.Statement.{Statement}
@@ -32,9 +33,8 @@ note-operands-requires c κs =
     let a = k .args in
     let e = k .pre .0 ∙ ap Passes (d .says .given .1) in
     let n = c .before .before .operand-count .ensures in
-    let room = subst (λ (x : Statement). 0 < claimOf x → a .at + claimOf x ≤ 65536) (d .says .given .1) (k .pre .4) (omega arith) in (
+    let room = subst (λ (x : Statement). 0 < claimOf x → a .at + claimOf x ≤ mostCells) (d .says .given .1) (k .pre .4) (omega arith) in (
       k .pre .5,
-      k .pre .6,
       k .pre .2,
       k .pre .3,
       first-placeable (a .line .now) e (a .from) (a .at) (k .pre .1) room n,

@@ -34,7 +34,6 @@ note-statement-requires c κs =
       k .pre .3,
       room-said (k .args .at) (d .read .given .0 .0) (d .read .given .1) (k .pre .4),
       k .pre .5,
-      k .pre .6,
     )
 
 returns-2 : tie.Need-returns-2

@@ -2,9 +2,7 @@
 use borrow.Author.Needs.{needs}
 use mathlib.Core.Path.{_∙_}
 use lib.ListN.{length}
-use Rattle.tokens.specs.Reading.{linesOf}
-use Rattle.sources.specs.Placing.{start as begin}
-use Rattle.sources.specs.Inner.Assembling.{upToEnd, walkLines, workOf, endVerdict}
+use Rattle.sources.specs.Inner.Assembling.{workOf, endVerdict, linesVerdict, lastLine}
 use Rattle.walking.specs.Inner.Walking.{workIn}
 use Rattle.walking.proofs.Ends.{refused-early, still-fair, refused-late, passes-end, binds-at-end, all-held}
 use Rattle.walking.proofs.walk.walk.Statement.{statement}
@@ -27,12 +25,12 @@ returns c =
     let aways = l .last .1 .1 .1 .1 .1 .1 .1 .0 in
     let s = start .args .s .now in
     let m = length (start .args .marks .now) in
-    let v = walkLines m 1 (begin m) (upToEnd (linesOf s)) in
+    let v = linesVerdict m s in
     let w = workOf m s in
-    let n = length (upToEnd (linesOf s)) in
+    let n = lastLine s in
     let d = did .c .given in
-    let h₁ = l .kept .1 .0 ∙ start .pre .1 in
-    let h₂ = l .kept .1 .1 .0 ∙ start .pre .2 in
+    let h₁ = l .kept .1 .0 ∙ start .pre .rows .starts-long in
+    let h₂ = l .kept .1 .1 .0 ∙ start .pre .rows .keys-long in
     refused-late s starts keys values marks cells row aways v w n (d .1) (l .ensures) h₁ h₂ (c .before .is-late .ensures)
     (c .if1 .taken)
 
@@ -54,14 +52,14 @@ bind-here-requires c κs =
     let aways = l .last .1 .1 .1 .1 .1 .1 .1 .0 in
     let s = start .args .s .now in
     let m = length (start .args .marks .now) in
-    let v = walkLines m 1 (begin m) (upToEnd (linesOf s)) in
+    let v = linesVerdict m s in
     let w = workOf m s in
-    let n = length (upToEnd (linesOf s)) in
+    let n = lastLine s in
     let d = did .c .given in
-    let h₁ = l .kept .1 .0 ∙ start .pre .1 in
-    let h₂ = l .kept .1 .1 .0 ∙ start .pre .2 in (
+    let h₁ = l .kept .1 .0 ∙ start .pre .rows .starts-long in
+    let h₂ = l .kept .1 .1 .0 ∙ start .pre .rows .keys-long in (
       still-fair s starts keys values marks cells row aways v w n (d .1) (l .ensures) h₁ h₂,
-      l .kept .1 .1 .1 .0 ∙ start .pre .3,
+      l .kept .1 .1 .1 .0 ∙ start .pre .rows .values-long,
       binds-at-end s starts keys values marks cells row aways v w n (d .1) (l .ensures) h₁ h₂ (late .is-late .ensures)
           (c .before .if1 .left),
     )
@@ -82,9 +80,9 @@ returns-2 c =
     let aways = l .last .1 .1 .1 .1 .1 .1 .1 .0 in
     let s = start .args .s .now in
     let m = length (start .args .marks .now) in
-    let v = walkLines m 1 (begin m) (upToEnd (linesOf s)) in
+    let v = linesVerdict m s in
     let w = workOf m s in
-    let n = length (upToEnd (linesOf s)) in
+    let n = lastLine s in
     refused-early v w n (workIn s starts keys values marks cells row aways) (endVerdict n (w .place)) (c .before .f .given .1) (l .ensures)
 
 returns-3 : tie.Need-returns-3
@@ -106,12 +104,12 @@ returns-3 c =
     let aways = l .last .1 .1 .1 .1 .1 .1 .1 .0 in
     let s = start .args .s .now in
     let m = length (start .args .marks .now) in
-    let v = walkLines m 1 (begin m) (upToEnd (linesOf s)) in
+    let v = linesVerdict m s in
     let w = workOf m s in
-    let n = length (upToEnd (linesOf s)) in
+    let n = lastLine s in
     let d = did .c .given in
-    let h₁ = l .kept .1 .0 ∙ start .pre .1 in
-    let h₂ = l .kept .1 .1 .0 ∙ start .pre .2 in (
+    let h₁ = l .kept .1 .0 ∙ start .pre .rows .starts-long in
+    let h₂ = l .kept .1 .1 .0 ∙ start .pre .rows .keys-long in (
       passes-end s starts keys values marks cells row aways v w n (d .1) (l .ensures) h₁ h₂ (late .is-late .ensures)
           (c .before .before .before .before .if1 .left),
       all-held s starts keys values marks cells row aways v w n (d .1) (l .ensures) h₁ h₂ (q .last .0) (q .result) (q .ensures .2)

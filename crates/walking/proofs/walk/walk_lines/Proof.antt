@@ -24,7 +24,7 @@ loop-holds c =
     let a = start .args in
     let pre = start .pre in
     left-at-start (a .s .now) (a .starts .now) (a .keys .now) (a .values .now) (a .marks .now) (a .cells .now) (a .row .now) (a .aways .now)
-    (pre .1) (pre .2) (pre .3) (pre .5) (pre .6)
+    (pre .rows .starts-long) (pre .rows .keys-long) (pre .rows .values-long) (pre .marks-empty) (pre .cells-empty)
 
 part-line-end : tie.Need-part-line-end Inv-loop μ-loop
 part-line-end c =
@@ -37,7 +37,7 @@ add-number : tie.Need-add-number Inv-loop μ-loop
 add-number c =
     let looped = c .before .before .before .before in
     let start = looped .before .before .before .before .before .before .before .before .before in
-    omega (arith, looped .loop .inv .few-lines, c .before .before .before .loop-test .taken, start .pre .0)
+    omega (arith, looped .loop .inv .few-lines, c .before .before .before .loop-test .taken, start .pre .short)
 
 place-line-requires : tie.Need-place-line-requires Inv-loop μ-loop
 place-line-requires c κs =
@@ -54,13 +54,11 @@ place-line-requires c κs =
     let pre = start .pre in
     let i = p .inv in (
       i .fair,
-      i .starts-long,
-      i .keys-long,
-      i .values-long,
-      omega (arith, i .marks-long, pre .4),
+      record { starts-long = i .starts-long; keys-long = i .keys-long; values-long = i .values-long },
+      omega (arith, i .marks-long, pre .few-cells),
       read .read-line .ensures,
       line-fits m s (p .starts) (p .keys) (p .values) (p .marks) (p .cells) (p .row) (p .aways) (length (a .cells .now)) (length (a .row .now))
-          (length (a .aways .now)) (p .c) (p .from) (p .number) (p .uses) (p .inv) test e (pre .0),
+          (length (a .aways .now)) (p .c) (p .from) (p .number) (p .uses) (p .inv) test e (pre .short),
       line-part s (p .from) (end .line-end .result),
     )
 
@@ -69,21 +67,21 @@ same-length c =
     let placed = c .before .before .before .before .before .before .before .before .before .before .before in
     let looped = placed .before .before .before .before .before .before .before .before .before in
     let start = looped .before .before .before .before .before .before .before .before .before in
-    placed .place-line .kept .1 .1 .1 .1 .0 ∙ looped .loop .inv .starts-long ∙ sym (start .pre .1)
+    placed .place-line .kept .1 .1 .1 .1 .0 ∙ looped .loop .inv .starts-long ∙ sym (start .pre .rows .starts-long)
 
 same-length-2 : tie.Need-same-length-2 Inv-loop μ-loop
 same-length-2 c =
     let placed = c .before .before .before .before .before .before .before .before .before .before .before in
     let looped = placed .before .before .before .before .before .before .before .before .before in
     let start = looped .before .before .before .before .before .before .before .before .before in
-    placed .place-line .kept .1 .1 .1 .1 .1 .0 ∙ looped .loop .inv .keys-long ∙ sym (start .pre .2)
+    placed .place-line .kept .1 .1 .1 .1 .1 .0 ∙ looped .loop .inv .keys-long ∙ sym (start .pre .rows .keys-long)
 
 same-length-3 : tie.Need-same-length-3 Inv-loop μ-loop
 same-length-3 c =
     let placed = c .before .before .before .before .before .before .before .before .before .before .before in
     let looped = placed .before .before .before .before .before .before .before .before .before in
     let start = looped .before .before .before .before .before .before .before .before .before in
-    placed .place-line .kept .1 .1 .1 .1 .1 .1 .0 ∙ looped .loop .inv .values-long ∙ sym (start .pre .3)
+    placed .place-line .kept .1 .1 .1 .1 .1 .1 .0 ∙ looped .loop .inv .values-long ∙ sym (start .pre .rows .values-long)
 
 same-length-4 : tie.Need-same-length-4 Inv-loop μ-loop
 same-length-4 c =
@@ -152,14 +150,16 @@ keep-line-requires c κs =
     let u = i .few-uses test in (
       ap (λ (x : LineRead). x .statement) (sym r),
       line-fits m s (p .starts) (p .keys) (p .values) (p .marks) (p .cells) (p .row) (p .aways) (length (a .cells .now)) (length (a .row .now))
-          (length (a .aways .now)) (p .c) (p .from) (p .number) (p .uses) (p .inv) test e (pre .0),
-      omega (arith, i .few-lines, test, pre .0),
+          (length (a .aways .now)) (p .c) (p .from) (p .number) (p .uses) (p .inv) test e (pre .short),
+      omega (arith, i .few-lines, test, pre .short),
       i .fair .low,
       turn-room m s (p .starts) (p .keys) (p .values) (p .marks) (p .cells) (p .row) (p .aways) (length (a .cells .now)) (length (a .row .now))
           (length (a .aways .now)) (p .c) (p .from) (p .number) (p .uses) (p .inv) test e (placeIn s starts keys values marks) (did .d .given .1)
-          (l .ensures .1 (p .number + 1)) r (pre .4),
-      omega (arith, u, test, pre .0, pre .7, i .row-long),
-      omega (arith, u, test, pre .0, pre .8, i .aways-long),
+          (l .ensures .1 (p .number + 1)) r (pre .few-cells),
+      record {
+        cells = omega (arith, u, test, pre .short, pre .room .cells, i .row-long);
+        distances = omega (arith, u, test, pre .short, pre .room .distances, i .aways-long);
+      },
     )
 
 add-next-line : tie.Need-add-next-line Inv-loop μ-loop
@@ -169,7 +169,7 @@ add-next-line c =
     let end = placed .before .before .before .before .before .before .before in
     let looped = end .before .before in
     let start = looped .before .before .before .before .before .before .before .before .before in
-    omega (arith, end-within (start .args .s .now) (looped .loop .from) (end .line-end .ensures) (end .before .loop-test .taken), start .pre .0)
+    omega (arith, end-within (start .args .s .now) (looped .loop .from) (end .line-end .ensures) (end .before .loop-test .taken), start .pre .short)
 
 loop-less : tie.Need-loop-less Inv-loop μ-loop
 loop-less c =
@@ -210,20 +210,20 @@ loop-again c =
     (length (a .aways .now)) (p .c) (p .from) (p .number) (p .uses) (p .inv) test e (placeIn s starts keys values marks) (did .d .given .1)
     (l .ensures .1 (p .number + 1)) starts keys values marks (k .last .1 .1 .1 .1 .1 .0) (k .last .1 .1 .1 .1 .1 .1 .0) (k .last .1 .1 .1 .1 .1 .1 .1 .0)
     (read .read-line .ensures) (λ x. refl) (l .ensures .0) (l .kept .1 .1 .1 .1 .0) (l .kept .1 .1 .1 .1 .1 .0) (l .kept .1 .1 .1 .1 .1 .1 .0)
-    (l .kept .1 .1 .1 .1 .1 .1 .1 .0) (k .kept .1 .1 .1 .1 .1 .0) (k .kept .1 .1 .1 .1 .1 .1 .0) (k .kept .1 .1 .1 .1 .1 .1 .1 .0) (start .pre .0)
+    (l .kept .1 .1 .1 .1 .1 .1 .1 .0) (k .kept .1 .1 .1 .1 .1 .0) (k .kept .1 .1 .1 .1 .1 .1 .0) (k .kept .1 .1 .1 .1 .1 .1 .1 .0) (start .pre .short)
     (k .ensures .0) (k .ensures .1 s (line-part s (p .from) (end .line-end .result))) (k .ensures .3) (c .next-line .ensures)
 
 same-length-8 : tie.Need-same-length-8 Inv-loop μ-loop
 same-length-8 c =
-    c .before .loop .inv .starts-long ∙ sym (c .before .before .before .before .before .before .before .before .before .before .pre .1)
+    c .before .loop .inv .starts-long ∙ sym (c .before .before .before .before .before .before .before .before .before .before .pre .rows .starts-long)
 
 same-length-9 : tie.Need-same-length-9 Inv-loop μ-loop
 same-length-9 c =
-    c .before .loop .inv .keys-long ∙ sym (c .before .before .before .before .before .before .before .before .before .before .pre .2)
+    c .before .loop .inv .keys-long ∙ sym (c .before .before .before .before .before .before .before .before .before .before .pre .rows .keys-long)
 
 same-length-10 : tie.Need-same-length-10 Inv-loop μ-loop
 same-length-10 c =
-    c .before .loop .inv .values-long ∙ sym (c .before .before .before .before .before .before .before .before .before .before .pre .3)
+    c .before .loop .inv .values-long ∙ sym (c .before .before .before .before .before .before .before .before .before .before .pre .rows .values-long)
 
 same-length-11 : tie.Need-same-length-11 Inv-loop μ-loop
 same-length-11 c =
