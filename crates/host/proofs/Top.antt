@@ -218,11 +218,16 @@ module _ (budget : ℕ) (input : List ℕ) (g : Registers) (m out : List ℕ) wh
     run-stays-good p good = ap (goodLoan input) (run-found-is p .0) ∙ run-keeps-good budget input (state g m out) good
 
     -- "7, 8, 9 can be resumed": the machine has not stopped
-    pub run-can-resume : RunFound g′ m′ out′ k n → budget ≤ largestBudget → goodLoan input (state g m out) ≡ true → budgetSpent ≤ k → g′ .stop ≡ 0
-    run-can-resume p within good seven =
-        let found = p ∙ machines.budget-within budget input (state g m out) within in
-        ap (λ (e : Ending). e .after .registers .stop) found ∙
-        still-runs budget input (state g m out) good (omega (arith, seven, ap (λ (e : Ending). e .stop) found))
+    pub run-can-resume : RunFound g′ m′ out′ k n → budgetSpent ≤ k → k < badLoan → g′ .stop ≡ 0
+    run-can-resume p seven most = go (leb budget largestBudget) (goodLoan input (state g m out)) refl refl
+      where
+        go : (t u : Bool) → leb budget largestBudget ≡ t → goodLoan input (state g m out) ≡ u → g′ .stop ≡ 0
+        go false u e f = absurd (omega (arith, most, run-budget-past p (leb-false budget largestBudget e) .3))
+        go true false e f = absurd (omega (arith, most, run-bad-loan p f .3))
+        go true true e f =
+            let found = p ∙ machines.budget-within budget input (state g m out) (leb-true budget largestBudget e) in
+            ap (λ (x : Ending). x .after .registers .stop) found ∙
+            still-runs budget input (state g m out) f (omega (arith, seven, ap (λ (x : Ending). x .stop) found))
 
   -- "two replies meeting it coincide": registers, memory, output, stop and count
   pub run-replies-coincide : (g′ h′ : Registers) (m′ n′ out′ off′ : List ℕ) (k l i j : ℕ) → RunFound g′ m′ out′ k i → RunFound h′ n′ off′ l j →
