@@ -22,7 +22,7 @@ use Rattle.machine.specs.Runs.{Ending, ending, runOf, limitedRun}
 use Rattle.machine.proofs.Top as machines
 use Rattle.machine.proofs.Standings.{step-never-seven}
 use Rattle.machine.proofs.Counts.{Counted}
-use Rattle.host.proofs.Runs.{limited-bad, limited-stopped, runs-once, run-keeps-good, run-not-none, still-runs}
+use Rattle.host.proofs.Runs.{limited-bad, limited-stopped, runs-once, run-keeps-good, run-not-none, limited-still-runs}
 
 -- ---- one step
 
@@ -219,15 +219,10 @@ module _ (budget : ℕ) (input : List ℕ) (g : Registers) (m out : List ℕ) wh
 
     -- "7, 8, 9 can be resumed": the machine has not stopped
     pub run-can-resume : RunFound g′ m′ out′ k n → budgetSpent ≤ k → k < badLoan → g′ .stop ≡ 0
-    run-can-resume p seven most = go (leb budget largestBudget) (goodLoan input (state g m out)) refl refl
-      where
-        go : (t u : Bool) → leb budget largestBudget ≡ t → goodLoan input (state g m out) ≡ u → g′ .stop ≡ 0
-        go false u e f = absurd (omega (arith, most, run-budget-past p (leb-false budget largestBudget e) .3))
-        go true false e f = absurd (omega (arith, most, run-bad-loan p f .3))
-        go true true e f =
-            let found = p ∙ machines.budget-within budget input (state g m out) (leb-true budget largestBudget e) in
-            ap (λ (x : Ending). x .after .registers .stop) found ∙
-            still-runs budget input (state g m out) f (omega (arith, seven, ap (λ (x : Ending). x .stop) found))
+    run-can-resume p seven most =
+        let found = run-found-is p in
+        ap (λ (t : State). t .registers .stop) (found .0) ∙
+        limited-still-runs budget input (state g m out) (omega (arith, seven, found .1)) (omega (arith, most, found .1))
 
   -- "two replies meeting it coincide": registers, memory, output, stop and count
   pub run-replies-coincide : (g′ h′ : Registers) (m′ n′ out′ off′ : List ℕ) (k l i j : ℕ) → RunFound g′ m′ out′ k i → RunFound h′ n′ off′ l j →
