@@ -32,7 +32,8 @@ module _ (budget : ℕ) (input : List ℕ) (s : State) where
       go true = run-bad input s e budget
       go false = refl
 
-  pub limited-stopped : budget ≤ largestBudget → goodLoan input s ≡ true → (s .registers .stop ≡ 0 → ⊥) → limitedRun budget input s ≡ ending s (s .registers .stop) 0
+  pub limited-stopped : budget ≤ largestBudget → goodLoan input s ≡ true → (s .registers .stop ≡ 0 → ⊥) →
+      limitedRun budget input s ≡ ending s (s .registers .stop) 0
   limited-stopped within good h = machines.budget-within budget input s within ∙ run-stopped input s good h budget
 
 -- ---- one step is taken

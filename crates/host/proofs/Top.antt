@@ -129,7 +129,8 @@ module _ (input : List ℕ) (g : Registers) (m out : List ℕ) where
       omega (arith, one, runs)
 
   -- a step that returns the record's stop code for its stop: it does not meet the promise on a bad loan, unless that code is 10
-  pub stop-is-the-steps : goodLoan input (state g m out) ≡ false → (g .stop ≡ badLoan → ⊥) → (g′ : Registers) (m′ out′ : List ℕ) → Found g′ m′ out′ (g′ .stop) → ⊥
+  pub stop-is-the-steps : goodLoan input (state g m out) ≡ false → (g .stop ≡ badLoan → ⊥) → (g′ : Registers) (m′ out′ : List ℕ) →
+      Found g′ m′ out′ (g′ .stop) → ⊥
   stop-is-the-steps bad other g′ m′ out′ p =
       let found = bad-loan g′ m′ out′ (g′ .stop) p bad in other (ap (λ (r : Registers). r .stop) (sym (found .0)) ∙ found .3)
 
