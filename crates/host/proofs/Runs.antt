@@ -32,7 +32,8 @@ module _ (budget : ℕ) (input : List ℕ) (s : State) where
       go true = run-bad input s e budget
       go false = refl
 
-  pub limited-stopped : budget ≤ largestBudget → goodLoan input s ≡ true → (s .registers .stop ≡ 0 → ⊥) → limitedRun budget input s ≡ ending s (s .registers .stop) 0
+  pub limited-stopped : budget ≤ largestBudget → goodLoan input s ≡ true → (s .registers .stop ≡ 0 → ⊥) →
+      limitedRun budget input s ≡ ending s (s .registers .stop) 0
   limited-stopped within good h = machines.budget-within budget input s within ∙ run-stopped input s good h budget
 
 -- ---- one step is taken
@@ -115,7 +116,7 @@ refused-still-runs input s good undone seven = go (standing input s)
     go (runs e r) = unset r (isStored (stepOf input s .stop)) refl (machines.refused-step input s undone)
 
 -- and so does a run: its machine still runs
-pub still-runs : (budget : ℕ) (input : List ℕ) (s : State) → goodLoan input s ≡ true → budgetSpent ≤ runOf budget input s .stop →
+still-runs : (budget : ℕ) (input : List ℕ) (s : State) → goodLoan input s ≡ true → budgetSpent ≤ runOf budget input s .stop →
     runOf budget input s .after .registers .stop ≡ 0
 still-runs zero input s good seven = go (standing input s)
   where
@@ -146,3 +147,15 @@ still-runs (suc n) input s good seven =
           | inr b ↦ elim b [ inl c ↦ absurd (omega (arith, l, c)) | inr d ↦ absurd (omega (arith, l, d)) ]
         ]
     go h false z p l = refused-still-runs input s good p l
+
+-- with the limit of the budget: 7, 8 and 9 are given only on a good loan and within it
+pub limited-still-runs : (budget : ℕ) (input : List ℕ) (s : State) → budgetSpent ≤ limitedRun budget input s .stop → limitedRun budget input s .stop < badLoan →
+    limitedRun budget input s .after .registers .stop ≡ 0
+unfolding limitedRun
+limited-still-runs budget input s = go (leb budget largestBudget) (goodLoan input s) refl
+  where
+    go : (t u : Bool) → goodLoan input s ≡ u → budgetSpent ≤ cond t (runOf budget input s) (ending s badLoan 0) .stop →
+        cond t (runOf budget input s) (ending s badLoan 0) .stop < badLoan → cond t (runOf budget input s) (ending s badLoan 0) .after .registers .stop ≡ 0
+    go true true good seven most = still-runs budget input s good seven
+    go true false poor seven most = absurd (omega (arith, most, ap (λ (x : Ending). x .stop) (run-bad input s poor budget)))
+    go false u e seven most = absurd (omega (arith, most))

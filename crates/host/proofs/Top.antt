@@ -20,7 +20,7 @@ use Rattle.machine.specs.Runs.{Ending, ending, runOf, limitedRun}
 use Rattle.machine.proofs.Top as machines
 use Rattle.machine.proofs.Standings.{step-never-seven}
 use Rattle.machine.proofs.Counts.{Counted}
-use Rattle.host.proofs.Runs.{limited-bad, limited-stopped, runs-once, run-keeps-good, run-not-none, still-runs}
+use Rattle.host.proofs.Runs.{limited-bad, limited-stopped, runs-once, run-keeps-good, run-not-none, limited-still-runs}
 
 -- ---- one step
 
@@ -119,7 +119,8 @@ module _ (input : List ℕ) (g : Registers) (m out : List ℕ) where
       omega (arith, one, runs)
 
   -- a step that returns the record's stop code for its stop: it does not meet the promise on a bad loan, unless that code is 10
-  pub stop-is-the-steps : goodLoan input (state g m out) ≡ false → (g .stop ≡ badLoan → ⊥) → (g′ : Registers) (m′ out′ : List ℕ) → Found g′ m′ out′ (g′ .stop) → ⊥
+  pub stop-is-the-steps : goodLoan input (state g m out) ≡ false → (g .stop ≡ badLoan → ⊥) → (g′ : Registers) (m′ out′ : List ℕ) →
+      Found g′ m′ out′ (g′ .stop) → ⊥
   stop-is-the-steps bad other g′ m′ out′ p =
       let found = bad-loan g′ m′ out′ (g′ .stop) p bad in other (ap (λ (r : Registers). r .stop) (sym (found .0)) ∙ found .3)
 
@@ -206,11 +207,11 @@ module _ (budget : ℕ) (input : List ℕ) (g : Registers) (m out : List ℕ) wh
     run-stays-good p good = ap (goodLoan input) (run-found-is p .0) ∙ run-keeps-good budget input (state g m out) good
 
     -- "7, 8, 9 can be resumed": the machine has not stopped
-    pub run-can-resume : RunFound g′ m′ out′ k n → budget ≤ largestBudget → goodLoan input (state g m out) ≡ true → budgetSpent ≤ k → g′ .stop ≡ 0
-    run-can-resume p within good seven =
-        let found = p ∙ machines.budget-within budget input (state g m out) within in
-        ap (λ (e : Ending). e .after .registers .stop) found ∙
-        still-runs budget input (state g m out) good (omega (arith, seven, ap (λ (e : Ending). e .stop) found))
+    pub run-can-resume : RunFound g′ m′ out′ k n → budgetSpent ≤ k → k < badLoan → g′ .stop ≡ 0
+    run-can-resume p seven most =
+        let found = run-found-is p in
+        ap (λ (t : State). t .registers .stop) (found .0) ∙
+        limited-still-runs budget input (state g m out) (omega (arith, seven, found .1)) (omega (arith, most, found .1))
 
   -- "two replies meeting it coincide": registers, memory, output, stop and count
   pub run-replies-coincide : (g′ h′ : Registers) (m′ n′ out′ off′ : List ℕ) (k l i j : ℕ) → RunFound g′ m′ out′ k i → RunFound h′ n′ off′ l j →
