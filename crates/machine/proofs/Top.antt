@@ -39,7 +39,7 @@ use Rattle.machine.proofs.Orders as orders
 use Rattle.machine.proofs.Kept.{two, one, alone, Reads, placeIn, valueIn, There, kept, kept-within, kept-past, completes}
 use Rattle.machine.proofs.Completed as completed
 use Rattle.machine.proofs.Ends as ends
-use Rattle.machine.proofs.InputOutput as ports
+use Rattle.machine.proofs.InputOutput as exchange
 use Rattle.machine.proofs.Runs as its-runs
 use Rattle.machine.proofs.Counts as counts
 
@@ -213,35 +213,35 @@ module _ (input : List ℕ) (s : State) (good : goodLoan input s ≡ true) (runs
   module _ (a : Operand) where
     -- "8 input at its end"
     pub INCHAR-at-end : Reads s (one O.INCHAR a) next → There s next a → length input ≤ s .registers .taken → stepOf input s ≡ refuses s 8
-    INCHAR-at-end read there h = ports.INCHAR-at-end input s good runs next a h read there
+    INCHAR-at-end read there h = exchange.INCHAR-at-end input s good runs next a h read there
 
     pub ININT-at-end : Reads s (one O.ININT a) next → There s next a → length input ≤ s .registers .taken → stepOf input s ≡ refuses s 8
-    ININT-at-end read there h = ports.ININT-at-end input s good runs next a h read there
+    ININT-at-end read there h = exchange.ININT-at-end input s good runs next a h read there
 
     pub INSTR-at-end : Reads s (one O.INSTR a) next → There s next a → length input ≤ s .registers .taken → stepOf input s ≡ refuses s 8
-    INSTR-at-end read there h = ports.INSTR-at-end input s good runs next a h read there
+    INSTR-at-end read there h = exchange.INSTR-at-end input s good runs next a h read there
 
     -- "a string passing M is 5": a line that with its 0 cell ends past M
     pub INSTR-too-long : {line : List ℕ} {after : ℕ} → Reads s (one O.INSTR a) next → s .registers .taken < length input →
         Line input (s .registers .taken) line after → length (s .memory) < targetOf (placeIn s next a) + length line + 1 →
         stepOf input s ≡ refuses s 5
-    INSTR-too-long = ports.INSTR-too-long input s good runs next a
+    INSTR-too-long = exchange.INSTR-too-long input s good runs next a
 
     -- "and comes before 9": a string that no 0 ends, whatever room there is
     pub WRSTR-unended : Reads s (one O.WRSTR a) next → Free 0 (drop (targetOf (placeIn s next a)) (s .memory)) → stepOf input s ≡ refuses s 5
-    WRSTR-unended = ports.WRSTR-unended input s good runs next a
+    WRSTR-unended = exchange.WRSTR-unended input s good runs next a
 
     -- "9 output room short"
     pub WRCHAR-short : Reads s (one O.WRCHAR a) next → There s next a → length (s .output) ≤ s .registers .written → stepOf input s ≡ refuses s 9
-    WRCHAR-short = ports.WRCHAR-short input s good runs next a
+    WRCHAR-short = exchange.WRCHAR-short input s good runs next a
 
     pub WRINT-short : Reads s (one O.WRINT a) next → There s next a →
         length (s .output) < s .registers .written + length (signedDecimal (valueIn s next a)) → stepOf input s ≡ refuses s 9
-    WRINT-short = ports.WRINT-short input s good runs next a
+    WRINT-short = exchange.WRINT-short input s good runs next a
 
     pub WRSTR-short : {cells : List ℕ} → Reads s (one O.WRSTR a) next → StringFrom (s .memory) (targetOf (placeIn s next a)) cells →
         length (s .output) < s .registers .written + length cells → stepOf input s ≡ refuses s 9
-    WRSTR-short = ports.WRSTR-short input s good runs next a
+    WRSTR-short = exchange.WRSTR-short input s good runs next a
 
 -- ---- what a step that completes leaves
 --
@@ -370,20 +370,20 @@ module _ (input : List ℕ) (s : State) (good : goodLoan input s ≡ true) (runs
         stepOf input s ≡
         kept (length (s .memory)) next (set (s .registers .r) k (getD input (s .registers .taken) 0)) (s .registers .taken + 1) (s .registers .written)
         (s .memory) (s .output)
-    INCHAR-to-register k sr pc = ports.INCHAR-to-register input s good runs next k sr pc here
+    INCHAR-to-register k sr pc = exchange.INCHAR-to-register input s good runs next k sr pc here
 
     module _ {line : List ℕ} {after : ℕ} (its : Line input (s .registers .taken) line after) where
       pub ININT-to-register : (k : ℕ) → (k ≡ SR → ⊥) → (k ≡ PC → ⊥) → Reads s (one O.ININT (Register k)) next →
           stepOf input s ≡
           kept (length (s .memory)) next (set (s .registers .r) k (lineNumber line)) after (s .registers .written) (s .memory) (s .output)
-      ININT-to-register k sr pc read = ports.ININT-to-register input s good runs next k sr pc here read its
+      ININT-to-register k sr pc read = exchange.ININT-to-register input s good runs next k sr pc here read its
 
       -- "INSTR adds a 0 cell"
       pub INSTR : (a : Operand) → Reads s (one O.INSTR a) next → targetOf (placeIn s next a) + length line + 1 ≤ length (s .memory) →
           stepOf input s ≡
           kept (length (s .memory)) next (s .registers .r) after (s .registers .written)
           (overwrite (s .memory) (targetOf (placeIn s next a)) (line ++ (0 ∷ []))) (s .output)
-      INSTR a read h = ports.INSTR input s good runs next a read here its h
+      INSTR a read h = exchange.INSTR input s good runs next a read here its h
 
   -- "WRINT writes signed decimal. WRCHAR and WRSTR write low bytes; WRSTR ends before the first cell that is 0."
   module _ (a : Operand) where
@@ -391,7 +391,7 @@ module _ (input : List ℕ) (s : State) (good : goodLoan input s ≡ true) (runs
         stepOf input s ≡
         kept (length (s .memory)) next (s .registers .r) (s .registers .taken) (s .registers .written + 1) (s .memory)
         (overwrite (s .output) (s .registers .written) (lowByte (valueIn s next a) ∷ []))
-    WRCHAR = ports.WRCHAR input s good runs next a
+    WRCHAR = exchange.WRCHAR input s good runs next a
 
     pub WRINT : Reads s (one O.WRINT a) next → There s next a →
         s .registers .written + length (signedDecimal (valueIn s next a)) ≤ length (s .output) →
@@ -399,14 +399,14 @@ module _ (input : List ℕ) (s : State) (good : goodLoan input s ≡ true) (runs
         kept (length (s .memory)) next (s .registers .r) (s .registers .taken) (s .registers .written + length (signedDecimal (valueIn s next a)))
         (s .memory)
         (overwrite (s .output) (s .registers .written) (signedDecimal (valueIn s next a)))
-    WRINT = ports.WRINT input s good runs next a
+    WRINT = exchange.WRINT input s good runs next a
 
     pub WRSTR : {cells : List ℕ} → Reads s (one O.WRSTR a) next → StringFrom (s .memory) (targetOf (placeIn s next a)) cells →
         s .registers .written + length cells ≤ length (s .output) →
         stepOf input s ≡
         kept (length (s .memory)) next (s .registers .r) (s .registers .taken) (s .registers .written + length cells) (s .memory)
         (overwrite (s .output) (s .registers .written) (map lowByte cells))
-    WRSTR = ports.WRSTR input s good runs next a
+    WRSTR = exchange.WRSTR input s good runs next a
 
 -- ---- a run
 
