@@ -18,7 +18,7 @@ use Rattle.isa.specs.Opcodes.{table, opcodes, opcodeOf, countOf}
 use Rattle.isa.specs.Operands.{allows, operandOf}
 use Rattle.codes.specs.Registers.{PC, isRegister}
 use Rattle.isa.specs.Encoding.{firstWordOf, wordsOf, allowed, encodeOf, refusalOf, wordsIn}
-use Rattle.isa.specs.Decoding.{modesAllowed, sizeIn, instructionIn, readUnless, decodeWord, decodeOf, stopOf}
+use Rattle.isa.specs.Decoding.{modesAllowed, firstWordRead, sizeIn, instructionIn, readUnless, decodeWord, decodeOf, stopOf}
 use Rattle.isa.specs.Marked.{MarkedInstructions, instruction}
 use Rattle.isa.proofs.Numbers as numbers
 use Rattle.isa.proofs.Words as words
@@ -108,7 +108,7 @@ pub record RefusedExamples : Type 0 where
   pub code : refusalOf (encodeOf (instruction MOVE (Register 16) (Register 0))) ≡ 5
 
 pub refused : RefusedExamples
-unfolding decodeOf decodeWord modesAllowed sizeIn instructionIn readUnless opcodeOf opcodes operandOf encodeOf allowed allows wordsOf firstWordOf table
+unfolding decodeOf decodeWord firstWordRead modesAllowed sizeIn instructionIn readUnless opcodeOf opcodes operandOf encodeOf allowed allows wordsOf firstWordOf table
 refused = record {
   empty = refl;
   opcode = refl;
