@@ -149,7 +149,7 @@ module _ (r : List ℕ) (h : (k : ℕ) → getD r k 0 < 65536) (next : ℕ) wher
   unfolding targetOf placeOf
   target-small Absent w = w
   target-small (Immediate v) w = w
-  target-small (Register k) w = w
+  target-small (Register k) w = omega arith
   target-small (Memory a) w = w
   target-small (Indirect k) w = see-small k
   target-small (IndexedX d) w = plus-small _ d

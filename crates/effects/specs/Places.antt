@@ -40,9 +40,9 @@ thereIn size (Constant v) = true
 thereIn size (InRegister k) = true
 thereIn size (InCell a) = ltb a size
 
--- "Branch and CALL targets are addresses, never a cell's content"
+-- "Branch and CALL targets are addresses, never a cell's content"; a register is no address, and no opcode allows one there
 unfoldable pub targetOf : Place → ℕ
 targetOf Nowhere = 0
 targetOf (Constant v) = v
-targetOf (InRegister k) = k
+targetOf (InRegister k) = 0
 targetOf (InCell a) = a

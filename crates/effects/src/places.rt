@@ -74,7 +74,7 @@ pub fn target(p: Place) -> u16
     match p {
         Place::Nowhere => 0,
         Place::Constant(v) => v,
-        Place::InRegister(k) => k,
+        Place::InRegister(_) => 0,
         Place::InCell(a) => a,
     }
 }
