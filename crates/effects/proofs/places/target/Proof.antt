@@ -1,4 +1,4 @@
--- By the place: its own number.
+-- By the place: its own number, and 0 for a register.
 use Rattle.effects.specs.Places.{targetOf}
 use Rattle.effects.proofs.places.target.Statement.{statement}
 use Rattle.effects.proofs.places.target.Tie as tie
@@ -14,5 +14,5 @@ target-spec =
     (λ c. c .match .keys4)
     (λ c. rw (c .enum-told .given .1))
     (λ c. rw (c .before .p .given .1))
-    (λ c. rw (c .before .p2 .given .1))
-    (λ c. rw (c .before .p3 .given .1)))
+    (λ c. rw (c .enum-told2 .given .1))
+    (λ c. rw (c .before .p2 .given .1)))
