@@ -7,17 +7,20 @@ use super::Stepped;
 use super::lent::code_after;
 use super::lent::inner;
 use super::loans::is_good;
+use codes::stops::BAD_LOAN;
+use codes::stops::NONE;
 
 pub fn step(g: Registers, m: &mut [u16], input: &[u8], out: &mut [u8]) -> Stepped
-    ensures { λ s. ⌜ reply (state (s .registers) (now (m .exit)) (now (out .exit))) (s .stop) ≡ replyOf (now (input .entry)) (state g (now (m .entry)) (now (out .entry))) ⌝ }
+    ensures { λ s. ⌜ reply (state (s .registers) (now (m .exit)) (now (out .exit))) (s .stop)
+        ≡ replyOf (now (input .entry)) (state g (now (m .entry)) (now (out .entry))) ⌝ }
 {
     if !is_good(g, m, input, out) {
         return Stepped {
             registers: g,
-            stop: 10,
+            stop: BAD_LOAN,
         };
     }
-    if g.stop != 0 {
+    if g.stop != NONE {
         return Stepped {
             registers: g,
             stop: g.stop,
