@@ -5,28 +5,31 @@ ghost use Rattle.effects.specs.Applied.{keepingH, withRegister, register
 use super::Effect;
 use super::Flags;
 use super::Place;
+use codes::flags::FOR_H;
+use codes::registers::PC;
+use codes::registers::SP;
+use codes::registers::SR;
 
 fn kept_h(sr: u16, v: u16) -> u16
     ensures { λ x. ⌜ x ≡ keepingH sr v ⌝ }
 {
-    v % 32 + sr / 32 * 32
+    v % FOR_H + sr / FOR_H * FOR_H
 }
 
 // A number stored in a row of cells or of registers, unless it is past the end.
-fn put(row: &mut [u16], at: u16, v: u16)
+fn put(row: &mut [u16], at: usize, v: u16)
     ensures { λ _. ⌜ now (row .exit) ≡ set (now (row .entry)) at v ⌝ }
 {
-    let i = at as usize;
-    if i < row.len() {
-        row[i] = v;
+    if at < row.len() {
+        row[at] = v;
     }
 }
 
-fn put_register(r: &mut [u16; 16], k: u16, v: u16)
+fn put_register(r: &mut [u16; 16], k: usize, v: u16)
     ensures { λ _. ⌜ now (r .exit) ≡ withRegister (now (r .entry)) k v ⌝ }
 {
-    if k == 11 {
-        r[11] = kept_h(r[11], v);
+    if k == SR {
+        r[SR] = kept_h(r[SR], v);
         return;
     }
     put(r, k, v);
@@ -48,7 +51,7 @@ fn put_flags(r: &mut [u16; 16], flags: Flags)
 {
     match flags {
         Flags::Become(f) => {
-            r[11] = kept_h(r[11], f);
+            r[SR] = kept_h(r[SR], f);
         }
         Flags::Unchanged => {}
     }
@@ -60,10 +63,10 @@ pub fn change_registers(r: &mut [u16; 16], e: Effect)
 {
     let to = e.to;
     let flags = e.flags;
-    r[14] = e.sp;
+    r[SP] = e.sp;
     put_result(r, to, e.value);
     put_flags(r, flags);
-    r[15] = (e.next % 65536) as u16;
+    r[PC] = (e.next % 65536) as u16;
 }
 
 // The memory after an effect.
@@ -73,7 +76,7 @@ pub fn change_memory(m: &mut [u16], e: Effect)
     let to = e.to;
     let v = e.value;
     match to {
-        Place::InCell(a) => put(m, a, v),
+        Place::InCell(a) => put(m, a as usize, v),
         Place::Nowhere => {}
         Place::Constant(_) => {}
         Place::InRegister(_) => {}

@@ -6,11 +6,12 @@ pub mod places; // where operands are, and what stands there
 pub mod perform; // the effect of each opcode
 pub mod shapes; // the effects that opcodes share
 
-// Where an operand is: a number of its own, a register by its code, or a cell by its address.
+// Where an operand is: a number of its own, a register by its code, or a cell by its address. A code is an index, and of an index's
+// width: a place of four bytes would be packed into one number, and shifted apart again, at every use.
 pub enum Place {
     Nowhere,
     Constant(u16),
-    InRegister(u16),
+    InRegister(usize),
     InCell(u16),
 }
 

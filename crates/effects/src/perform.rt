@@ -26,6 +26,11 @@ use super::shapes::moved;
 use super::shapes::popped;
 use super::shapes::pushed;
 use super::shapes::resulted;
+use codes::registers::A;
+use codes::registers::PC;
+use codes::registers::SP;
+use codes::registers::SR;
+use codes::stops::MEMORY_END;
 use isa::Instruction;
 use isa::Kinds;
 use isa::Opcode;
@@ -44,7 +49,7 @@ fn by_opcode(
 ) -> Performed
     ensures { λ r. ⌜ r ≡ byOpcode (found (now (m .entry)) next sp sr p q x y) op ⌝ }
 {
-    let to_a = Place::InRegister(10);
+    let to_a = Place::InRegister(A);
     match op {
         Opcode::NOP => goes_on(next, sp),
         Opcode::HALT => Performed::Halts,
@@ -78,7 +83,7 @@ fn by_opcode(
         Opcode::BE => jumped(next, sp, p, !odd(sr)),
         Opcode::BO => jumped(next, sp, p, odd(sr)),
         Opcode::CALL => pushed(m, sp, (next % 65536) as u16, target(p) as usize),
-        Opcode::RET => popped(m, sp, next, Place::InRegister(15)),
+        Opcode::RET => popped(m, sp, next, Place::InRegister(PC)),
         Opcode::INCHAR => Performed::Asks(Port::TakeByte(p)),
         Opcode::ININT => Performed::Asks(Port::TakeNumber(p)),
         Opcode::INSTR => Performed::Asks(Port::TakeString(target(p))),
@@ -124,7 +129,7 @@ pub fn perform(r: &[u16; 16], m: &[u16], next: usize, i: Instruction) -> Perform
     let q = located(r, next, b);
     let y = value(r, m, next, q);
     if !addresses_there(m, op, p, q) {
-        return Performed::Stops(5);
+        return Performed::Stops(MEMORY_END);
     }
-    by_opcode(m, next, r[14], r[11], p, q, x, y, op)
+    by_opcode(m, next, r[SP], r[SR], p, q, x, y, op)
 }

@@ -4,21 +4,24 @@ ghost use lib.ListN.{length, getD};
 ghost use Rattle.effects.specs.Seen.{see};
 ghost use Rattle.effects.specs.Places.{plus, placeOf, valueAt, thereIn, targetOf};
 use super::Place;
+use codes::registers::IX;
+use codes::registers::IY;
+use codes::registers::PC;
+use codes::registers::SP;
 use isa::Operand;
 
 // A cell, and 0 past the end.
-pub fn cell(m: &[u16], at: u16) -> u16
+pub fn cell(m: &[u16], at: usize) -> u16
     ensures { λ v. ⌜ v ≡ getD (now (m .entry)) at 0 ⌝ }
 {
-    let i = at as usize;
-    if i < m.len() { m[i] } else { 0 }
+    if at < m.len() { m[at] } else { 0 }
 }
 
 // A register as operands see it; the address after the instruction stands for PC.
-pub fn seen(r: &[u16; 16], next: usize, code: u16) -> u16
+pub fn seen(r: &[u16; 16], next: usize, code: usize) -> u16
     ensures { λ v. ⌜ v ≡ see (now (r .entry)) next code ⌝ }
 {
-    if code == 15 {
+    if code == PC {
         return (next % 65536) as u16;
     }
     cell(r, code)
@@ -36,13 +39,13 @@ pub fn located(r: &[u16; 16], next: usize, o: Operand) -> Place
     match o {
         Operand::Absent => Place::Nowhere,
         Operand::Immediate(v) => Place::Constant(v),
-        Operand::Register(k) => Place::InRegister(k),
+        Operand::Register(k) => Place::InRegister(k as usize),
         Operand::Memory(a) => Place::InCell(a),
-        Operand::Indirect(k) => Place::InCell(seen(r, next, k)),
-        Operand::IndexedX(d) => Place::InCell(sum(seen(r, next, 12), d)),
-        Operand::IndexedY(d) => Place::InCell(sum(seen(r, next, 13), d)),
-        Operand::IndexedSp(d) => Place::InCell(sum(seen(r, next, 14), d)),
-        Operand::Relative(d) => Place::InCell(sum(seen(r, next, 15), d)),
+        Operand::Indirect(k) => Place::InCell(seen(r, next, k as usize)),
+        Operand::IndexedX(d) => Place::InCell(sum(seen(r, next, IX), d)),
+        Operand::IndexedY(d) => Place::InCell(sum(seen(r, next, IY), d)),
+        Operand::IndexedSp(d) => Place::InCell(sum(seen(r, next, SP), d)),
+        Operand::Relative(d) => Place::InCell(sum(seen(r, next, PC), d)),
     }
 }
 
@@ -53,7 +56,7 @@ pub fn value(r: &[u16; 16], m: &[u16], next: usize, p: Place) -> u16
         Place::Nowhere => 0,
         Place::Constant(v) => v,
         Place::InRegister(k) => seen(r, next, k),
-        Place::InCell(a) => cell(m, a),
+        Place::InCell(a) => cell(m, a as usize),
     }
 }
 

@@ -12,6 +12,10 @@ use super::places::cell;
 use super::places::target;
 use arithmetic::Division;
 use arithmetic::Outcome;
+use codes::registers::A;
+use codes::registers::PC;
+use codes::stops::MEMORY_END;
+use codes::stops::ZERO_DIVISOR;
 
 fn goes_to(next: usize, sp: u16) -> Effect
     ensures { λ e. ⌜ e ≡ goesTo next sp ⌝ }
@@ -45,7 +49,7 @@ pub fn written(next: usize, sp: u16, place: Place, value: u16, flags: Flags) -> 
         Place::Nowhere => made(next, sp, Place::Nowhere, value, flags),
         Place::Constant(_) => made(next, sp, Place::Nowhere, value, flags),
         Place::InRegister(k) => {
-            if k == 15 {
+            if k == PC {
                 made(value as usize, sp, Place::Nowhere, value, flags)
             } else {
                 made(next, sp, Place::InRegister(k), value, flags)
@@ -84,8 +88,8 @@ pub(crate) fn divided(next: usize, sp: u16, d: Division) -> Performed
     ensures { λ r. ⌜ r ≡ dividesTo next sp d ⌝ }
 {
     match d {
-        Division::Done(o) => resulted(next, sp, Place::InRegister(10), o),
-        Division::ByZero => Performed::Stops(6),
+        Division::Done(o) => resulted(next, sp, Place::InRegister(A), o),
+        Division::ByZero => Performed::Stops(ZERO_DIVISOR),
     }
 }
 
@@ -107,7 +111,7 @@ pub(crate) fn pushed(m: &[u16], sp: u16, value: u16, next: usize) -> Performed
         let below = ((sp as u32 + 65535) % 65536) as u16;
         moved(next, below, Place::InCell(sp), value)
     } else {
-        Performed::Stops(5)
+        Performed::Stops(MEMORY_END)
     }
 }
 
@@ -117,8 +121,8 @@ pub(crate) fn popped(m: &[u16], sp: u16, next: usize, place: Place) -> Performed
 {
     let above = ((sp as u32 + 1) % 65536) as u16;
     if (above as usize) < m.len() {
-        moved(next, above, place, cell(m, above))
+        moved(next, above, place, cell(m, above as usize))
     } else {
-        Performed::Stops(5)
+        Performed::Stops(MEMORY_END)
     }
 }

@@ -13,26 +13,26 @@ use Rattle.isa.specs.declared.Decoded.the-variants.{Read, NoOpcode, NoMo
 use Rattle.isa.specs.declared.Opcode.{Opcode}
 use Rattle.isa.specs.Opcodes.{table, opcodes, opcodeOf}
 use Rattle.isa.specs.Operands.{operandOf}
-use Rattle.isa.specs.Decoding.{opcodeIn, mode1In, mode2In, modesAllowed, sizeIn, instructionIn, registersThere, readUnless, decodeWord, decodeOf}
+use Rattle.isa.specs.Decoding.{opcodeIn, mode1In, mode2In, modesAllowed, sizeIn, instructionIn, registersThere, firstWordRead, readUnless, decodeWord, decodeOf}
 use Rattle.isa.proofs.FirstWords.{size-within}
 
 -- a first word w that stands at an address
 module _ (m : List ℕ) (at w : ℕ) where
   pub word-no-opcode : 2496 ≤ w → decodeWord m at w ≡ NoOpcode
-  unfolding decodeWord
+  unfolding decodeWord firstWordRead
   word-no-opcode h = rw (le-leb 2496 w h)
 
   pub word-no-mode : w < 2496 → modesAllowed w ≡ false → decodeWord m at w ≡ NoMode
-  unfolding decodeWord
+  unfolding decodeWord firstWordRead
   word-no-mode h n = rw (lt-leb 2496 w h, n)
 
   pub word-missing : w < 2496 → modesAllowed w ≡ true → length m < at + sizeIn w → decodeWord m at w ≡ PastMemory
-  unfolding decodeWord
+  unfolding decodeWord firstWordRead
   word-missing h t s = rw (lt-leb 2496 w h, t, lt-ltb (length m) (at + sizeIn w) s)
 
   pub word-whole : w < 2496 → modesAllowed w ≡ true → at + sizeIn w ≤ length m
       → decodeWord m at w ≡ readUnless (instructionIn w (getD m (at + 1) 0) (getD m (at + 2) 0)) (at + sizeIn w)
-  unfolding decodeWord
+  unfolding decodeWord firstWordRead
   word-whole h t s = rw (lt-leb 2496 w h, t, le-ltb (length m) (at + sizeIn w) s)
 
 module _ (m : List ℕ) (at : ℕ) where

@@ -1,23 +1,26 @@
 -- Encoding and decoding undo each other. Assumes nothing.
 use mathlib.Core.Path.{_≡_, refl, sym, ap, _∙_}
-use mathlib.Core.Bool.{Bool, true, false, cond, not}
+use mathlib.Core.Bool.{Bool, true, false, cond}
 use mathlib.Core.List.{List, [], _∷_, _++_}
 use Prim.Native.Nat.{ℕ, zero, suc, _+_, _-_, _/_, _<_, _≤_}
 use native.Mathlib.Nat.{min-le-right}
 use native.Mathlib.Numerals.{add-one}
 use native.Mathlib.Omega.{arith}
-use borrow.Author.Tests.{lt-ltb, leb-false, ltb-true, ltb-false, not-false}
+use borrow.Author.Tests.{lt-ltb, leb-false, ltb-true, ltb-false}
 use lib.Dec.{ltb, leb}
 use lib.ListN.{length, getD, take, drop, length-append, length-take, length-drop, take-append-drop}
 use lib.Seq.{getD-append-seam, getD-append-add, drop-cons, length-take-le}
 use Rattle.isa.specs.declared.Instruction.{Instruction}
 use Rattle.isa.specs.declared.Address.{Address}
+use Rattle.isa.specs.declared.Opcode.{Opcode}
+use Rattle.isa.specs.declared.FirstWord.the-variants.{Allowed, UnknownOpcode, UnknownMode}
 use Rattle.isa.specs.declared.Decoded.{Decoded}
 use Rattle.isa.specs.declared.Decoded.the-variants.{Read, NoOpcode, NoMode, NoRegister, PastMemory}
 use Rattle.isa.specs.Opcodes.{table}
 use Rattle.isa.specs.Operands.{modeOf, operandWords, wordOf, registerThere, modesOf, oneOf, operandOf}
 use Rattle.isa.specs.Encoding.{firstWordOf, wordsOf, allowed, encoding, encodeOf}
-use Rattle.isa.specs.Decoding.{opcodeIn, mode1In, mode2In, modesAllowed, sizeIn, instructionIn, registersThere, readUnless, decodeWord, decodeOf, stopOf, wordsOfMode}
+use Rattle.isa.specs.Decoding.{opcodeIn, mode1In, mode2In, modesAllowed, sizeIn, instructionIn, registersThere, firstWordRead, readUnless}
+use Rattle.isa.specs.Decoding.{followed, decodeWord, decodeOf, stopOf, wordsOfMode}
 use Rattle.isa.proofs.Tests.{both-true}
 use Rattle.isa.proofs.Numbers.{number-of-opcode}
 use Rattle.isa.proofs.Modes.{Made, one-word, operand-back, operand-made, mode-present}
@@ -182,24 +185,30 @@ held : (b : Bool) (x y : Decoded) (i : Instruction) (next : Address) → 0 < sto
 held true x y i next stop e = (refl, e)
 held false x y i next stop e = let none = ap stopOf e in absurd (omega arith)
 
+-- what an instruction that was read says of its first word: below 2,496, its modes allowed, and read as one that is
+first-word-passed : (m : List ℕ) (at w : ℕ) (past modes : Bool) (o : Opcode) (i : Instruction) (next : Address)
+    → followed m at w (cond past UnknownOpcode (cond modes (Allowed o) UnknownMode)) ≡ Read i next
+    → (past ≡ false) × (modes ≡ true) × (followed m at w (Allowed o) ≡ Read i next)
+first-word-passed m at w true modes o i next e = let none = ap stopOf e in absurd (omega arith)
+first-word-passed m at w false true o i next e = (refl, refl, e)
+first-word-passed m at w false false o i next e = let none = ap stopOf e in absurd (omega arith)
+
 decodes : (m : List ℕ) (at : ℕ) (i : Instruction) (next : Address) → decodeOf m at ≡ Read i next → Decodes m at i next
-unfolding decodeOf decodeWord readUnless
+unfolding decodeOf decodeWord firstWordRead readUnless
 decodes m at i next e =
     let w = getD m at 0 in
     let x = instructionIn w (getD m (at + 1) 0) (getD m (at + 2) 0) in
     let n = at + sizeIn w in
-    let whole = cond (ltb (length m) n) PastMemory (readUnless x n) in
     let p1 = passed (leb (length m) at) PastMemory (decodeWord m at w) i next (omega arith) e in
-    let p2 = passed (leb 2496 w) NoOpcode (cond (not (modesAllowed w)) NoMode whole) i next (omega arith) (p1 .1) in
-    let p3 = passed (not (modesAllowed w)) NoMode whole i next (omega arith) (p2 .1) in
-    let p4 = passed (ltb (length m) n) PastMemory (readUnless x n) i next (omega arith) (p3 .1) in
+    let p2 = first-word-passed m at w (leb 2496 w) (modesAllowed w) (opcodeIn w) i next (p1 .1) in
+    let p4 = passed (ltb (length m) n) PastMemory (readUnless x n) i next (omega arith) (p2 .2) in
     let p5 = held (registersThere x) NoRegister (Read x (record { 0 = n })) i next (omega arith) (p4 .1) in
     let read = p5 .1 in
     let to : _≡_ {A = Address} (record { 0 = n }) next = cc in
     record {
       there = leb-false (length m) at (p1 .0);
       below = leb-false 2496 w (p2 .0);
-      modes = not-false (modesAllowed w) (p3 .0);
+      modes = p2 .1;
       whole-words = ltb-false (length m) n (p4 .0);
       registers = p5 .0;
       its = cc;

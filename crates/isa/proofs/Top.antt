@@ -20,7 +20,7 @@ use Rattle.isa.specs.Opcodes.{table, opcodes, opcodeOf, countOf}
 use Rattle.isa.specs.Operands.{allows, operandOf}
 use Rattle.codes.specs.Registers.{PC, isRegister}
 use Rattle.isa.specs.Encoding.{firstWordOf, wordsOf, allowed, Encoding, encodeOf, answered}
-use Rattle.isa.specs.Decoding.{allowedBelow, modesAllowed, sizeIn, instructionIn, readUnless, decodeWord, decodeOf, stopOf}
+use Rattle.isa.specs.Decoding.{allowedBelow, modesAllowed, firstWordRead, sizeIn, instructionIn, readUnless, decodeWord, decodeOf, stopOf}
 use Rattle.isa.proofs.Numbers as numbers
 use Rattle.isa.proofs.Words as words
 use Rattle.isa.proofs.FirstWords as first-words
@@ -105,7 +105,7 @@ pub record RefusedExamples : Type 0 where
   pub code : encodeOf (instruction MOVE (Register 16) (Register 0)) .refusal ≡ 5
 
 pub refused : RefusedExamples
-unfolding decodeOf decodeWord modesAllowed sizeIn instructionIn readUnless opcodeOf opcodes operandOf encodeOf allowed allows wordsOf firstWordOf table
+unfolding decodeOf decodeWord firstWordRead modesAllowed sizeIn instructionIn readUnless opcodeOf opcodes operandOf encodeOf allowed allows wordsOf firstWordOf table
 refused = record {
   empty = refl;
   opcode = refl;

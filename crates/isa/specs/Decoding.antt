@@ -1,6 +1,6 @@
 -- What words decode to (01, "Layout": "Decoding refuses as stops 2, 3, 5, 4 below, in step order").
 use Prim.Native.Nat.{ℕ, zero, suc, _+_, _/_, _%_}
-use mathlib.Core.Bool.{Bool, true, false, cond, _&&_, not}
+use mathlib.Core.Bool.{Bool, true, false, cond, _&&_}
 use mathlib.Core.List.{List}
 use lib.Dec.{ltb, leb}
 use lib.ListN.{length, getD}
@@ -57,13 +57,17 @@ registersThere i = registerThere (i .first) && registerThere (i .second)
 unfoldable pub readUnless : Instruction → ℕ → Decoded
 readUnless i after = cond (registersThere i) (Read i (record { 0 = after })) NoRegister
 
--- the first word w stands at an address: 2, 3, missing words 5, 4
+-- what follows from what a first word w at an address decides: 2, 3, missing words 5, 4
+abbrev pub followed : List ℕ → ℕ → ℕ → FirstWord → Decoded
+followed m at w UnknownOpcode = NoOpcode
+followed m at w UnknownMode = NoMode
+followed m at w (Allowed o) =
+    cond (ltb (length m) (at + sizeIn w)) PastMemory
+    (readUnless (instructionIn w (getD m (at + 1) 0) (getD m (at + 2) 0)) (at + sizeIn w))
+
+-- the first word w stands at an address
 unfoldable pub decodeWord : List ℕ → ℕ → ℕ → Decoded
-decodeWord m at w =
-    cond (leb firstWords w) NoOpcode
-    (cond (not (modesAllowed w)) NoMode
-    (cond (ltb (length m) (at + sizeIn w)) PastMemory
-    (readUnless (instructionIn w (getD m (at + 1) 0) (getD m (at + 2) 0)) (at + sizeIn w))))
+decodeWord m at w = followed m at w (firstWordRead w)
 
 -- what stands at an address of a list of words: an address past its end is 5
 unfoldable pub decodeOf : List ℕ → ℕ → Decoded

@@ -5,16 +5,18 @@ use mathlib.Core.List.{List}
 use Prim.Native.Nat.{ℕ, suc, _+_, _-_, _≤_, _<_}
 use native.Mathlib.Nat.{add-zero, sub-zero}
 use native.Mathlib.Omega.{arith}
-use borrow.Author.Tests.{ne-eqb}
+use borrow.Author.Tests.{ne-eqb, eqb-true}
+use lib.Dec.{eqb}
 use Rattle.machine.specs.States.{State, state, machine}
 use Rattle.machine.specs.Stops.{Answer, answer, goodLoan}
 use Rattle.machine.specs.Steps.{runsOn, stepOf, Reply, reply, replyOf}
-use Rattle.machine.specs.Inner.Lent.{running, codeAfter, left}
-use Rattle.machine.specs.Runs.{Ending, ending, oneMore, follows, runOf}
+use Rattle.machine.specs.Inner.Lent.{running, codeAfter, left, ofOneStep}
+use Rattle.machine.specs.Runs.{Ending, ending, oneMore, follows, runOf, limitedRun}
 use Rattle.machine.specs.declared.Inner.{Inner}
 use Rattle.machine.specs.declared.Registers.{Registers}
-use Rattle.machine.proofs.Standings.{step-bad, step-stopped, step-runs, step-keeps-good}
-use Rattle.machine.proofs.Runs.{later, later-none, run-more, run-none}
+use Rattle.machine.proofs.GoodLoans.{parts-good}
+use Rattle.machine.proofs.Standings.{step-runs, step-completes, step-keeps-good, step-never-seven}
+use Rattle.machine.proofs.Runs.{later, later-none, run-more, run-none, run-within}
 
 -- a machine whose stop code is 0 runs
 pub is-running : (g : Registers) (m out : List ℕ) → g .stop ≡ 0 → state g m out ≡ running (g .r) m out (g .taken) (g .written)
@@ -26,22 +28,37 @@ running-good input g m out z good = subst (λ (s : State). goodLoan input s ≡ 
 
 -- ---- a step
 
--- what a host sees of an answer
-seen : (input : List ℕ) (s : State) (a : Answer) → stepOf input s ≡ a → reply (a .after) (a .stop) ≡ replyOf input s
-seen input s a e = sym (ap (λ (x : Answer). reply (x .after) (x .stop)) e)
+-- a step is a run of one step: the same state after it, and the same stop, but for the budget's
+module _ (input : List ℕ) (s : State) where
+  one-step : reply (runOf 1 input s .after) (ofOneStep (runOf 1 input s .stop)) ≡ replyOf input s
+  one-step =
+      ap (λ (e : Ending). reply (e .after) (ofOneStep (e .stop))) (run-more input s 0)
+      ∙ go (stepOf input s .completed) (eqb (stepOf input s .stop) 0) refl refl
+    where
+      same : reply (stepOf input s .after) (ofOneStep (stepOf input s .stop)) ≡ replyOf input s
+      same = rw (ne-eqb (stepOf input s .stop) 7 (step-never-seven input s))
 
-module _ (input : List ℕ) (g : Registers) (m out : List ℕ) where
-  pub reply-bad : goodLoan input (state g m out) ≡ false → reply (state g m out) 10 ≡ replyOf input (state g m out)
-  reply-bad e = seen input (state g m out) _ (step-bad input (state g m out) e)
+      rest : Ending
+      rest = runOf 0 input (stepOf input s .after)
 
-  pub reply-stopped : goodLoan input (state g m out) ≡ true → (g .stop ≡ 0 → ⊥) → reply (state g m out) (g .stop) ≡ replyOf input (state g m out)
-  reply-stopped e h = seen input (state g m out) _ (step-stopped input (state g m out) e h)
+      spends : stepOf input s .completed ≡ true → stepOf input s .stop ≡ 0 → rest ≡ ending (stepOf input s .after) 7 0
+      spends done z =
+          let its = step-completes input s done in
+          run-none input (stepOf input s .after) (parts-good input (stepOf input s .after) (its .good)) (its .code ∙ z)
 
-  pub reply-runs : goodLoan input (state g m out) ≡ true → g .stop ≡ 0 → (a : Answer) → a ≡ runsOn input (running (g .r) m out (g .taken) (g .written)) →
-      reply (a .after) (a .stop) ≡ replyOf input (state g m out)
-  reply-runs e z a h =
-      seen input (state g m out) a
-      (step-runs input (state g m out) e z ∙ ap (runsOn input) (is-running g m out z) ∙ sym h)
+      go : (c z : Bool) → stepOf input s .completed ≡ c → eqb (stepOf input s .stop) 0 ≡ z →
+          reply (cond c (cond z (oneMore rest) (ending (stepOf input s .after) (stepOf input s .stop) 1)) (ending (stepOf input s .after) (stepOf input s .stop) 0) .after)
+          (ofOneStep (cond c (cond z (oneMore rest) (ending (stepOf input s .after) (stepOf input s .stop) 1)) (ending (stepOf input s .after) (stepOf input s .stop) 0) .stop)) ≡
+          replyOf input s
+      go true true p q =
+          ap (λ (e : Ending). reply (e .after) (ofOneStep (e .stop))) (spends p (eqb-true _ _ q))
+          ∙ ap (reply (stepOf input s .after)) (sym (eqb-true _ _ q))
+      go true false p q = same
+      go false z p q = same
+
+  pub reply-by-run : reply (limitedRun 1 input s .after) (ofOneStep (limitedRun 1 input s .stop)) ≡ replyOf input s
+  reply-by-run =
+      ap (λ (e : Ending). reply (e .after) (ofOneStep (e .stop))) (run-within 1 input s (omega arith)) ∙ one-step
 
 -- ---- a turn of a run
 

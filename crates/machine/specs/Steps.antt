@@ -39,9 +39,12 @@ does s e taken written =
     (stopAt (e .next) (length (s .memory))) true
 
 -- HALT: H is set, the stop code is 1, and PC is the next address
+abbrev pub haltedRegisters : State → ℕ → List ℕ
+haltedRegisters s next = set (set (s .registers .r) SR (register s SR % forH + forH)) PC (next % 65536)
+
 unfoldable pub halts : State → ℕ → Answer
 halts s next =
-    answer (state (machine (set (set (s .registers .r) SR (register s SR % forH + forH)) PC (next % 65536)) halted (s .registers .taken) (s .registers .written)) (s .memory) (s .output))
+    answer (state (machine (haltedRegisters s next) halted (s .registers .taken) (s .registers .written)) (s .memory) (s .output))
     halted true
 
 -- a value taken of the input, written to a place

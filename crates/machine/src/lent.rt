@@ -7,6 +7,17 @@ ghost use Rattle.effects.specs.Effects.{performOf};
 ghost use Rattle.machine.specs.Steps.{stopAt, does, halts, takes, goesOn, fills, prints, asks, performed, runsOn};
 ghost use Rattle.machine.specs.Inner.Lent.{running, codeAfter, left};
 use super::Inner;
+use codes::flags::FOR_H;
+use codes::registers::PC;
+use codes::registers::SP;
+use codes::registers::SR;
+use codes::stops::HALTED;
+use codes::stops::MEMORY_END;
+use codes::stops::NO_MODE;
+use codes::stops::NO_OPCODE;
+use codes::stops::NO_REGISTER;
+use codes::stops::NONE;
+use codes::stops::ZERO_DIVISOR;
 use effects::Effect;
 use effects::Flags;
 use effects::Performed;
@@ -36,7 +47,7 @@ fn answered(stop: u8, completed: bool, taken: usize, written: usize) -> Inner
 fn stop_at(next: usize, size: usize) -> u8
     ensures { λ k. ⌜ k ≡ stopAt next size ⌝ }
 {
-    if next < size { 0 } else { 5 }
+    if next < size { NONE } else { MEMORY_END }
 }
 
 // The stop code that a machine that ran is left with.
@@ -46,15 +57,16 @@ pub(crate) fn code_after(completed: bool, stop: u8) -> u8
     if completed {
         return stop;
     }
-    if stop < 2 {
-        return 0;
+    if stop < NO_OPCODE {
+        return NONE;
     }
-    if stop <= 6 { stop } else { 0 }
+    if stop <= ZERO_DIVISOR { stop } else { NONE }
 }
 
 // An effect, with the positions after it.
 fn do_effect(r: &mut [u16; 16], m: &mut [u16], e: Effect, taken: usize, written: usize) -> Inner
-    ensures { λ a. ⌜ ((out : List ℕ) (was is : ℕ) → left (now (r .exit)) (now (m .exit)) out a ≡ does (running (now (r .entry)) (now (m .entry)) out was is) e taken written) ⌝ }
+    ensures { λ a. ⌜ ((out : List ℕ) (was is : ℕ) → left (now (r .exit)) (now (m .exit)) out a
+        ≡ does (running (now (r .entry)) (now (m .entry)) out was is) e taken written) ⌝ }
 {
     change_registers(r, e);
     change_memory(m, e);
@@ -65,9 +77,9 @@ fn do_effect(r: &mut [u16; 16], m: &mut [u16], e: Effect, taken: usize, written:
 fn halt(r: &mut [u16; 16], next: usize, taken: usize, written: usize) -> Inner
     ensures { λ a. ⌜ ((m out : List ℕ) → left (now (r .exit)) m out a ≡ halts (running (now (r .entry)) m out taken written) next) ⌝ }
 {
-    r[11] = r[11] % 32 + 32;
-    r[15] = (next % 65536) as u16;
-    answered(1, true, taken, written)
+    r[SR] = r[SR] % FOR_H + FOR_H;
+    r[PC] = (next % 65536) as u16;
+    answered(HALTED, true, taken, written)
 }
 
 // INCHAR and ININT: the value goes to a place.
@@ -80,11 +92,12 @@ fn take(
     written: usize,
     got: Taken,
 ) -> Inner
-    ensures { λ a. ⌜ ((out : List ℕ) → left (now (r .exit)) (now (m .exit)) out a ≡ takes (running (now (r .entry)) (now (m .entry)) out taken written) next place got) ⌝ }
+    ensures { λ a. ⌜ ((out : List ℕ) → left (now (r .exit)) (now (m .exit)) out a
+        ≡ takes (running (now (r .entry)) (now (m .entry)) out taken written) next place got) ⌝ }
 {
     match got {
         Taken::Value(v, after) => {
-            let e = effects::shapes::written(next, r[14], place, v, Flags::Unchanged);
+            let e = effects::shapes::written(next, r[SP], place, v, Flags::Unchanged);
             do_effect(r, m, e, after, written)
         }
         Taken::NoValue(k) => answered(k, false, taken, written),
@@ -93,9 +106,10 @@ fn take(
 
 // PC goes on, nothing else of the registers changes.
 fn go_on(r: &mut [u16; 16], size: usize, next: usize, taken: usize, written: usize) -> Inner
-    ensures { λ a. ⌜ ((m m' out out' : List ℕ) (was is : ℕ) → length m ≡ size → left (now (r .exit)) m' out' a ≡ goesOn (running (now (r .entry)) m out was is) next taken written m' out') ⌝ }
+    ensures { λ a. ⌜ ((m m' out out' : List ℕ) (was is : ℕ) → length m ≡ size →
+        left (now (r .exit)) m' out' a ≡ goesOn (running (now (r .entry)) m out was is) next taken written m' out') ⌝ }
 {
-    r[15] = (next % 65536) as u16;
+    r[PC] = (next % 65536) as u16;
     answered(stop_at(next, size), true, taken, written)
 }
 
@@ -108,7 +122,8 @@ fn filled(
     written: usize,
     moved: Moved,
 ) -> Inner
-    ensures { λ a. ⌜ ((m m' out : List ℕ) → length m ≡ size → ((k : ℕ) → moved ≡ Moved.Short k → m' ≡ m) → left (now (r .exit)) m' out a ≡ fills (running (now (r .entry)) m out taken written) next moved m') ⌝ }
+    ensures { λ a. ⌜ ((m m' out : List ℕ) → length m ≡ size → ((k : ℕ) → moved ≡ Moved.Short k → m' ≡ m) →
+        left (now (r .exit)) m' out a ≡ fills (running (now (r .entry)) m out taken written) next moved m') ⌝ }
 {
     match moved {
         Moved::To(after) => go_on(r, size, next, after, written),
@@ -125,7 +140,8 @@ fn printed(
     written: usize,
     moved: Moved,
 ) -> Inner
-    ensures { λ a. ⌜ ((m out out' : List ℕ) → length m ≡ size → ((k : ℕ) → moved ≡ Moved.Short k → out' ≡ out) → left (now (r .exit)) m out' a ≡ prints (running (now (r .entry)) m out taken written) next moved out') ⌝ }
+    ensures { λ a. ⌜ ((m out out' : List ℕ) → length m ≡ size → ((k : ℕ) → moved ≡ Moved.Short k → out' ≡ out) →
+        left (now (r .exit)) m out' a ≡ prints (running (now (r .entry)) m out taken written) next moved out') ⌝ }
 {
     match moved {
         Moved::To(after) => go_on(r, size, next, taken, after),
@@ -144,7 +160,8 @@ fn ask(
     next: usize,
     port: Port,
 ) -> Inner
-    ensures { λ a. ⌜ left (now (r .exit)) (now (m .exit)) (now (out .exit)) a ≡ asks (now (input .entry)) (running (now (r .entry)) (now (m .entry)) (now (out .entry)) taken written) next port ⌝ }
+    ensures { λ a. ⌜ left (now (r .exit)) (now (m .exit)) (now (out .exit)) a
+        ≡ asks (now (input .entry)) (running (now (r .entry)) (now (m .entry)) (now (out .entry)) taken written) next port ⌝ }
 {
     match port {
         Port::TakeByte(place) => {
@@ -185,7 +202,9 @@ fn act(
     next: usize,
     i: Instruction,
 ) -> Inner
-    ensures { λ a. ⌜ left (now (r .exit)) (now (m .exit)) (now (out .exit)) a ≡ performed (now (input .entry)) (running (now (r .entry)) (now (m .entry)) (now (out .entry)) taken written) next (performOf (now (r .entry)) (now (m .entry)) next i) ⌝ }
+    ensures { λ a. ⌜ left (now (r .exit)) (now (m .exit)) (now (out .exit)) a
+        ≡ performed (now (input .entry)) (running (now (r .entry)) (now (m .entry)) (now (out .entry)) taken written) next
+        (performOf (now (r .entry)) (now (m .entry)) next i) ⌝ }
 {
     let p = perform(r, m, next, i);
     match p {
@@ -212,14 +231,15 @@ pub(crate) fn inner(
     taken: usize,
     written: usize,
 ) -> Inner
-    ensures { λ a. ⌜ left (now (r .exit)) (now (m .exit)) (now (out .exit)) a ≡ runsOn (now (input .entry)) (running (now (r .entry)) (now (m .entry)) (now (out .entry)) taken written) ⌝ }
+    ensures { λ a. ⌜ left (now (r .exit)) (now (m .exit)) (now (out .exit)) a
+        ≡ runsOn (now (input .entry)) (running (now (r .entry)) (now (m .entry)) (now (out .entry)) taken written) ⌝ }
 {
-    let d = decode(m, address(r[15]));
+    let d = decode(m, address(r[PC]));
     match d {
         Decoded::Read(i, after) => act(r, m, input, out, taken, written, after.0, i),
-        Decoded::NoOpcode => answered(2, false, taken, written),
-        Decoded::NoMode => answered(3, false, taken, written),
-        Decoded::NoRegister => answered(4, false, taken, written),
-        Decoded::PastMemory => answered(5, false, taken, written),
+        Decoded::NoOpcode => answered(NO_OPCODE, false, taken, written),
+        Decoded::NoMode => answered(NO_MODE, false, taken, written),
+        Decoded::NoRegister => answered(NO_REGISTER, false, taken, written),
+        Decoded::PastMemory => answered(MEMORY_END, false, taken, written),
     }
 }

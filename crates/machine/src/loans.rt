@@ -3,6 +3,10 @@ ghost use mathlib.Core.Path.{_≡_};
 ghost use Rattle.machine.specs.States.{state};
 ghost use Rattle.machine.specs.Stops.{goodLoan};
 use super::Registers;
+use codes::limits::LARGEST_SR;
+use codes::limits::LARGEST_STOP_CODE;
+use codes::limits::MOST_CELLS;
+use codes::registers::SR;
 
 pub(crate) fn is_good(g: Registers, m: &[u16], input: &[u8], out: &[u8]) -> bool
     ensures { λ b. ⌜ b ≡ goodLoan (now (input .entry)) (state g (now (m .entry)) (now (out .entry))) ⌝ }
@@ -10,7 +14,7 @@ pub(crate) fn is_good(g: Registers, m: &[u16], input: &[u8], out: &[u8]) -> bool
     if m.len() == 0 {
         return false;
     }
-    if 65536 < m.len() {
+    if MOST_CELLS < m.len() {
         return false;
     }
     if input.len() < g.taken {
@@ -19,8 +23,8 @@ pub(crate) fn is_good(g: Registers, m: &[u16], input: &[u8], out: &[u8]) -> bool
     if out.len() < g.written {
         return false;
     }
-    if 63 < g.r[11] {
+    if LARGEST_SR < g.r[SR] {
         return false;
     }
-    g.stop <= 6
+    g.stop <= LARGEST_STOP_CODE
 }

@@ -9,6 +9,10 @@ use super::Registers;
 use super::lent::code_after;
 use super::lent::inner;
 use super::loans::is_good;
+use codes::limits::LARGEST_BUDGET;
+use codes::stops::BAD_LOAN;
+use codes::stops::BUDGET_SPENT;
+use codes::stops::NONE;
 
 fn ended(registers: Registers, stop: u8, count: u32) -> Ran
     ensures { λ a. ⌜ a ≡ record { registers = registers; stop = stop; count = count } ⌝ }
@@ -23,7 +27,8 @@ fn ended(registers: Registers, stop: u8, count: u32) -> Ran
 // A run of a machine that is not stopped, on a good loan: the registers are copied once.
 fn running_on(g: Registers, m: &mut [u16], input: &[u8], out: &mut [u8], budget: u32) -> Ran
     requires { ⌜ (goodLoan (now input) (state g (now m) (now out)) ≡ true) × (g .stop ≡ 0) ⌝ }
-    ensures { λ a. ⌜ ending (state (a .registers) (now (m .exit)) (now (out .exit))) (a .stop) (a .count) ≡ runOf budget (now (input .entry)) (state g (now (m .entry)) (now (out .entry))) ⌝ }
+    ensures { λ a. ⌜ ending (state (a .registers) (now (m .exit)) (now (out .exit))) (a .stop) (a .count)
+        ≡ runOf budget (now (input .entry)) (state g (now (m .entry)) (now (out .entry))) ⌝ }
 {
     let mut r = g.r;
     let mut taken = g.taken;
@@ -47,7 +52,7 @@ fn running_on(g: Registers, m: &mut [u16], input: &[u8], out: &mut [u8], budget:
             );
         }
         count += 1;
-        if a.stop != 0 {
+        if a.stop != NONE {
             return ended(
                 Registers {
                     r: r,
@@ -63,26 +68,27 @@ fn running_on(g: Registers, m: &mut [u16], input: &[u8], out: &mut [u8], budget:
     ended(
         Registers {
             r: r,
-            stop: 0,
+            stop: NONE,
             taken: taken,
             written: written,
         },
-        7,
+        BUDGET_SPENT,
         count,
     )
 }
 
 // A run with a budget of at most 1,000,000 steps.
 pub fn run(g: Registers, m: &mut [u16], input: &[u8], out: &mut [u8], budget: u32) -> Ran
-    ensures { λ a. ⌜ ending (state (a .registers) (now (m .exit)) (now (out .exit))) (a .stop) (a .count) ≡ limitedRun budget (now (input .entry)) (state g (now (m .entry)) (now (out .entry))) ⌝ }
+    ensures { λ a. ⌜ ending (state (a .registers) (now (m .exit)) (now (out .exit))) (a .stop) (a .count)
+        ≡ limitedRun budget (now (input .entry)) (state g (now (m .entry)) (now (out .entry))) ⌝ }
 {
-    if 1000000 < budget {
-        return ended(g, 10, 0);
+    if LARGEST_BUDGET < budget {
+        return ended(g, BAD_LOAN, 0);
     }
     if !is_good(g, m, input, out) {
-        return ended(g, 10, 0);
+        return ended(g, BAD_LOAN, 0);
     }
-    if g.stop != 0 {
+    if g.stop != NONE {
         return ended(g, g.stop, 0);
     }
     running_on(g, m, input, out, budget)

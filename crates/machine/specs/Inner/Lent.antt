@@ -3,7 +3,8 @@ use Prim.Native.Nat.{ℕ}
 use mathlib.Core.Bool.{Bool, true, false, cond}
 use mathlib.Core.List.{List}
 use Rattle.machine.specs.States.{State, state, machine}
-use Rattle.codes.specs.Stops.{none}
+use lib.Dec.{eqb}
+use Rattle.codes.specs.Stops.{none, budgetSpent}
 use Rattle.machine.specs.Stops.{isStored, Answer, answer}
 use Rattle.machine.specs.declared.Inner.{Inner}
 
@@ -19,3 +20,7 @@ codeAfter false k = cond (isStored k) k none
 -- registers, memory and output as they are left, with the answer
 abbrev pub left : List ℕ → List ℕ → List ℕ → Inner → Answer
 left r m out a = answer (state (machine r (codeAfter (a .completed) (a .stop)) (a .taken) (a .written)) m out) (a .stop) (a .completed)
+
+-- a step's stop, by that of a run of one step: the run ends with its budget spent where the step gives none
+abbrev pub ofOneStep : ℕ → ℕ
+ofOneStep k = cond (eqb k budgetSpent) none k

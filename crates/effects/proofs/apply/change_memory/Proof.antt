@@ -10,6 +10,7 @@ change-memory-spec =
     tie.close
     (tie.spec
     (λ c. c .match .keys1)
+    (λ c. search needs)
     (λ c κs. tt)
     (λ c. c .match .keys2)
     (λ c. c .match .keys3)

@@ -1,4 +1,5 @@
 -- By the operand: each arm is the line of `placeOf` for it.
+use borrow.Author.Needs.{needs}
 use Rattle.effects.specs.Places.{placeOf}
 use Rattle.effects.proofs.places.located.Statement.{statement}
 use Rattle.effects.proofs.places.located.Tie as tie
@@ -11,8 +12,10 @@ located-spec =
     (λ c. c .match .keys1)
     (λ c. c .match .keys2)
     (λ c. c .match .keys3)
+    (λ c. search needs)
     (λ c. c .match .keys4)
     (λ c. c .match .keys5)
+    (λ c. search needs)
     (λ c κs. tt)
     (λ c. c .match .keys6)
     (λ c κs. tt)

@@ -1,4 +1,5 @@
 -- By the place: each arm is the line of `valueAt` for it.
+use borrow.Author.Needs.{needs}
 use Rattle.effects.specs.Places.{valueAt}
 use Rattle.effects.proofs.places.value.Statement.{statement}
 use Rattle.effects.proofs.places.value.Tie as tie
@@ -13,6 +14,7 @@ value-spec =
     (λ c. c .match .keys3)
     (λ c κs. tt)
     (λ c. c .match .keys4)
+    (λ c. search needs)
     (λ c κs. tt)
     (λ c. rw (c .enum-told .given .1))
     (λ c. rw (c .before .p .given .1))

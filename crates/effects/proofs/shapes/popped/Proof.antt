@@ -14,6 +14,7 @@ popped-spec =
     (λ c. search needs)
     (λ c. search needs)
     (λ c. search needs)
+    (λ c. search needs)
     (λ c κs. tt)
     (λ c κs. tt)
     (λ c. rw (lt-ltb _ _ (c .before .before .if1 .taken), ← c .before .cell .ensures) (c .moved .ensures))
