@@ -11,7 +11,9 @@ use Rattle.isa.specs.Opcodes.{table}
 use Rattle.isa.specs.Operands.{isTarget}
 use Rattle.isa.specs.declared.Instruction.{Instruction}
 use Rattle.isa.specs.declared.Opcode.{Opcode}
-use Rattle.isa.specs.declared.Opcode.the-variants.{NOP, HALT, MOVE, PUSH, POP, ADD, SUB, MUL, DIV, MOD, INC, DEC, NEG, CMP, AND, OR, XOR, NOT, BR, BZ, BNZ, BP, BNP, BN, BNN, BV, BNV, BC, BNC, BE, BO, CALL, RET, INCHAR, ININT, INSTR, WRCHAR, WRINT, WRSTR}
+use Rattle.isa.specs.declared.Opcode.the-variants.{NOP, HALT, MOVE, PUSH, POP, ADD, SUB, MUL, DIV, MOD, INC, DEC, NEG, CMP, AND, OR, XOR, NOT}
+use Rattle.isa.specs.declared.Opcode.the-variants.{BR, BZ, BNZ, BP, BNP, BN, BNN, BV, BNV, BC, BNC, BE, BO, CALL, RET}
+use Rattle.isa.specs.declared.Opcode.the-variants.{INCHAR, ININT, INSTR, WRCHAR, WRINT, WRSTR}
 use Rattle.arithmetic.specs.Operations as Op
 use Rattle.arithmetic.specs.declared.Outcome.{Outcome}
 use Rattle.arithmetic.specs.declared.Division.{Division}
