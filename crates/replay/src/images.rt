@@ -53,13 +53,7 @@ fn printed(m: &[u16], map: &[u8], room: &mut [u8], filled: u8) -> Outcome {
 }
 
 // `N A1 V1 .. AN VN MAPFILL K B1 C1 .. BK CK ROOM ROOMFILL` at a place of a line, over a memory and a map that are lent whole.
-fn with_memory(
-    s: &[u8],
-    l: Loan,
-    m: &mut [u16],
-    map: &mut [u8],
-    room: &mut [u8],
-) -> Outcome {
+fn with_memory(s: &[u8], l: Loan, m: &mut [u16], map: &mut [u8], room: &mut [u8]) -> Outcome {
     let cells = lend_cells(m, l.first, l.step, s, l.next);
     let marks = lend_marks(map, s, cells);
     let size = number(s, marks, 2000000);

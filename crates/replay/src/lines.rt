@@ -96,7 +96,11 @@ fn ended(held: usize, room: usize) -> Outcome {
     if held == 0 {
         return Outcome::End;
     }
-    if held < room { Outcome::Unfinished } else { Outcome::TooLong }
+    if held < room {
+        Outcome::Unfinished
+    } else {
+        Outcome::TooLong
+    }
 }
 
 // Reads on behind the start of a line until it ends.

@@ -1,7 +1,8 @@
--- The parts that are lent end within their rooms.
+-- The parts of source and map that are lent end within their rooms.
 use borrow.Author.Needs.{needs}
 use native.Mathlib.Omega.{arith}
 use lib.ListN.{length-take}
+use borrow.Author.Needs.{needs}
 use Rattle.replay.proofs.texts.source_case.Statement.{statement}
 use Rattle.replay.proofs.texts.source_case.Tie as tie
 
@@ -35,12 +36,6 @@ same-length-3 c = search needs
 returns-3 : tie.Need-returns-3
 returns-3 c = search needs
 
-same-length-4 : tie.Need-same-length-4
-same-length-4 c = search needs
-
-returns-4 : tie.Need-returns-4
-returns-4 c = search needs
-
 slice-reshare-prefix-assembled : tie.Need-slice-reshare-prefix-assembled
 slice-reshare-prefix-assembled c = search needs
 
@@ -53,17 +48,14 @@ slice-relend-prefix-assembled c = search needs
 slice-aggregate-assembled-2 : tie.Need-slice-aggregate-assembled-2
 slice-aggregate-assembled-2 c = simp length-take (omega arith)
 
-slice-relend-prefix-assembled-2 : tie.Need-slice-relend-prefix-assembled-2
-slice-relend-prefix-assembled-2 c = search needs
-
-slice-aggregate-assembled-3 : tie.Need-slice-aggregate-assembled-3
-slice-aggregate-assembled-3 c = simp length-take (omega arith)
-
 byte-requires : tie.Need-byte-requires
 byte-requires c κs = search needs
 
 assembled-requires : tie.Need-assembled-requires
 assembled-requires c κs = search needs
+
+same-length-4 : tie.Need-same-length-4
+same-length-4 c = search needs
 
 same-length-5 : tie.Need-same-length-5
 same-length-5 c = search needs
@@ -71,14 +63,8 @@ same-length-5 c = search needs
 same-length-6 : tie.Need-same-length-6
 same-length-6 c = search needs
 
-same-length-7 : tie.Need-same-length-7
-same-length-7 c = search needs
-
-same-length-8 : tie.Need-same-length-8
-same-length-8 c = search needs
-
-returns-5 : tie.Need-returns-5
-returns-5 c = search needs
+returns-4 : tie.Need-returns-4
+returns-4 c = search needs
 
 pub source-case-spec : {M : Type 1} → statement M
 source-case-spec =
@@ -94,18 +80,13 @@ source-case-spec =
     returns-2
     same-length-3
     returns-3
-    same-length-4
-    returns-4
     slice-reshare-prefix-assembled
     slice-aggregate-assembled
     slice-relend-prefix-assembled
     slice-aggregate-assembled-2
-    slice-relend-prefix-assembled-2
-    slice-aggregate-assembled-3
     byte-requires
     assembled-requires
+    same-length-4
     same-length-5
     same-length-6
-    same-length-7
-    same-length-8
-    returns-5)
+    returns-4)
