@@ -51,14 +51,28 @@ fn failed(error: io::Error) -> String {
     format!("second: {}\n", error)
 }
 
+/// A line of an input without its LF, or none at the input's end. A last line that has no LF is
+/// malformed.
+fn next_line(input: &mut impl BufRead, at: u64) -> Result<Option<Vec<u8>>, String> {
+    let mut line = Vec::new();
+    input.read_until(b'\n', &mut line).map_err(failed)?;
+    match line.pop() {
+        None => Ok(None),
+        Some(b'\n') => Ok(Some(line)),
+        Some(_) => Err(format!("second: line {}: it ends without its LF\n", at)),
+    }
+}
+
 /// Hands each case of the standard input over; a malformed line ends everything with its number.
 fn for_each_case(mut each: impl FnMut(&Case, &mut dyn Write) -> io::Result<()>) -> Done {
+    let mut input = io::stdin().lock();
     let mut out = BufWriter::new(io::stdout().lock());
-    for (at, line) in io::stdin().lock().split(b'\n').enumerate() {
-        let line = line.map_err(failed)?;
+    let mut at = 1;
+    while let Some(line) = next_line(&mut input, at)? {
         let case = std::str::from_utf8(&line).map_err(|_| "not ASCII").and_then(case::read);
-        let case = case.map_err(|why| format!("second: line {}: {}\n", at + 1, why))?;
+        let case = case.map_err(|why| format!("second: line {}: {}\n", at, why))?;
         each(&case, &mut out).map_err(failed)?;
+        at += 1;
     }
     out.flush().map_err(failed)?;
     Ok(ExitCode::SUCCESS)

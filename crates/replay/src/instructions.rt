@@ -1,12 +1,11 @@
 // Cases of encoding and decoding.
-use super::fields::NOWHERE;
 use super::fields::is_whole;
 use super::fields::number;
 use super::fields::word;
-use super::replies;
-use super::replies::decimal;
-use super::replies::field;
-use super::replies::put;
+use super::outcomes::Outcome;
+use super::replies::Row;
+use super::replies::put_row;
+use super::replies::wide;
 use isa::Address;
 use isa::Decoded;
 use isa::Encoded;
@@ -17,6 +16,12 @@ use isa::decoding::decode;
 use isa::encoding::encode;
 use isa::opcodes::opcode;
 use isa::opcodes::row;
+
+// The format's kind of an operand, and its word.
+struct Spelt {
+    kind: usize,
+    word: usize,
+}
 
 // The operand of the format's kind and word.
 fn operand(kind: usize, w: u16) -> Operand {
@@ -33,96 +38,102 @@ fn operand(kind: usize, w: u16) -> Operand {
     }
 }
 
-// A kind and a word.
-fn kind_and_word(out: &mut [u8], at: usize, kind: usize, w: u16) -> usize {
-    let next = field(out, at, kind);
-    replies::word(out, next, w)
+fn spelling(kind: usize, w: u16) -> Spelt {
+    Spelt {
+        kind: kind,
+        word: wide(w),
+    }
 }
 
-// That encoding went well, how many words there are, and the first of them.
-fn first_of(out: &mut [u8], at: usize, count: usize, w: u16) -> usize {
-    let next = decimal(out, at, 0);
-    kind_and_word(out, next, count, w)
-}
-
-fn put_operand(out: &mut [u8], at: usize, o: Operand) -> usize {
+fn spelling_of(o: Operand) -> Spelt {
     match o {
-        Operand::Absent => kind_and_word(out, at, 0, 0),
-        Operand::Immediate(w) => kind_and_word(out, at, 1, w),
-        Operand::Register(w) => kind_and_word(out, at, 2, w),
-        Operand::Memory(w) => kind_and_word(out, at, 3, w),
-        Operand::Indirect(w) => kind_and_word(out, at, 4, w),
-        Operand::IndexedX(w) => kind_and_word(out, at, 5, w),
-        Operand::IndexedY(w) => kind_and_word(out, at, 6, w),
-        Operand::Relative(w) => kind_and_word(out, at, 7, w),
-        Operand::IndexedSp(w) => kind_and_word(out, at, 8, w),
+        Operand::Absent => spelling(0, 0),
+        Operand::Immediate(w) => spelling(1, w),
+        Operand::Register(w) => spelling(2, w),
+        Operand::Memory(w) => spelling(3, w),
+        Operand::Indirect(w) => spelling(4, w),
+        Operand::IndexedX(w) => spelling(5, w),
+        Operand::IndexedY(w) => spelling(6, w),
+        Operand::Relative(w) => spelling(7, w),
+        Operand::IndexedSp(w) => spelling(8, w),
     }
 }
 
-fn encoded(out: &mut [u8], at: usize, e: Encoded) -> usize {
+// A reply of one number.
+fn one(n: usize) -> Row {
+    Row {
+        count: 1,
+        numbers: [n, 0, 0, 0, 0, 0, 0],
+    }
+}
+
+// That encoding went well, how many words there are, and they.
+fn listed(count: usize, a: u16, b: u16, c: u16) -> Row {
+    Row {
+        count: 2 + count % 4,
+        numbers: [0, count, wide(a), wide(b), wide(c), 0, 0],
+    }
+}
+
+fn encoded(e: Encoded) -> Row {
     match e {
-        Encoded::One(a) => first_of(out, at, 1, a),
-        Encoded::Two(a, b) => {
-            let next = first_of(out, at, 2, a);
-            replies::word(out, next, b)
-        }
-        Encoded::Three(a, b, c) => {
-            let next = first_of(out, at, 3, a);
-            let last = replies::word(out, next, b);
-            replies::word(out, last, c)
-        }
-        Encoded::Refused => decimal(out, at, 5),
+        Encoded::One(a) => listed(1, a, 0, 0),
+        Encoded::Two(a, b) => listed(2, a, b, 0),
+        Encoded::Three(a, b, c) => listed(3, a, b, c),
+        Encoded::Refused => one(5),
     }
 }
 
-// `OP K1 V1 K2 V2` at a place of a line.
-pub(crate) fn encode_case(s: &[u8], from: usize, out: &mut [u8], at: usize) -> usize {
-    let op = number(s, from, 255);
+// `OP K1 V1 K2 V2`.
+pub(crate) fn encode_case(s: &[u8]) -> Outcome {
+    let op = number(s, 2, 255);
     let kind = number(s, op.next, 8);
     let first = number(s, kind.next, 65535);
     let kind2 = number(s, first.next, 8);
     let second = number(s, kind2.next, 65535);
     if !is_whole(s, second.next) {
-        return NOWHERE;
+        return Outcome::Malformed;
     }
     let a = operand(kind.value, word(first.value));
     let b = operand(kind2.value, word(second.value));
     match opcode(word(op.value)) {
-        FoundOpcode::Known(op) => {
-            let e = encode(Instruction {
-                op: op,
-                first: a,
-                second: b,
-            });
-            let next = encoded(out, at, e);
-            put(out, next, b'\n')
-        }
-        FoundOpcode::Unknown => {
-            let next = decimal(out, at, 5);
-            put(out, next, b'\n')
-        }
+        FoundOpcode::Known(op) => put_row(encoded(encode(Instruction {
+            op: op,
+            first: a,
+            second: b,
+        }))),
+        FoundOpcode::Unknown => put_row(one(5)),
     }
 }
 
-fn instruction(out: &mut [u8], at: usize, i: Instruction, length: usize) -> usize {
+fn instruction(i: Instruction, length: usize) -> Row {
     let op = i.op;
     let a = i.first;
     let b = i.second;
     let its = row(op);
-    let zero = decimal(out, at, 0);
-    let number = replies::word(out, zero, its.number);
-    let first = put_operand(out, number, a);
-    let second = put_operand(out, first, b);
-    field(out, second, length)
+    let first = spelling_of(a);
+    let second = spelling_of(b);
+    Row {
+        count: 7,
+        numbers: [
+            0,
+            wide(its.number),
+            first.kind,
+            first.word,
+            second.kind,
+            second.word,
+            length,
+        ],
+    }
 }
 
-fn decoded(out: &mut [u8], at: usize, d: Decoded) -> usize {
+fn decoded(d: Decoded) -> Row {
     match d {
-        Decoded::Read(i, after) => instruction(out, at, i, after.0),
-        Decoded::NoOpcode => decimal(out, at, 2),
-        Decoded::NoMode => decimal(out, at, 3),
-        Decoded::NoRegister => decimal(out, at, 4),
-        Decoded::PastMemory => decimal(out, at, 5),
+        Decoded::Read(i, after) => instruction(i, after.0),
+        Decoded::NoOpcode => one(2),
+        Decoded::NoMode => one(3),
+        Decoded::NoRegister => one(4),
+        Decoded::PastMemory => one(5),
     }
 }
 
@@ -137,28 +148,20 @@ fn take_words(m: &mut [u16], s: &[u8], from: usize) -> usize {
     next
 }
 
-fn decode_words(m: &mut [u16], s: &[u8], from: usize, out: &mut [u8], at: usize) -> usize {
+fn decode_words(m: &mut [u16], s: &[u8], from: usize) -> Outcome {
     let next = take_words(m, s, from);
     if !is_whole(s, next) {
-        return NOWHERE;
+        return Outcome::Malformed;
     }
-    let d = decode(m, Address(0));
-    let end = decoded(out, at, d);
-    put(out, end, b'\n')
+    put_row(decoded(decode(m, Address(0))))
 }
 
-// `N W1 .. WN` at a place of a line.
-pub(crate) fn decode_case(
-    m: &mut [u16],
-    s: &[u8],
-    from: usize,
-    out: &mut [u8],
-    at: usize,
-) -> usize {
-    let count = number(s, from, 5);
+// `N W1 .. WN`.
+pub(crate) fn decode_case(s: &[u8], m: &mut [u16]) -> Outcome {
+    let count = number(s, 2, 5);
     let n = count.value;
     if m.len() < n {
-        return NOWHERE;
+        return Outcome::Malformed;
     }
-    decode_words(&mut m[..n], s, count.next, out, at)
+    decode_words(&mut m[..n], s, count.next)
 }

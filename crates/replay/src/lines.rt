@@ -1,25 +1,37 @@
 // The lines of standard input, read by parts into a room that holds the longest line.
-ghost use Prim.Native.Nat.{_≤_};
+ghost use Prim.Native.Nat.{_≤_, _<_};
 ghost use lib.ListN.{length};
-use super::cases::answer;
-use super::fields::NOWHERE;
-use super::replies::flush;
+use super::outcomes::Outcome;
 
-// How far the lines of a text were answered, and the place after the replies.
-struct Answered {
-    used: usize,
-    at: usize,
+// A line's place in the room, the place after its LF, and how much of the room is held; or why there is none.
+pub(crate) struct Found {
+    pub outcome: Outcome,
+    pub start: usize,
+    pub lf: usize,
+    pub after: usize,
+    pub held: usize,
 }
 
-// How much of a line is held, the place after the replies, and whether the input is at its end.
-struct Held {
+// What was read: how much is held then, or that it cannot be read.
+struct Taken {
     held: usize,
-    at: usize,
-    is_last: bool,
+    failed: bool,
 }
 
-// The place of the first line end from a place on; the text's length if there is none.
-fn line_end(text: &[u8], from: usize) -> usize
+fn no_line(why: Outcome) -> Found
+    ensures { λ r. ⌜ (r .start ≤ r .lf) × (r .lf ≤ 0) × (r .after ≤ 0) × (r .held ≤ 0) ⌝ }
+{
+    Found {
+        outcome: why,
+        start: 0,
+        lf: 0,
+        after: 0,
+        held: 0,
+    }
+}
+
+// The place of the first LF from a place on; the text's length, or that place, if there is none.
+fn lf_from(text: &[u8], from: usize) -> usize
     ensures { λ r. ⌜ from ≤ r ⌝ }
 {
     let mut i = from;
@@ -32,49 +44,18 @@ fn line_end(text: &[u8], from: usize) -> usize
     i
 }
 
-// Answers the whole lines of a text. A malformed one leaves the place NOWHERE.
-fn answer_lines(
-    text: &[u8],
-    m: &mut [u16],
-    before: &mut [u16],
-    input: &mut [u8],
-    room: &mut [u8],
-    out: &mut [u8],
-    at: usize,
-) -> Answered {
-    let mut from = 0;
-    let mut next = at;
-    while from < text.len() {
-        let end = line_end(text, from);
-        if text.len() <= end {
-            break;
-        }
-        let done = answer(&text[from..end], m, before, input, room, out, next);
-        if done == NOWHERE {
-            return Answered {
-                used: NOWHERE,
-                at: next,
-            };
-        }
-        next = done;
-        from = end + 1;
-    }
-    Answered {
-        used: from,
-        at: next,
-    }
-}
-
 // Moves what is left of a text to its start; how much that is.
-fn keep_rest(text: &mut [u8], used: usize, held: usize) -> usize {
+fn keep_rest(text: &mut [u8], from: usize, held: usize) -> usize
+    ensures { λ r. ⌜ r ≤ length (now (text .exit)) ⌝ }
+{
     let mut n: usize = 0;
-    let mut i = used;
+    let mut i = from;
     while i < held {
         if text.len() <= i {
-            break;
+            return n;
         }
         if text.len() <= n {
-            break;
+            return n;
         }
         text[n] = text[i];
         n += 1;
@@ -83,94 +64,88 @@ fn keep_rest(text: &mut [u8], used: usize, held: usize) -> usize {
     n
 }
 
-// Reads on behind what is held; how much is held then.
-fn read_more(text: &mut [u8], held: usize) -> usize
-    ensures { λ r. ⌜ r ≤ length (now (text .exit)) ⌝ }
-{
-    if text.len() <= held {
-        return text.len();
-    }
-    held + read_some(&mut text[held..])
-}
-
-fn read_some(part: &mut [u8]) -> usize
-    ensures { λ r. ⌜ r ≤ length (now (part .exit)) ⌝ }
+fn read_some(part: &mut [u8]) -> Taken
+    ensures { λ r. ⌜ r .held ≤ length (now (part .exit)) ⌝ }
 {
     let got = libc::read(0, part);
-    io::count(got, part)
-}
-
-fn complain() {
-    io::write_all(
-        2,
-        b"replay: a line that is malformed, unfinished or too long\n",
-    );
-}
-
-// At the end of the input, or of the room, no line may be begun.
-fn check_end(held: usize) {
-    if 0 < held {
-        complain();
+    Taken {
+        held: io::count(got, part),
+        failed: got < 0,
     }
 }
 
-// Reads on and answers the lines that are whole then.
-fn turn(
-    text: &mut [u8],
-    m: &mut [u16],
-    before: &mut [u16],
-    input: &mut [u8],
-    room: &mut [u8],
-    out: &mut [u8],
-    held: usize,
-    at: usize,
-) -> Held {
-    let more = read_more(text, held);
-    if more <= held {
-        check_end(held);
-        return Held {
-            held: held,
-            at: at,
-            is_last: true,
+// Reads on behind what is held.
+fn read_more(text: &mut [u8], held: usize) -> Taken
+    ensures { λ r. ⌜ r .held ≤ length (now (text .exit)) ⌝ }
+{
+    if text.len() <= held {
+        return Taken {
+            held: text.len(),
+            failed: false,
         };
     }
-    let done = answer_lines(&text[..more], m, before, input, room, out, at);
-    if done.used == NOWHERE {
-        complain();
-        return Held {
-            held: 0,
-            at: done.at,
-            is_last: true,
-        };
-    }
-    Held {
-        held: keep_rest(text, done.used, more),
-        at: done.at,
-        is_last: false,
+    let got = read_some(&mut text[held..]);
+    Taken {
+        held: held + got.held,
+        failed: got.failed,
     }
 }
 
-// Answers all of standard input. A proved loop has to end, so it counts its turns down from a number that no run uses up.
-pub(crate) fn answer_all(
-    text: &mut [u8],
-    m: &mut [u16],
-    before: &mut [u16],
-    input: &mut [u8],
-    room: &mut [u8],
-    out: &mut [u8],
-) {
-    let mut held = 0;
-    let mut at = 0;
-    let mut turns = u64::MAX;
-    while 0 < turns {
-        let next = turn(text, m, before, input, room, out, held, at);
-        if next.is_last {
-            flush(out, next.at);
-            return;
+// Why no line follows so much of one, where nothing more was read.
+fn ended(held: usize, room: usize) -> Outcome {
+    if held == 0 {
+        return Outcome::End;
+    }
+    if held < room {
+        Outcome::Unfinished
+    } else {
+        Outcome::TooLong
+    }
+}
+
+// Reads on behind the start of a line until it ends.
+fn read_line(text: &mut [u8], rest: usize) -> Found
+    ensures { λ r. ⌜ (r .start ≤ r .lf) × (r .lf ≤ length (now (text .exit))) × (r .held ≤ length (now (text .exit))) ⌝ }
+{
+    let mut held = rest;
+    loop {
+        let more = read_more(text, held);
+        if more.failed {
+            return no_line(Outcome::Unreadable);
         }
-        held = next.held;
-        at = next.at;
-        turns -= 1;
+        if more.held <= held {
+            return no_line(ended(held, text.len()));
+        }
+        let end = more.held;
+        let lf = lf_from(&text[..end], held);
+        if lf < end {
+            return Found {
+                outcome: Outcome::On,
+                start: 0,
+                lf: lf,
+                after: lf + 1,
+                held: end,
+            };
+        }
+        held = end;
     }
-    flush(out, at);
+}
+
+// The next line, from a place of what is held on.
+pub(crate) fn next_line(text: &mut [u8], from: usize, held: usize) -> Found
+    requires { ⌜ held ≤ length (now text) ⌝ }
+    ensures { λ r. ⌜ (r .start ≤ r .lf) × (r .lf ≤ length (now (text .exit))) × (r .held ≤ length (now (text .exit))) ⌝ }
+{
+    let lf = lf_from(&text[..held], from);
+    if lf < held {
+        return Found {
+            outcome: Outcome::On,
+            start: from,
+            lf: lf,
+            after: lf + 1,
+            held: held,
+        };
+    }
+    let rest = keep_rest(text, from, held);
+    read_line(text, rest)
 }

@@ -1,19 +1,19 @@
 // Cases of a step and of a run.
+use super::fields::Field;
 use super::fields::NOWHERE;
 use super::fields::byte;
 use super::fields::bytes;
 use super::fields::is_whole;
 use super::fields::number;
 use super::fields::word;
-use super::memory::changed;
+use super::memory::CELLS;
 use super::memory::fill_room;
-use super::memory::lend;
-use super::memory::runs;
-use super::replies::cells;
-use super::replies::decimal;
+use super::memory::keep;
+use super::memory::lend_cells;
+use super::outcomes::Outcome;
+use super::replies::cells_changed;
 use super::replies::field;
-use super::replies::put;
-use super::replies::room_runs;
+use super::replies::room_changed;
 use super::replies::words;
 use machine::Registers;
 use machine::run::run;
@@ -40,6 +40,14 @@ struct Loan {
     next: usize,
 }
 
+// What was done: the stop, the steps of a run, and the record that is left.
+struct Done {
+    stop: u8,
+    is_run: bool,
+    count: u32,
+    registers: Registers,
+}
+
 fn sixteen(s: &[u8], from: usize) -> RegisterRow {
     let mut r = [0u16; 16];
     let mut next = from;
@@ -49,6 +57,32 @@ fn sixteen(s: &[u8], from: usize) -> RegisterRow {
         next = w.next;
     }
     RegisterRow { r: r, next: next }
+}
+
+// `M FILL STEP N A1 V1 .. AN VN` at a place of a line: how many cells there are, and the place after that.
+fn memory(s: &[u8], from: usize, m: &mut [u16]) -> Field {
+    let size = number(s, from, CELLS);
+    let first = number(s, size.next, 65535);
+    let step = number(s, first.next, 65535);
+    let n = size.value;
+    if m.len() < n {
+        return Field {
+            value: 0,
+            next: NOWHERE,
+        };
+    }
+    let next = lend_cells(
+        &mut m[..n],
+        word(first.value),
+        word(step.value),
+        s,
+        step.next,
+    );
+    keep(m, n);
+    Field {
+        value: n,
+        next: next,
+    }
 }
 
 // `R0 .. R15 STOP INPUT INPOS OUTLEN OUTFILL OUTPOS` at a place of a line.
@@ -75,6 +109,40 @@ fn lent(s: &[u8], from: usize, input: &mut [u8]) -> Loan {
     }
 }
 
+fn operate(asked: Asked, g: Registers, m: &mut [u16], input: &[u8], room: &mut [u8]) -> Done {
+    match asked {
+        Asked::Step => {
+            let a = step(g, m, input, room);
+            let left = a.registers;
+            Done {
+                stop: a.stop,
+                is_run: false,
+                count: 0,
+                registers: left,
+            }
+        }
+        Asked::Run(budget) => {
+            let a = run(g, m, input, room, budget);
+            let left = a.registers;
+            Done {
+                stop: a.stop,
+                is_run: true,
+                count: a.count,
+                registers: left,
+            }
+        }
+    }
+}
+
+// The stop, and the steps of a run.
+fn head(out: &mut [u8], d: Done) -> usize {
+    let stop = field(out, 0, d.stop as usize);
+    if d.is_run {
+        return field(out, stop, d.count as usize);
+    }
+    stop
+}
+
 // The record that is left.
 fn record(out: &mut [u8], at: usize, g: Registers) -> usize {
     let r = g.r;
@@ -84,135 +152,61 @@ fn record(out: &mut [u8], at: usize, g: Registers) -> usize {
     field(out, taken, g.written)
 }
 
-// The cells and output bytes that changed, and the line's end.
-fn changes(out: &mut [u8], at: usize, before: &[u16], m: &[u16], room: &[u8], fill: u8) -> usize {
-    let count = field(out, at, changed(before, m));
-    let listed = cells(out, count, before, m);
-    let parts = field(out, listed, runs(room, fill));
-    let shown = room_runs(out, parts, room, fill);
-    put(out, shown, b'\n')
+fn reply(d: Done, m: &[u16], n: usize, room: &[u8], fill: u8) -> Outcome {
+    let mut out = io::buffer();
+    let stop = head(&mut out, d);
+    let left = record(&mut out, stop, d.registers);
+    let changed = cells_changed(&mut out, left, m, n);
+    room_changed(&mut out, changed, room, fill)
 }
 
-fn step_reply(
-    g: Registers,
-    m: &mut [u16],
-    before: &[u16],
-    input: &[u8],
-    room: &mut [u8],
-    fill: u8,
-    out: &mut [u8],
-    at: usize,
-) -> usize {
-    let a = step(g, m, input, room);
-    let stop = decimal(out, at, a.stop as usize);
-    let left = record(out, stop, a.registers);
-    changes(out, left, before, m, room, fill)
-}
-
-fn run_reply(
-    budget: u32,
-    g: Registers,
-    m: &mut [u16],
-    before: &[u16],
-    input: &[u8],
-    room: &mut [u8],
-    fill: u8,
-    out: &mut [u8],
-    at: usize,
-) -> usize {
-    let a = run(g, m, input, room, budget);
-    let stop = decimal(out, at, a.stop as usize);
-    let count = field(out, stop, a.count as usize);
-    let left = record(out, count, a.registers);
-    changes(out, left, before, m, room, fill)
-}
-
-// Steps or runs, and replies.
-fn operate(
+// A machine over the first n cells of a memory.
+fn operated(
     asked: Asked,
     g: Registers,
     m: &mut [u16],
-    before: &[u16],
+    n: usize,
     input: &[u8],
     room: &mut [u8],
     fill: u8,
-    out: &mut [u8],
-    at: usize,
-) -> usize {
+) -> Outcome {
+    if m.len() < n {
+        return Outcome::Malformed;
+    }
     fill_room(room, fill);
-    match asked {
-        Asked::Step => step_reply(g, m, before, input, room, fill, out, at),
-        Asked::Run(budget) => run_reply(budget, g, m, before, input, room, fill, out, at),
-    }
+    let done = operate(asked, g, &mut m[..n], input, room);
+    reply(done, m, n, room, fill)
 }
 
-// A machine of a memory that is lent whole: `FILL STEP N A1 V1 .. AN VN` and the rest at a place of a line.
-fn with_memory(
-    asked: Asked,
-    s: &[u8],
-    from: usize,
-    m: &mut [u16],
-    before: &mut [u16],
-    input: &mut [u8],
-    room: &mut [u8],
-    out: &mut [u8],
-    at: usize,
-) -> usize {
-    let next = lend(m, before, s, from);
-    let l = lent(s, next, input);
-    if !is_whole(s, l.next) {
-        return NOWHERE;
-    }
-    let n = l.input;
-    let k = l.room;
-    if input.len() < n {
-        return NOWHERE;
-    }
-    if room.len() < k {
-        return NOWHERE;
-    }
-    operate(
-        asked,
-        l.registers,
-        m,
-        before,
-        &input[..n],
-        &mut room[..k],
-        l.fill,
-        out,
-        at,
-    )
-}
-
-// `M` and the rest of a machine at a place of a line.
+// A machine at a place of a line.
 pub(crate) fn machine_case(
     asked: Asked,
     s: &[u8],
     from: usize,
     m: &mut [u16],
-    before: &mut [u16],
-    input: &mut [u8],
+    given: &mut [u8],
     room: &mut [u8],
-    out: &mut [u8],
-    at: usize,
-) -> usize {
-    let size = number(s, from, 65600);
-    let n = size.value;
-    if m.len() < n {
-        return NOWHERE;
+) -> Outcome {
+    let cells = memory(s, from, m);
+    let l = lent(s, cells.next, given);
+    if !is_whole(s, l.next) {
+        return Outcome::Malformed;
     }
-    if before.len() < n {
-        return NOWHERE;
+    let k = l.input;
+    let e = l.room;
+    if given.len() < k {
+        return Outcome::Malformed;
     }
-    with_memory(
+    if room.len() < e {
+        return Outcome::Malformed;
+    }
+    operated(
         asked,
-        s,
-        size.next,
-        &mut m[..n],
-        &mut before[..n],
-        input,
-        room,
-        out,
-        at,
+        l.registers,
+        m,
+        cells.value,
+        &given[..k],
+        &mut room[..e],
+        l.fill,
     )
 }

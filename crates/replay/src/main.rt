@@ -1,28 +1,22 @@
-// Answers cases of encoding, decoding, steps and runs with the proved crates, in the second program's format
-// (docs/COMPARED.md, "Cases" and "Replies"): cases from standard input, replies to standard output. A line is at most
-// 1,048,576 bytes; a malformed one ends the program.
-mod cases; // a case line to its reply
+// Answers cases with the proved crates, in the second program's format (docs/COMPARED.md, "Cases" and "Replies", every kind but L): cases
+// from standard input, replies to standard output. A line has at most 1,048,576 bytes with its LF. What keeps a case from being answered is
+// told on standard error and ends the program. A program of this kit has no exit status of its own: `second/cases/answer` gives one.
+mod cases; // the cases of the input, each to its reply
 mod fields; // numbers and bytes of a line
+mod images; // printing
 mod instructions; // encoding and decoding
 mod lines; // the lines of standard input
 mod machines; // steps and runs
-mod memory; // a lent memory, and what changed in it
+mod memory; // what is lent, and what changed in it
+mod outcomes; // how far it went
 mod replies; // the text of a reply
-mod rooms; // what is lent
+mod rooms; // rooms as large as the largest case
+mod texts; // assembling
 
 fn main() {
     let mut text = rooms::text();
     let mut m = rooms::cells();
-    let mut before = rooms::cells();
-    let mut input = rooms::input();
-    let mut room = rooms::output();
-    let mut out = rooms::replies();
-    lines::answer_all(
-        &mut text,
-        &mut m,
-        &mut before,
-        &mut input,
-        &mut room,
-        &mut out,
-    );
+    let mut given = rooms::given();
+    let mut room = rooms::room();
+    cases::answer_all(&mut text, &mut m, &mut given, &mut room);
 }

@@ -9,30 +9,23 @@ pub(crate) fn text() -> [u8; 1048576]
     [0; 1048576]
 }
 
-// A memory, larger than any that the machine takes.
-pub(crate) fn cells() -> [u16; 65600]
-    ensures { λ r. ⌜ 65600 ≡ length r ⌝ }
+// A memory, larger than any that machine or assembler takes, and its copy.
+pub(crate) fn cells() -> [u16; 131200]
+    ensures { λ r. ⌜ 131200 ≡ length r ⌝ }
 {
-    [0; 65600]
+    [0; 131200]
 }
 
-// A machine's input: all that a line can spell.
-pub(crate) fn input() -> [u8; 524288]
+// A source, or a machine's input: all that a line can spell; or the map of an image.
+pub(crate) fn given() -> [u8; 524288]
     ensures { λ r. ⌜ 524288 ≡ length r ⌝ }
 {
     [0; 524288]
 }
 
-// A machine's output room.
-pub(crate) fn output() -> [u8; 2000000]
+// What is written into: a machine's output, an image's text, a source's map.
+pub(crate) fn room() -> [u8; 2000000]
     ensures { λ r. ⌜ 2000000 ≡ length r ⌝ }
 {
     [0; 2000000]
-}
-
-// Replies that are not yet written.
-pub(crate) fn replies() -> [u8; 65536]
-    ensures { λ r. ⌜ 65536 ≡ length r ⌝ }
-{
-    io::large_buffer()
 }

@@ -134,11 +134,12 @@ fn reply(out: &mut [u8], line: &[u8], l: LabelIn, s: StatementRead) -> usize {
     }
 }
 
-pub(crate) fn answer(line: &[u8]) {
+// Answers a line; whether its reply could be written.
+pub(crate) fn answer(line: &[u8]) -> bool {
     let mut out = room();
     let read = read_line(line);
     let l = read.label;
     let s = read.statement;
     let at = reply(&mut out, line, l, s);
-    write(&mut out, at);
+    write(&mut out, at)
 }

@@ -5,6 +5,15 @@ ghost use lib.ListN.{length};
 use super::answers::answer;
 use super::texts::room;
 
+// Why no more is answered.
+enum Why {
+    Malformed,
+    TooLong,
+    Unfinished,
+    Unreadable,
+    Unwritten,
+}
+
 // What is next.
 enum Next {
     Letter,
@@ -13,7 +22,7 @@ enum Next {
     High,
     Low(u8),
     LineEnd,
-    Nothing,
+    Nothing(Why),
 }
 
 // How much of a line was spelt, and what is next.
@@ -22,11 +31,21 @@ struct Spelt {
     next: Next,
 }
 
+// How much was read, or that nothing can be.
+struct Taken {
+    bytes: usize,
+    failed: bool,
+}
+
 fn after(held: usize, next: Next) -> Spelt {
     Spelt {
         held: held,
         next: next,
     }
+}
+
+fn stopped(held: usize, why: Why) -> Spelt {
+    after(held, Next::Nothing(why))
 }
 
 // A lower-case hex digit's value; 16 for any other byte.
@@ -51,17 +70,17 @@ fn high(held: usize, b: u8) -> Spelt {
     if d < 16 {
         return after(held, Next::Low(d));
     }
-    after(held, Next::Nothing)
+    stopped(held, Why::Malformed)
 }
 
 // The second digit of a byte, which is thereby spelt.
 fn low(line: &mut [u8], held: usize, first: u8, b: u8) -> Spelt {
     let d = digit(b);
     if d == 16 {
-        return after(held, Next::Nothing);
+        return stopped(held, Why::Malformed);
     }
     if line.len() <= held {
-        return after(held, Next::Nothing);
+        return stopped(held, Why::TooLong);
     }
     line[held] = first % 16 * 16 + d;
     after(held + 1, Next::High)
@@ -70,10 +89,12 @@ fn low(line: &mut [u8], held: usize, first: u8, b: u8) -> Spelt {
 // The end of a case: its line is answered.
 fn ended(line: &[u8], held: usize) -> Spelt {
     if line.len() < held {
-        return after(held, Next::Nothing);
+        return stopped(held, Why::TooLong);
     }
-    answer(&line[..held]);
-    after(0, Next::Letter)
+    if answer(&line[..held]) {
+        return after(0, Next::Letter);
+    }
+    stopped(0, Why::Unwritten)
 }
 
 // A byte that must be another.
@@ -81,7 +102,7 @@ fn expected(held: usize, b: u8, other: u8, next: Next) -> Spelt {
     if b == other {
         return after(held, next);
     }
-    after(held, Next::Nothing)
+    stopped(held, Why::Malformed)
 }
 
 // One byte more.
@@ -106,9 +127,9 @@ fn more(line: &mut [u8], held: usize, next: Next, b: u8) -> Spelt {
             if b == b'\n' {
                 return ended(line, held);
             }
-            after(held, Next::Nothing)
+            stopped(held, Why::Malformed)
         }
-        Next::Nothing => after(held, Next::Nothing),
+        Next::Nothing(why) => stopped(held, why),
     }
 }
 
@@ -130,11 +151,63 @@ fn longest() -> [u8; 33000]
     [0; 33000]
 }
 
-fn read_some(part: &mut [u8]) -> usize
-    ensures { λ r. ⌜ r ≤ length (now (part .exit)) ⌝ }
+fn read_some(part: &mut [u8]) -> Taken
+    ensures { λ r. ⌜ r .bytes ≤ length (now (part .exit)) ⌝ }
 {
     let got = libc::read(0, part);
-    io::count(got, part)
+    Taken {
+        bytes: io::count(got, part),
+        failed: got < 0,
+    }
+}
+
+fn say(why: &[u8]) {
+    io::write_all(2, b"replay_lines: ");
+    io::write_all(2, why);
+}
+
+// A sentence on standard error.
+fn tell(why: Why) {
+    match why {
+        Why::Malformed => say(b"a case is malformed\n"),
+        Why::TooLong => say(b"a line is too long\n"),
+        Why::Unfinished => say(b"the last case ends without its LF\n"),
+        Why::Unreadable => say(b"the cases cannot be read\n"),
+        Why::Unwritten => say(b"a reply cannot be written\n"),
+    }
+}
+
+fn is_over(next: Next) -> bool {
+    match next {
+        Next::Letter => false,
+        Next::Blank => false,
+        Next::First => false,
+        Next::High => false,
+        Next::Low(_) => false,
+        Next::LineEnd => false,
+        Next::Nothing(_) => true,
+    }
+}
+
+// The end of what is read, at what was next: nothing is told between two cases.
+fn end(next: Next) {
+    match next {
+        Next::Letter => {}
+        Next::Blank => tell(Why::Unfinished),
+        Next::First => tell(Why::Unfinished),
+        Next::High => tell(Why::Unfinished),
+        Next::Low(_) => tell(Why::Unfinished),
+        Next::LineEnd => tell(Why::Unfinished),
+        Next::Nothing(why) => tell(why),
+    }
+}
+
+// What is next where nothing more was read.
+fn at_end(failed: bool, next: Next) -> Next {
+    if failed {
+        return Next::Nothing(Why::Unreadable);
+    }
+    next
 }
 
 // Answers all of standard input. A proved loop has to end, so it counts its turns down from a number that no run uses up.
@@ -144,13 +217,20 @@ pub(crate) fn answer_all() {
     let mut now = after(0, Next::Letter);
     let mut turns = u64::MAX;
     while 0 < turns {
-        let n = read_some(&mut bytes);
-        if n == 0 {
-            break;
-        }
         let so_far = now.held;
         let then = now.next;
+        let got = read_some(&mut bytes);
+        let n = got.bytes;
+        if n == 0 {
+            end(at_end(got.failed, then));
+            return;
+        }
         now = part(&mut line, &bytes[..n], so_far, then);
+        let reached = now.next;
+        if is_over(reached) {
+            end(reached);
+            return;
+        }
         turns -= 1;
     }
 }

@@ -43,10 +43,11 @@ pub(crate) fn letter(out: &mut [u8], at: usize, b: u8) -> usize {
     put(out, next, b)
 }
 
-// Writes a reply and its line end.
-pub(crate) fn write(out: &mut [u8], at: usize) {
+// Writes a reply and its line end; whether it could.
+pub(crate) fn write(out: &mut [u8], at: usize) -> bool {
     let end = put(out, at, b'\n');
-    if end <= out.len() {
-        io::write_all(1, &out[..end]);
+    if out.len() < end {
+        return false;
     }
+    io::write_all(1, &out[..end])
 }

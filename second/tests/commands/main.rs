@@ -69,7 +69,16 @@ fn what_is_not_understood_ends_with_code_2() {
     ] {
         assert_eq!(second(arguments, "").status.code(), Some(2));
     }
-    assert_eq!(second(&["answer"], "E 39 0 0 0 0\nX\n").status.code(), Some(2));
+    // Malformed lines, the second of two among them; the last one ends without its LF.
+    for cases in
+        ["X\n", "\n", "E 39 0 0 0\n", "E 39 0 0 0 0\nX\n", "E 39 0 0 0 0\n\n", "E 39 0 0 0 0"]
+    {
+        for command in ["answer", "count", "show"] {
+            let ended = second(&[command], cases);
+            assert_eq!(ended.status.code(), Some(2), "{} of {:?}", command, cases);
+            assert!(ended.stderr.starts_with(b"second: line "), "{} of {:?}", command, cases);
+        }
+    }
     assert_eq!(printed(&["answer"], "E 39 0 0 0 0\nE 1 0 0 0 0\n"), "5\n0 1 64\n");
     assert_eq!(printed(&["answer"], ""), "");
 }

@@ -1,7 +1,8 @@
--- The part that is lent ends within the memory.
+-- The part of the memory that is lent ends within it.
 use borrow.Author.Needs.{needs}
 use native.Mathlib.Omega.{arith}
 use lib.ListN.{length-take}
+use borrow.Author.Needs.{needs}
 use Rattle.replay.proofs.instructions.decode_case.Statement.{statement}
 use Rattle.replay.proofs.instructions.decode_case.Tie as tie
 
@@ -23,9 +24,6 @@ decode-words-requires c κs = search needs
 same-length : tie.Need-same-length
 same-length c = search needs
 
-same-length-2 : tie.Need-same-length-2
-same-length-2 c = search needs
-
 returns-2 : tie.Need-returns-2
 returns-2 c = search needs
 
@@ -39,5 +37,4 @@ decode-case-spec =
     slice-aggregate-decode-words
     decode-words-requires
     same-length
-    same-length-2
     returns-2)
