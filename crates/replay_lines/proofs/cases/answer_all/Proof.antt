@@ -13,13 +13,13 @@ abbrev μ-loop : tie.MeasureT-loop
 μ-loop line₀ bytes₀ now₀ turns₀ line bytes now turns = turns
 
 longest-requires : tie.Need-longest-requires Inv-loop μ-loop
-longest-requires c κs = search needs
+longest-requires c κs = tt
 
 room-requires : tie.Need-room-requires Inv-loop μ-loop
-room-requires c κs = search needs
+room-requires c κs = tt
 
 after-requires : tie.Need-after-requires Inv-loop μ-loop
-after-requires c κs = search needs
+after-requires c κs = tt
 
 loop-holds : tie.Need-loop-holds Inv-loop μ-loop
 loop-holds c = search needs
@@ -28,7 +28,16 @@ slice-aggregate-read-some : tie.Need-slice-aggregate-read-some Inv-loop μ-loop
 slice-aggregate-read-some c = search needs
 
 read-some-requires : tie.Need-read-some-requires Inv-loop μ-loop
-read-some-requires c κs = search needs
+read-some-requires c κs = tt
+
+at-end-requires : tie.Need-at-end-requires Inv-loop μ-loop
+at-end-requires c κs = tt
+
+end-requires : tie.Need-end-requires Inv-loop μ-loop
+end-requires c κs = tt
+
+returns : tie.Need-returns Inv-loop μ-loop
+returns c = search needs
 
 slice-aggregate-part : tie.Need-slice-aggregate-part Inv-loop μ-loop
 slice-aggregate-part c = search needs
@@ -40,22 +49,28 @@ slice-aggregate-part-2 : tie.Need-slice-aggregate-part-2 Inv-loop μ-loop
 slice-aggregate-part-2 c = simp length-take (omega arith)
 
 part-requires : tie.Need-part-requires Inv-loop μ-loop
-part-requires c κs = search needs
+part-requires c κs = tt
+
+is-over-requires : tie.Need-is-over-requires Inv-loop μ-loop
+is-over-requires c κs = tt
+
+end-requires-2 : tie.Need-end-requires-2 Inv-loop μ-loop
+end-requires-2 c κs = tt
+
+returns-2 : tie.Need-returns-2 Inv-loop μ-loop
+returns-2 c = search needs
 
 sub-turns : tie.Need-sub-turns Inv-loop μ-loop
-sub-turns c = search needs
+sub-turns c = omega arith
 
 loop-less : tie.Need-loop-less Inv-loop μ-loop
-loop-less c = search needs
+loop-less c = omega arith
 
 loop-again : tie.Need-loop-again Inv-loop μ-loop
 loop-again c = search needs
 
-returns : tie.Need-returns Inv-loop μ-loop
-returns c = search needs
-
-returns-2 : tie.Need-returns-2 Inv-loop μ-loop
-returns-2 c = search needs
+returns-3 : tie.Need-returns-3 Inv-loop μ-loop
+returns-3 c = search needs
 
 pub answer-all-spec : {M : Type 1} → statement M
 answer-all-spec =
@@ -69,12 +84,17 @@ answer-all-spec =
     loop-holds
     slice-aggregate-read-some
     read-some-requires
+    at-end-requires
+    end-requires
+    returns
     slice-aggregate-part
     array-share-prefix-bytes
     slice-aggregate-part-2
     part-requires
+    is-over-requires
+    end-requires-2
+    returns-2
     sub-turns
     loop-less
     loop-again
-    returns
-    returns-2)
+    returns-3)

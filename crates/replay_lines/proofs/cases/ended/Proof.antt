@@ -1,12 +1,13 @@
--- The part that is answered ends within the line.
+-- The part of the line that is answered ends within it.
 use borrow.Author.Needs.{needs}
 use native.Mathlib.Omega.{arith}
 use lib.ListN.{length-take}
+use borrow.Author.Needs.{needs}
 use Rattle.replay_lines.proofs.cases.ended.Statement.{statement}
 use Rattle.replay_lines.proofs.cases.ended.Tie as tie
 
-after-requires : tie.Need-after-requires
-after-requires c κs = search needs
+stopped-requires : tie.Need-stopped-requires
+stopped-requires c κs = search needs
 
 returns : tie.Need-returns
 returns c = search needs
@@ -17,19 +18,27 @@ slice-aggregate-answer c = simp length-take (omega arith)
 answer-requires : tie.Need-answer-requires
 answer-requires c κs = search needs
 
-after-requires-2 : tie.Need-after-requires-2
-after-requires-2 c κs = search needs
+after-requires : tie.Need-after-requires
+after-requires c κs = search needs
 
 returns-2 : tie.Need-returns-2
 returns-2 c = search needs
+
+stopped-requires-2 : tie.Need-stopped-requires-2
+stopped-requires-2 c κs = search needs
+
+returns-3 : tie.Need-returns-3
+returns-3 c = search needs
 
 pub ended-spec : {M : Type 1} → statement M
 ended-spec =
     tie.close
     (tie.spec
-    after-requires
+    stopped-requires
     returns
     slice-aggregate-answer
     answer-requires
-    after-requires-2
-    returns-2)
+    after-requires
+    returns-2
+    stopped-requires-2
+    returns-3)

@@ -2,11 +2,18 @@
 use borrow.Author.Needs.{needs}
 use native.Mathlib.Omega.{arith}
 use lib.ListN.{length-take}
+use borrow.Author.Needs.{needs}
 use Rattle.replay_lines.proofs.texts.write.Statement.{statement}
 use Rattle.replay_lines.proofs.texts.write.Tie as tie
 
 put-requires : tie.Need-put-requires
 put-requires c κs = search needs
+
+same-length : tie.Need-same-length
+same-length c = search needs
+
+returns : tie.Need-returns
+returns c = search needs
 
 slice-reshare-prefix-write-all : tie.Need-slice-reshare-prefix-write-all
 slice-reshare-prefix-write-all c = search needs
@@ -16,12 +23,6 @@ slice-aggregate-write-all c = simp length-take (omega arith)
 
 write-all-requires : tie.Need-write-all-requires
 write-all-requires c κs = search needs
-
-same-length : tie.Need-same-length
-same-length c = search needs
-
-returns : tie.Need-returns
-returns c = search needs
 
 same-length-2 : tie.Need-same-length-2
 same-length-2 c = search needs
@@ -34,10 +35,10 @@ write-spec =
     tie.close
     (tie.spec
     put-requires
+    same-length
+    returns
     slice-reshare-prefix-write-all
     slice-aggregate-write-all
     write-all-requires
-    same-length
-    returns
     same-length-2
     returns-2)
