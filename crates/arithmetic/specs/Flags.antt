@@ -3,6 +3,7 @@ use Prim.Native.Nat.{ℕ, _+_, _*_, _%_}
 use mathlib.Core.Bool.{Bool, true, false}
 use lib.Dec.{leb, eqb}
 use lib.Count.{ones}
+use Rattle.codes.specs.Flags.{forZ, forC, forV, forP, forS}
 
 -- Z, "cero": the 16-bit result is 0
 abbrev pub isZero : ℕ → Bool
@@ -20,22 +21,6 @@ isNegative r = leb 32768 r
 abbrev pub bit : Bool → ℕ
 bit true = 1
 bit false = 0
-
--- "SR bits: Z 0, C 1, V 2, P 3, S 4": what each flag counts for
-abbrev pub forZ : ℕ
-forZ = 1
-
-abbrev pub forC : ℕ
-forC = 2
-
-abbrev pub forV : ℕ
-forV = 4
-
-abbrev pub forP : ℕ
-forP = 8
-
-abbrev pub forS : ℕ
-forS = 16
 
 -- "Arithmetic and CMP set Z, S, P (odd ones) from the 16-bit result"; C and V are the operation's own
 unfoldable pub flagsOf : ℕ → Bool → Bool → ℕ

@@ -1,7 +1,7 @@
 -- The arithmetic rows of document 01's marked table, as one statement. Its proof is `proofs/Top.antt`.
 use Prim.Native.Nat.{ℕ, _+_}
 use mathlib.Core.Path.{_≡_}
-use Rattle.arithmetic.specs.Flags.{forZ, forC, forV, forP, forS}
+use Rattle.codes.specs.Flags.{forZ, forC, forV, forP, forS}
 use Rattle.arithmetic.specs.Operations.{ADD, SUB, MUL, DIV}
 use Rattle.arithmetic.specs.declared.Outcome.{Outcome}
 use Rattle.arithmetic.specs.declared.Division.the-variants.{Done}

@@ -5,6 +5,7 @@ use lib.Bits.{bitAnd, bitOr, bitXor}
 use lib.Dec.{ltb, eqb}
 use lib.IntN.{_+ℤ_, _-ℤ_, _*ℤ_}
 use lib.Signed.{quotZ, remZ}
+use Rattle.codes.specs.Stops.{none, zeroDivisor}
 use Rattle.arithmetic.specs.Cells.{signed, cell, leaves16}
 use Rattle.arithmetic.specs.Flags.{flagsOf}
 use Rattle.arithmetic.specs.declared.Outcome.{Outcome}
@@ -68,5 +69,5 @@ NOT x = 65535 - x
 
 -- a division's stop: 6 for a zero divisor, else 0 (01, "Stops")
 abbrev pub stopOfDivision : Division → ℕ
-stopOfDivision (Done o) = 0
-stopOfDivision ByZero = 6
+stopOfDivision (Done o) = none
+stopOfDivision ByZero = zeroDivisor

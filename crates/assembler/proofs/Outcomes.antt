@@ -2,7 +2,7 @@
 use Prim.Native.Nat.{ℕ}
 use mathlib.Core.List.{List}
 use mathlib.Core.Path.{_≡_, sym, ap₂, subst, _∙_}
-use Rattle.sources.specs.Limits.{codeMark, dataMark}
+use Rattle.codes.specs.Marks.{codeMark, dataMark}
 use Rattle.sources.specs.Order.{_on_}
 use Rattle.sources.specs.Image.{cellsMarked}
 use Rattle.sources.specs.Inner.Assembling.{Verdict, passes, refused}

@@ -5,7 +5,7 @@ use mathlib.Core.Logic.{_↔_}
 use mathlib.Core.Path.{_≡_, sym, ap, subst, _∙_}
 use native.Mathlib.Omega.{arith}
 use lib.ListN.{length}
-use Rattle.sources.specs.Limits.{codeMark, dataMark}
+use Rattle.codes.specs.Marks.{codeMark, dataMark}
 use Rattle.sources.specs.Sources.{Said}
 use Rattle.sources.specs.Order.{Refusal, FirstFailing, Passing}
 use Rattle.sources.specs.Image.{Accepted, cellsMarked}

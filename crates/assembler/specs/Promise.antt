@@ -3,7 +3,7 @@ use Prim.Native.Nat.{ℕ}
 use mathlib.Core.List.{List}
 use mathlib.Core.Path.{_≡_}
 use lib.ListN.{length}
-use Rattle.sources.specs.Limits.{codeMark, dataMark}
+use Rattle.codes.specs.Marks.{codeMark, dataMark}
 use Rattle.sources.specs.Order.{Refusal, FirstFailing}
 use Rattle.sources.specs.Image.{Accepted, cellsMarked}
 use Rattle.assembler.specs.declared.Reply.{Reply}

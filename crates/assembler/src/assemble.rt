@@ -14,16 +14,16 @@ use super::Reply;
 use super::copying::copy_cells;
 use super::copying::copy_marks;
 use super::counting::counted;
+use codes::limits::LONGEST_SOURCE;
+use codes::limits::MOST_CELLS;
+use codes::limits::MOST_LABELS;
+use codes::marks::CODE;
+use codes::marks::DATA;
 use settling::Settled;
 use settling::settle::settle;
 use sources::Line;
 use walking::Walked;
 use walking::walk::walk;
-
-// "M from 1 to 65,536"; "Source is at most 32,768 bytes"
-const MOST_CELLS: usize = 65536;
-
-const LONGEST_SOURCE: usize = 32768;
 
 fn refused(number: u8, line: Line) -> Reply
     ensures { λ r. ⌜ told r ≡ refusal (number on line .0) ⌝ }
@@ -43,8 +43,8 @@ fn accept(cells: &[u16], marks: &[u8], memory: &mut [u16], map: &mut [u8]) -> Re
 {
     copy_cells(cells, memory);
     copy_marks(marks, map);
-    let code = counted(marks, 1);
-    let data = counted(marks, 2);
+    let code = counted(marks, CODE);
+    let data = counted(marks, DATA);
     Reply {
         refusal: 0,
         line: Line(0),
@@ -126,11 +126,11 @@ fn assemble_lent(s: &[u8], memory: &mut [u16], map: &mut [u8]) -> Reply
     ensures { λ r. ⌜ outcome r (now (memory .exit)) (now (map .exit)) ≡ outcomeBy (andThen (walkLines (length (now (memory .entry))) 1 (start (length (now (memory .entry)))) (upToEnd (linesOf (now (s .entry))))) (lateVerdict (workOf (length (now (memory .entry))) (now (s .entry))) (length (upToEnd (linesOf (now (s .entry))))))) (memoryOf (workOf (length (now (memory .entry))) (now (s .entry)))) (workOf (length (now (memory .entry))) (now (s .entry)) .place .marks) (now (memory .entry)) (now (map .entry)) ⌝ }
 {
     let m = memory.len();
-    let mut starts = [0u16; 512];
-    let mut keys = [0u16; 512];
-    let mut values = [0u16; 512];
-    let mut marks = [0u8; 65536];
-    let mut cells = [0u16; 65536];
+    let mut starts = [0u16; MOST_LABELS];
+    let mut keys = [0u16; MOST_LABELS];
+    let mut values = [0u16; MOST_LABELS];
+    let mut marks = [0u8; MOST_CELLS];
+    let mut cells = [0u16; MOST_CELLS];
     let mut row = [0u16; 131080];
     let mut aways = [0u8; 32770];
     assemble_over(

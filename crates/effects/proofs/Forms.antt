@@ -6,7 +6,7 @@ use mathlib.Core.List.{List}
 use Prim.Native.Nat.{ℕ, _%_, _≤_, _<_}
 use native.Mathlib.Omega.{arith}
 use lib.ListN.{length, getD}
-use Rattle.isa.specs.Registers.{A, PC}
+use Rattle.codes.specs.Registers.{A, PC}
 use Rattle.isa.specs.Opcodes.{table}
 use Rattle.isa.specs.Operands.{isTarget}
 use Rattle.isa.specs.declared.Instruction.{Instruction}

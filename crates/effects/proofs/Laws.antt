@@ -8,7 +8,7 @@ use borrow.Author.Tests.{eqb-false, ne-eqb}
 use lib.Dec.{eqb}
 use lib.ListN.{length, getD, set, length-set}
 use lib.Seq.{getD-set-same, getD-set-other}
-use Rattle.isa.specs.Registers.{SR, SP, PC}
+use Rattle.codes.specs.Registers.{SR, SP, PC}
 use Rattle.effects.specs.Applied.{keepingH, withRegister, registerWritten, cellWritten, flagged, registersAfter, memoryAfter}
 use Rattle.effects.specs.declared.Effect.{Effect}
 use Rattle.effects.specs.declared.Flags.{Flags}

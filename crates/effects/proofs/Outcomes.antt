@@ -8,7 +8,7 @@ use native.Mathlib.Omega.{arith}
 use borrow.Author.Tests.{ltb-true}
 use lib.Dec.{ltb, eqb}
 use lib.ListN.{length, getD}
-use Rattle.isa.specs.Registers.{SP, PC}
+use Rattle.codes.specs.Registers.{SP, PC}
 use Rattle.isa.specs.Operands.{wordOf}
 use Rattle.isa.specs.declared.Instruction.{Instruction}
 use Rattle.isa.specs.declared.Operand.{Operand}

@@ -7,7 +7,7 @@ use Prim.Native.Nat.{ℕ, _+_, _-_, _*_, _/_, _%_, _≤_, _<_}
 use native.Mathlib.Omega.{arith}
 use borrow.Author.Tests.{lt-ltb, le-ltb, ne-eqb}
 use lib.ListN.{length, getD, set}
-use Rattle.isa.specs.Registers.{SR, SP, PC}
+use Rattle.codes.specs.Registers.{SR, SP, PC}
 use Rattle.isa.specs.Opcodes.{table}
 use Rattle.isa.specs.declared.Instruction.{Instruction}
 use Rattle.isa.specs.declared.Opcode.{Opcode}

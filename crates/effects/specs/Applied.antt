@@ -4,7 +4,8 @@ use mathlib.Core.Bool.{cond}
 use mathlib.Core.List.{List}
 use lib.Dec.{eqb}
 use lib.ListN.{getD, set}
-use Rattle.isa.specs.Registers.{SR, SP, PC}
+use Rattle.codes.specs.Flags.{forH}
+use Rattle.codes.specs.Registers.{SR, SP, PC}
 use Rattle.effects.specs.declared.Place.{Place}
 use Rattle.effects.specs.declared.Place.the-variants.{Nowhere, Constant, InRegister, InCell}
 use Rattle.effects.specs.declared.Flags.{Flags}
@@ -13,7 +14,7 @@ use Rattle.effects.specs.declared.Effect.{Effect}
 
 -- "Writing SR sets bits 0..4 and keeps H"
 unfoldable pub keepingH : ℕ → ℕ → ℕ
-keepingH sr v = v % 32 + sr / 32 * 32
+keepingH sr v = v % forH + sr / forH * forH
 
 -- a write to a register
 unfoldable pub withRegister : List ℕ → ℕ → ℕ → List ℕ

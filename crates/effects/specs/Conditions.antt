@@ -1,24 +1,24 @@
 -- When a branch is taken, one line for each (manual 5.6; 01: "Branch conditions are the manual's, BP being S=0 and BNN S=0
 -- or Z=1").
-use Prim.Native.Nat.{ℕ, _/_, _%_}
+use Prim.Native.Nat.{ℕ}
 use mathlib.Core.Bool.{Bool, true, not, _||_}
-use lib.Dec.{eqb}
+use Rattle.codes.specs.Flags.{forZ, forC, forV, forP, forS, isOn}
 
--- "SR bits: Z 0, C 1, V 2, P 3, S 4": a flag of SR is on
+-- the flags of SR
 abbrev pub flagZ : ℕ → Bool
-flagZ sr = eqb (sr % 2) 1
+flagZ sr = isOn forZ sr
 
 abbrev pub flagC : ℕ → Bool
-flagC sr = eqb (sr / 2 % 2) 1
+flagC sr = isOn forC sr
 
 abbrev pub flagV : ℕ → Bool
-flagV sr = eqb (sr / 4 % 2) 1
+flagV sr = isOn forV sr
 
 abbrev pub flagP : ℕ → Bool
-flagP sr = eqb (sr / 8 % 2) 1
+flagP sr = isOn forP sr
 
 abbrev pub flagS : ℕ → Bool
-flagS sr = eqb (sr / 16 % 2) 1
+flagS sr = isOn forS sr
 
 -- Z=1, Z=0
 abbrev pub takenBZ : ℕ → Bool

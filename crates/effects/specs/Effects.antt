@@ -5,7 +5,8 @@ use mathlib.Core.Bool.{Bool, true, cond, _&&_, _||_}
 use mathlib.Core.List.{List}
 use lib.Dec.{ltb, eqb}
 use lib.ListN.{length, getD}
-use Rattle.isa.specs.Registers.{A, SR, SP, PC}
+use Rattle.codes.specs.Stops.{memoryEnd, zeroDivisor}
+use Rattle.codes.specs.Registers.{A, SR, SP, PC}
 use Rattle.isa.specs.Opcodes.{table}
 use Rattle.isa.specs.Operands.{isTarget}
 use Rattle.isa.specs.declared.Instruction.{Instruction}
@@ -27,13 +28,6 @@ use Rattle.effects.specs.declared.Port.{Port}
 use Rattle.effects.specs.declared.Port.the-variants.{TakeByte, TakeNumber, TakeString, PutByte, PutNumber, PutString}
 use Rattle.effects.specs.declared.Performed.{Performed}
 use Rattle.effects.specs.declared.Performed.the-variants.{Does, Halts, Asks, Stops}
-
--- "Stops: .. 5 memory end, 6 zero divisor"
-abbrev pub memoryEnd : ℕ
-memoryEnd = 5
-
-abbrev pub zeroDivisor : ℕ
-zeroDivisor = 6
 
 -- what an instruction finds before anything is written: memory, the address after it, SP and SR, where its operands are, and
 -- what stands there

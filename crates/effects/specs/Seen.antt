@@ -4,7 +4,7 @@ use mathlib.Core.Bool.{cond}
 use mathlib.Core.List.{List}
 use lib.Dec.{eqb}
 use lib.ListN.{getD}
-use Rattle.isa.specs.Registers.{PC}
+use Rattle.codes.specs.Registers.{PC}
 
 -- "Operands see PC after the instruction, modulo 65536": `next` is the address after it, not reduced
 unfoldable pub see : List ℕ → ℕ → ℕ → ℕ

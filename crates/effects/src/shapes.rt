@@ -2,7 +2,8 @@
 ghost use mathlib.Core.Path.{_≡_};
 ghost use mathlib.Core.Bool.{cond};
 ghost use Rattle.effects.specs.Places.{targetOf};
-ghost use Rattle.effects.specs.Effects.{goesTo, writes, toA, zeroDivisor, pushes, pops, dividesTo};
+ghost use Rattle.codes.specs.Stops.{zeroDivisor};
+ghost use Rattle.effects.specs.Effects.{goesTo, writes, toA, pushes, pops, dividesTo};
 use super::Effect;
 use super::Flags;
 use super::Performed;

@@ -8,7 +8,8 @@ use lib.Dec.{leb}
 use borrow.Author.Tests.{ltb-true, lt-ltb, leb-true, leb-false, le-leb, lt-leb}
 use Rattle.tokens.specs.declared.Token.{Token}
 use Rattle.expressions.specs.Grammar.{Sum}
-use Rattle.expressions.specs.Trees.{Tree, literal, node, enclosed, depth, deepest, Expression}
+use Rattle.codes.specs.Limits.{deepest}
+use Rattle.expressions.specs.Trees.{Tree, literal, node, enclosed, depth, Expression}
 use Rattle.expressions.specs.Worths.{worthOf}
 use Rattle.expressions.specs.Reading.{nothing, Outcome, reads, wrong, operand, treeRead, judged, expressionRead}
 use Rattle.expressions.specs.Inner.Scanning.{rightForm, passes}

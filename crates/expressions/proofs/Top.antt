@@ -7,7 +7,8 @@ use mathlib.Core.Path.{_≡_, sym, ap, ap₂, _∙_}
 use lib.IntN.{ℤ}
 use Rattle.tokens.specs.declared.Token.{Token}
 use Rattle.expressions.specs.Grammar.{Sum}
-use Rattle.expressions.specs.Trees.{Tree, node, depth, deepest, Expression}
+use Rattle.codes.specs.Limits.{deepest}
+use Rattle.expressions.specs.Trees.{Tree, node, depth, Expression}
 use Rattle.expressions.specs.Worths.{operation, operate, worthOf}
 use Rattle.expressions.specs.Reading.{nothing, reads, wrong, operand, treeRead, expressionRead, refusalOf}
 use Rattle.expressions.specs.Inner.Scanning.{rightForm, passes}

@@ -8,7 +8,8 @@ use borrow.Author.Tests.{ltb-true, ltb-false, le-leb, lt-leb}
 use Rattle.numerals.specs.declared.Cursor.{Cursor}
 use Rattle.tokens.specs.Reading.{tokenAt, tokensFrom}
 use Rattle.tokens.specs.declared.Token.{Token}
-use Rattle.expressions.specs.Trees.{Tree, literal, node, enclosed, depth, deepest}
+use Rattle.codes.specs.Limits.{deepest}
+use Rattle.expressions.specs.Trees.{Tree, literal, node, enclosed, depth}
 use Rattle.expressions.specs.Worths.{ofNumber, operate, worthOf}
 use Rattle.expressions.specs.Reading.{nothing, Outcome, reads, wrong, operator, treeRead, judged, expressionRead}
 use Rattle.expressions.specs.Inner.Scanning.{rightForm, passes}

@@ -7,7 +7,8 @@ use lib.Dec.{leb, eqb}
 use Rattle.tokens.specs.declared.Kind.{Kind}
 use Rattle.tokens.specs.declared.Kind.the-variants as K
 use Rattle.tokens.specs.declared.Token.{Token}
-use Rattle.expressions.specs.Trees.{Tree, depth, deepest, literal, node, enclosed}
+use Rattle.codes.specs.Limits.{deepest}
+use Rattle.expressions.specs.Trees.{Tree, depth, literal, node, enclosed}
 use Rattle.expressions.specs.Worths.{worthOf, faultOf}
 use Rattle.expressions.specs.declared.Operation.{Operation}
 use Rattle.expressions.specs.declared.Operation.the-variants.{Plus, Minus, Times, Over, Rest}

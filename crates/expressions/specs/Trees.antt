@@ -19,6 +19,3 @@ unfoldable pub depth : Tree → ℕ
 depth (literal v) = 0
 depth (node o a b) = max (depth a) (depth b)
 depth (enclosed a) = suc (depth a)
-
-abbrev pub deepest : ℕ
-deepest = 32

@@ -7,6 +7,7 @@ use super::Part;
 use super::parts::sum;
 use super::scanning::right_form;
 use super::symbols::is_end;
+use codes::limits::DEEPEST;
 use numerals::Cursor;
 use tokens::tokens::next_token;
 
@@ -16,7 +17,7 @@ pub fn expression(s: &[u8], from: Cursor) -> ExpressionRead
     ensures { λ r. ⌜ r ≡ expressionRead (tokensFrom (now (s .entry)) (from .at)) ⌝ }
 {
     let start = from.at;
-    match sum(s, Cursor { at: start }, 32) {
+    match sum(s, Cursor { at: start }, DEEPEST) {
         Part::Done(w, c) => {
             let t = next_token(s, c);
             let kind = t.kind;

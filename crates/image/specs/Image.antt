@@ -4,18 +4,9 @@ use mathlib.Core.Bool.{cond}
 use mathlib.Core.List.{List, [], _∷_, _++_}
 use lib.Dec.{eqb}
 use lib.ListN.{length, getD}
+use Rattle.codes.specs.Marks.{free, codeMark}
 use Rattle.numerals.specs.Bytes.{bytes}
 use Rattle.numerals.specs.Writing.{decimal}
-
--- "A map of M bytes marks each cell: 0 free, 1 code, 2 data" (01, "What is lent")
-abbrev pub free : ℕ
-free = 0
-
-abbrev pub codeMark : ℕ
-codeMark = 1
-
-abbrev pub dataMark : ℕ
-dataMark = 2
 
 -- how a claimed cell's mark is printed
 abbrev pub kind : ℕ → List ℕ

@@ -5,7 +5,9 @@ use mathlib.Core.Bool.{Bool, true, cond, not, _&&_}
 use mathlib.Core.List.{List, [], _∷_, _++_}
 use lib.Dec.{eqb, leb}
 use lib.ListN.{length, drop}
-use Rattle.image.specs.Image.{dataMark, imageText}
+use Rattle.codes.specs.Limits.{mostCells}
+use Rattle.codes.specs.Marks.{dataMark}
+use Rattle.image.specs.Image.{imageText}
 use Rattle.image.specs.declared.Printed.{Printed}
 use Rattle.image.specs.declared.Printed.the-variants.{Done, BadLoan, RoomShort}
 
@@ -29,10 +31,6 @@ pub record Leaves : Type 0 where
 
 abbrev pub leaves : Printed → List ℕ → Leaves
 leaves answer room = record { refusal = refusalOf answer; text = lengthOf answer; room = room }
-
--- "M from 1 to 65,536"
-abbrev pub mostCells : ℕ
-mostCells = 65536
 
 -- no mark is above 2
 unfoldable pub knownMarks : List ℕ → Bool

@@ -5,6 +5,7 @@ ghost use lib.ListN.{length};
 ghost use Rattle.numerals.specs.Writing.{decimal};
 ghost use Rattle.image.specs.Image.{claimed, imageText};
 ghost use Rattle.image.specs.Inner.Pieces.{piece, cellsText};
+use codes::marks::FREE;
 
 fn decimal_length(n: u32) -> usize
     ensures { λ r. ⌜ r ≡ length (decimal n) ⌝ }
@@ -16,7 +17,7 @@ fn decimal_length(n: u32) -> usize
 fn cell_length(address: u32, mark: u8, value: u16) -> usize
     ensures { λ r. ⌜ r ≡ length (piece address mark value) ⌝ }
 {
-    if mark == 0 {
+    if mark == FREE {
         return 0;
     }
     12 + decimal_length(address) + decimal_length(value as u32)

@@ -8,6 +8,8 @@ ghost use Rattle.ports.specs.Overwriting.{overwrite};
 ghost use Rattle.image.specs.Image.{headLines, textOf, imageText};
 ghost use Rattle.image.specs.Inner.Pieces.{kindAndValue, piece, cellsText, Wrote};
 use super::lengths::claimed_in;
+use codes::marks::CODE;
+use codes::marks::FREE;
 use ports::output::put_text;
 
 // A text and a decimal after it.
@@ -29,7 +31,7 @@ fn kind_and_value(room: &mut [u8], at: usize, mark: u8, value: u16) -> usize
     requires { ⌜ at + length (kindAndValue mark value) ≤ length (now room) ⌝ }
     ensures { λ r. ⌜ Wrote (now (room .entry)) at (kindAndValue mark value) (now (room .exit)) r ⌝ }
 {
-    if mark == 1 {
+    if mark == CODE {
         return field(room, at, b",code,", value as u32);
     }
     field(room, at, b",data,", value as u32)
@@ -40,7 +42,7 @@ fn cell(room: &mut [u8], at: usize, address: u32, mark: u8, value: u16) -> usize
     requires { ⌜ at + length (piece address mark value) ≤ length (now room) ⌝ }
     ensures { λ r. ⌜ Wrote (now (room .entry)) at (piece address mark value) (now (room .exit)) r ⌝ }
 {
-    if mark == 0 {
+    if mark == FREE {
         return at;
     }
     let kind = field(room, at, b"cell=", address);

@@ -4,14 +4,16 @@ ghost use Rattle.image.specs.Printing.{knownMarks, goodLoan, leaves, pri
 use super::Printed;
 use super::lengths::text_length;
 use super::lines::write;
+use codes::limits::MOST_CELLS;
+use codes::marks::DATA;
 
-// No mark is above 2.
+// "a mark above 2": no mark is above that of data.
 fn known_marks(map: &[u8]) -> bool
     ensures { λ r. ⌜ r ≡ knownMarks (now (map .entry)) ⌝ }
 {
     let mut i: usize = 0;
     while i < map.len() {
-        if 2 < map[i] {
+        if DATA < map[i] {
             return false;
         }
         i += 1;
@@ -26,7 +28,7 @@ fn good_loan(memory: &[u16], map: &[u8]) -> bool
     if memory.len() < 1 {
         return false;
     }
-    if 65536 < memory.len() {
+    if MOST_CELLS < memory.len() {
         return false;
     }
     if map.len() != memory.len() {

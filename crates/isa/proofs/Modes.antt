@@ -10,7 +10,7 @@ use Rattle.isa.specs.declared.Kinds.{Kinds}
 use Rattle.isa.specs.declared.Kinds.the-variants.{Nothing, Source, Destination, Place, Target}
 use Rattle.isa.specs.declared.Operand.{Operand}
 use Rattle.isa.specs.declared.Operand.the-variants.{Absent, Immediate, Register, Memory, Indirect, IndexedX, IndexedY, IndexedSp, Relative}
-use Rattle.isa.specs.Registers.{isRegister}
+use Rattle.codes.specs.Registers.{isRegister}
 use Rattle.isa.specs.Opcodes.{presentIn}
 use Rattle.isa.specs.Operands.{modeOf, operandWords, wordOf, registerThere, modesOf, oneOf, seventh, isTarget, seventhFits, operandOf}
 use Rattle.isa.specs.Decoding.{wordsOfMode}

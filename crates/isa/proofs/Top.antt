@@ -16,7 +16,7 @@ use Rattle.isa.specs.declared.Address.{Address}
 use Rattle.isa.specs.declared.Decoded.the-variants.{Read}
 use Rattle.isa.specs.Opcodes.{table, opcodes, opcodeOf, countOf}
 use Rattle.isa.specs.Operands.{allows, operandOf}
-use Rattle.isa.specs.Registers.{PC, isRegister}
+use Rattle.codes.specs.Registers.{PC, isRegister}
 use Rattle.isa.specs.Encoding.{firstWordOf, wordsOf, allowed, encodeOf, refusalOf, wordsIn}
 use Rattle.isa.specs.Decoding.{modesAllowed, sizeIn, instructionIn, readUnless, decodeWord, decodeOf, stopOf}
 use Rattle.isa.specs.Marked.{MarkedInstructions, instruction}

@@ -4,6 +4,8 @@ use mathlib.Core.Bool.{Bool, true, false, cond, _&&_, not}
 use mathlib.Core.List.{List}
 use lib.Dec.{ltb, leb}
 use lib.ListN.{length, getD}
+use Rattle.codes.specs.Limits.{firstWords}
+use Rattle.codes.specs.Stops.{none, noOpcode, noMode, noRegister, memoryEnd}
 use Rattle.isa.specs.Opcodes.{table, opcodeOf}
 use Rattle.isa.specs.Operands.{operandOf, registerThere, modesOf, oneOf}
 use Rattle.isa.specs.declared.Opcode.{Opcode}
@@ -30,7 +32,7 @@ modesAllowed w =
 
 -- "A first word of 2,496 or more is 2", and then the modes are judged
 unfoldable pub firstWordRead : ℕ → FirstWord
-firstWordRead w = cond (leb 2496 w) UnknownOpcode (cond (modesAllowed w) (Allowed (opcodeIn w)) UnknownMode)
+firstWordRead w = cond (leb firstWords w) UnknownOpcode (cond (modesAllowed w) (Allowed (opcodeIn w)) UnknownMode)
 
 -- a mode that has a word
 abbrev pub wordsOfMode : ℕ → ℕ
@@ -58,7 +60,7 @@ readUnless i after = cond (registersThere i) (Read i (record { 0 = after })) NoR
 -- the first word w stands at an address: 2, 3, missing words 5, 4
 unfoldable pub decodeWord : List ℕ → ℕ → ℕ → Decoded
 decodeWord m at w =
-    cond (leb 2496 w) NoOpcode
+    cond (leb firstWords w) NoOpcode
     (cond (not (modesAllowed w)) NoMode
     (cond (ltb (length m) (at + sizeIn w)) PastMemory
     (readUnless (instructionIn w (getD m (at + 1) 0) (getD m (at + 2) 0)) (at + sizeIn w))))
@@ -69,11 +71,11 @@ decodeOf m at = cond (leb (length m) at) PastMemory (decodeWord m at (getD m at 
 
 -- the paper's stop for an answer
 abbrev pub stopOf : Decoded → ℕ
-stopOf (Read i after) = 0
-stopOf NoOpcode = 2
-stopOf NoMode = 3
-stopOf NoRegister = 4
-stopOf PastMemory = 5
+stopOf (Read i after) = none
+stopOf NoOpcode = noOpcode
+stopOf NoMode = noMode
+stopOf NoRegister = noRegister
+stopOf PastMemory = memoryEnd
 
 abbrev pub one : Bool → ℕ
 one true = 1

@@ -4,7 +4,7 @@ use mathlib.Core.Bool.{Bool, true, false, _&&_, _||_, not}
 use mathlib.Core.List.{List, [], _∷_}
 use lib.Dec.{eqb}
 use lib.ListN.{getD}
-use Rattle.isa.specs.Registers.{isRegister}
+use Rattle.codes.specs.Registers.{isRegister}
 use Rattle.isa.specs.declared.Kinds.{Kinds}
 use Rattle.isa.specs.declared.Kinds.the-variants.{Nothing, Source, Destination, Place, Target}
 use Rattle.isa.specs.declared.Operand.{Operand}

@@ -6,7 +6,7 @@ use Prim.Native.Nat.{ℕ, _≤_, _<_}
 use borrow.Author.Tests.{ltb-true, leb-true, lt-ltb, le-leb}
 use lib.Dec.{ltb, leb}
 use lib.ListN.{length}
-use Rattle.isa.specs.Registers.{SR}
+use Rattle.codes.specs.Registers.{SR}
 use Rattle.machine.specs.States.{State, register}
 use Rattle.machine.specs.Stops.{goodLoan}
 

@@ -7,7 +7,7 @@ use native.Mathlib.Omega.{arith}
 use borrow.Author.Tests.{le-ltb, lt-leb}
 use lib.Dec.{ltb}
 use lib.ListN.{length, getD, drop}
-use Rattle.isa.specs.Registers.{PC}
+use Rattle.codes.specs.Registers.{PC}
 use Rattle.isa.specs.Opcodes.{table, opcodes, opcodeOf}
 use Rattle.isa.specs.Operands.{operandOf}
 use Rattle.isa.specs.Decoding.{modesAllowed, sizeIn, instructionIn, registersThere, decodeOf}

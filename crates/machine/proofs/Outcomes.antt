@@ -10,7 +10,8 @@ use borrow.Author.Tests.{ltb-true}
 use lib.Dec.{ltb, eqb}
 use lib.ListN.{length, getD, set, length-set}
 use lib.Seq.{getD-set-same, getD-set-other, set-out}
-use Rattle.isa.specs.Registers.{SR, SP, PC}
+use Rattle.codes.specs.Registers.{SR, SP, PC}
+use Rattle.codes.specs.Stops.{inputEnd, memoryEnd, outputShort}
 use Rattle.isa.specs.Decoding.{decodeOf}
 use Rattle.isa.specs.declared.Decoded.{Decoded}
 use Rattle.isa.specs.declared.Decoded.the-variants.{Read, NoOpcode, NoMode, NoRegister, PastMemory}
@@ -25,8 +26,8 @@ use Rattle.effects.specs.declared.Performed.{Performed}
 use Rattle.effects.specs.declared.Performed.the-variants.{Does, Halts, Asks, Stops}
 use Rattle.effects.proofs.Outcomes.{perform-stops}
 use Rattle.effects.proofs.Laws.{registers-length, memory-length, SR-six-bits}
-use Rattle.ports.specs.Input.{Passed, byteTaken, numberTaken, stringTaken, inputEnd, memoryEnd}
-use Rattle.ports.specs.Output.{outputShort, bytePut, numberPut, stringPut}
+use Rattle.ports.specs.Input.{Passed, byteTaken, numberTaken, stringTaken}
+use Rattle.ports.specs.Output.{bytePut, numberPut, stringPut}
 use Rattle.ports.specs.declared.Taken.{Taken}
 use Rattle.ports.specs.declared.Taken.the-variants.{Value, NoValue}
 use Rattle.ports.specs.declared.Moved.{Moved}

@@ -7,7 +7,7 @@ use mathlib.Core.List.{List}
 use Prim.Native.Nat.{ℕ, zero, suc, _+_, _%_, _≤_, _<_}
 use native.Mathlib.Omega.{arith}
 use lib.ListN.{length, getD, set, drop}
-use Rattle.isa.specs.Registers.{SR, PC}
+use Rattle.codes.specs.Registers.{SR, PC}
 use Rattle.isa.specs.Decoding.{modesAllowed, sizeIn, instructionIn, registersThere, decodeOf}
 use Rattle.isa.specs.declared.Address.{Address}
 use Rattle.isa.specs.declared.Decoded.the-variants.{Read}

@@ -5,7 +5,9 @@ use mathlib.Core.Bool.{Bool, true, false, cond}
 use mathlib.Core.List.{List}
 use lib.Dec.{leb, eqb}
 use Rattle.machine.specs.States.{State}
-use Rattle.machine.specs.Stops.{none, budgetSpent, badLoan, goodLoan, Answer, answer}
+use Rattle.codes.specs.Limits.{largestBudget}
+use Rattle.codes.specs.Stops.{none, budgetSpent, badLoan}
+use Rattle.machine.specs.Stops.{goodLoan, Answer, answer}
 use Rattle.machine.specs.Steps.{stepOf}
 
 -- how a run ends: the state, the stop, and how many steps completed
@@ -36,4 +38,4 @@ runOf (suc budget) input s = follows (stepOf input s) (runOf budget input (stepO
 
 -- with the limit of the budget
 unfoldable pub limitedRun : ℕ → List ℕ → State → Ending
-limitedRun budget input s = cond (leb budget 1000000) (runOf budget input s) (ending s badLoan 0)
+limitedRun budget input s = cond (leb budget largestBudget) (runOf budget input s) (ending s badLoan 0)

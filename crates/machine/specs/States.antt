@@ -2,7 +2,7 @@
 use Prim.Native.Nat.{ℕ}
 use mathlib.Core.List.{List}
 use lib.ListN.{getD}
-use Rattle.isa.specs.Registers.{SR, SP, PC}
+use Rattle.codes.specs.Registers.{SR, SP, PC}
 use Rattle.machine.specs.declared.Registers.{Registers}
 
 pub record State : Type 0 where

@@ -4,7 +4,9 @@ use mathlib.Core.Bool.{Bool, true, false, cond}
 use mathlib.Core.List.{List}
 use lib.Dec.{ltb, leb, eqb}
 use lib.ListN.{length, getD, set}
-use Rattle.isa.specs.Registers.{SR, SP, PC}
+use Rattle.codes.specs.Flags.{forH}
+use Rattle.codes.specs.Registers.{SR, SP, PC}
+use Rattle.codes.specs.Stops.{none, halted, memoryEnd, badLoan}
 use Rattle.isa.specs.Decoding.{decodeOf, stopOf}
 use Rattle.isa.specs.declared.Decoded.{Decoded}
 use Rattle.isa.specs.declared.Decoded.the-variants.{Read, NoOpcode, NoMode, NoRegister, PastMemory}
@@ -24,7 +26,7 @@ use Rattle.ports.specs.declared.Taken.the-variants.{Value, NoValue}
 use Rattle.ports.specs.declared.Moved.{Moved}
 use Rattle.ports.specs.declared.Moved.the-variants.{To, Short}
 use Rattle.machine.specs.States.{State, state, machine, register}
-use Rattle.machine.specs.Stops.{none, halted, memoryEnd, badLoan, goodLoan, Answer, answer, refuses}
+use Rattle.machine.specs.Stops.{goodLoan, Answer, answer, refuses}
 
 -- "a next PC≥M before that reduction is stop 5 with the step kept and counted"
 unfoldable pub stopAt : ℕ → ℕ → ℕ
@@ -39,7 +41,7 @@ does s e taken written =
 -- HALT: H is set, the stop code is 1, and PC is the next address
 unfoldable pub halts : State → ℕ → Answer
 halts s next =
-    answer (state (machine (set (set (s .registers .r) SR (register s SR % 32 + 32)) PC (next % 65536)) halted (s .registers .taken) (s .registers .written)) (s .memory) (s .output))
+    answer (state (machine (set (set (s .registers .r) SR (register s SR % forH + forH)) PC (next % 65536)) halted (s .registers .taken) (s .registers .written)) (s .memory) (s .output))
     halted true
 
 -- a value taken of the input, written to a place

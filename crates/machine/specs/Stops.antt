@@ -1,34 +1,20 @@
--- "Stops: 0 none, 1 HALT, 2 opcode, 3 mode, 4 register code, 5 memory end, 6 zero divisor, 7 budget spent, 8 input at its
--- end, 9 output room short, 10 bad loan (M, a position past its end, SR above 63, stop code above 6)" (01).
+-- What a good loan is, and what a refused step changes (01: "10 bad loan (M, a position past its end, SR above 63, stop code above 6)").
 use Prim.Native.Nat.{ℕ}
 use mathlib.Core.Bool.{Bool, true, false, cond, _&&_, _||_}
 use mathlib.Core.List.{List}
 use lib.Dec.{ltb, leb}
 use lib.ListN.{length}
-use Rattle.isa.specs.Registers.{SR}
+use Rattle.codes.specs.Limits.{mostCells, largestSR, largestStopCode}
+use Rattle.codes.specs.Registers.{SR}
+use Rattle.codes.specs.Stops.{noOpcode, zeroDivisor}
 use Rattle.machine.specs.States.{State, register, withStop}
-
-abbrev pub none : ℕ
-none = 0
-
-abbrev pub halted : ℕ
-halted = 1
-
-abbrev pub memoryEnd : ℕ
-memoryEnd = 5
-
-abbrev pub budgetSpent : ℕ
-budgetSpent = 7
-
-abbrev pub badLoan : ℕ
-badLoan = 10
 
 -- "M from 1 to 65,536", positions within their lengths, SR of six bits, a stop code that is stored
 unfoldable pub goodLoan : List ℕ → State → Bool
 goodLoan input s =
-    ((ltb 0 (length (s .memory)) && leb (length (s .memory)) 65536) &&
+    ((ltb 0 (length (s .memory)) && leb (length (s .memory)) mostCells) &&
     (leb (s .registers .taken) (length input) && leb (s .registers .written) (length (s .output)))) &&
-    (leb (register s SR) 63 && leb (s .registers .stop) 6)
+    (leb (register s SR) largestSR && leb (s .registers .stop) largestStopCode)
 
 -- what a step answers: the state after it, the stop, and whether it completed
 pub record Answer : Type 0 where
@@ -41,7 +27,7 @@ answer s k done = record { after = s; stop = k; completed = done }
 
 -- ".. 2 to 6 set the stop code"
 abbrev pub isStored : ℕ → Bool
-isStored k = leb 2 k && leb k 6
+isStored k = leb noOpcode k && leb k zeroDivisor
 
 -- "All change nothing except that 2 to 6 set the stop code"
 unfoldable pub refuses : State → ℕ → Answer

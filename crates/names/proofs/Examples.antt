@@ -7,7 +7,7 @@ use mathlib.Core.List.{List, [], _∷_, map}
 use mathlib.Core.Path.{_≡_, refl}
 use Rattle.numerals.specs.Bytes.{bytes, between}
 use Rattle.isa.specs.Opcodes.{table, opcodes}
-use Rattle.isa.specs.Registers.{A, SR, IX, IY, SP, PC}
+use Rattle.codes.specs.Registers.{A, SR, IX, IY, SP, PC}
 use Rattle.isa.specs.declared.Opcode.{Opcode}
 use Rattle.isa.specs.declared.Opcode.the-variants.{MOVE, BO}
 use Rattle.names.specs.declared.Word.the-variants.{Instructs, End, Unknown}

@@ -10,7 +10,7 @@ use Rattle.numerals.specs.declared.Kept.the-variants as N
 use Rattle.isa.specs.Opcodes.{table, countOf}
 use Rattle.isa.specs.Operands.{allows, registerThere}
 use Rattle.isa.specs.Encoding.{wordsOf, allowed, encodeOf, refusalOf}
-use Rattle.isa.specs.Registers.{isRegister}
+use Rattle.codes.specs.Registers.{isRegister}
 use Rattle.isa.specs.declared.Kinds.{Kinds}
 use Rattle.isa.specs.declared.Opcode.{Opcode}
 use Rattle.isa.specs.declared.Operand.{Operand}

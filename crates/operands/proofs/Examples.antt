@@ -9,7 +9,7 @@ use Rattle.numerals.specs.Numbers.{keptOf}
 use Rattle.numerals.specs.Reading.{run, digitsAt, radixAt, unsignedAt}
 use Rattle.isa.specs.Opcodes.{table, countOf}
 use Rattle.isa.specs.Operands.{allows}
-use Rattle.isa.specs.Registers.{PC}
+use Rattle.codes.specs.Registers.{PC}
 use Rattle.isa.specs.declared.Opcode.{Opcode}
 use Rattle.isa.specs.declared.Opcode.the-variants.{NOP, MOVE, PUSH, INC, BR, BZ, INSTR}
 use Rattle.isa.specs.declared.Operand.{Operand}

@@ -8,7 +8,7 @@ use native.Mathlib.Omega.{arith}
 use lib.Dec.{eqb}
 use borrow.Author.Tests.{eq-eqb, ne-eqb, ltb-false}
 use Rattle.numerals.specs.declared.Cursor.{Cursor}
-use Rattle.isa.specs.Registers.{IX, IY, SP, isRegister}
+use Rattle.codes.specs.Registers.{IX, IY, SP, isRegister}
 use Rattle.tokens.specs.Marks.{onMark, only, markBy, markOf}
 use Rattle.tokens.specs.Reading.{tokenAt, tokensFrom}
 use Rattle.tokens.specs.Commas.{atComma}

@@ -8,7 +8,7 @@ use native.Mathlib.Omega.{arith}
 use lib.Dec.{eqb, T, ltb→lt}
 use borrow.Author.Tests.{eqb-true, ne-eqb, lt-ltb}
 use Rattle.numerals.specs.declared.Numeral.{Numeral}
-use Rattle.isa.specs.Registers.{IX, IY, SP, isRegister}
+use Rattle.codes.specs.Registers.{IX, IY, SP, isRegister}
 use Rattle.tokens.specs.Marks.{IsMark, onMark, only}
 use Rattle.tokens.specs.Commas.{atComma}
 use Rattle.tokens.specs.declared.Kind.{Kind}

@@ -10,7 +10,7 @@ use Rattle.numerals.specs.declared.Kept.{Kept}
 use Rattle.numerals.specs.declared.Kept.the-variants as N
 use Rattle.numerals.specs.declared.Numeral.{Numeral}
 use Rattle.numerals.specs.declared.Radix.the-variants.{Decimal, Hexadecimal}
-use Rattle.isa.specs.Registers.{IX, IY, SP, isRegister}
+use Rattle.codes.specs.Registers.{IX, IY, SP, isRegister}
 use Rattle.isa.specs.declared.Opcode.{Opcode}
 use Rattle.names.specs.Names.{registerCode}
 use Rattle.tokens.specs.Marks.{onMark, only}

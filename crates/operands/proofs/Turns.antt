@@ -8,7 +8,7 @@ use native.Mathlib.Omega.{arith}
 use lib.ListN.{length}
 use Rattle.numerals.specs.declared.Cursor.{Cursor}
 use Rattle.numerals.specs.declared.Numeral.{Numeral}
-use Rattle.isa.specs.Registers.{isRegister}
+use Rattle.codes.specs.Registers.{isRegister}
 use Rattle.tokens.specs.Marks.{IsMark, onMark, markBy, markOf}
 use Rattle.tokens.specs.Reading.{tokenAt, tokensFrom}
 use Rattle.tokens.specs.declared.Kind.{Kind}

@@ -6,7 +6,7 @@ use mathlib.Core.List.{List, [], _∷_, _++_}
 use mathlib.Core.Path.{_≡_}
 use lib.Dec.{T}
 use lib.Seq.{slice}
-use Rattle.isa.specs.Registers.{IX, IY, SP, isRegister}
+use Rattle.codes.specs.Registers.{IX, IY, SP, isRegister}
 use Rattle.names.specs.Names.{registerCode}
 use Rattle.tokens.specs.Marks.{IsMark}
 use Rattle.tokens.specs.declared.Kind.the-variants as K

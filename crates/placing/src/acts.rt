@@ -4,18 +4,14 @@ ghost use Rattle.sources.specs.Placing.{does};
 ghost use Rattle.sources.specs.declared.Gives.the-variants.{Start};
 ghost use Rattle.sources.specs.declared.Moves.the-variants.{On};
 ghost use Rattle.placing.specs.Inner.State.{Sound};
+use codes::marks::CODE;
+use codes::marks::DATA;
+use codes::marks::FREE;
 use isa::opcodes::operand_count;
 use sources::Act;
 use sources::Gives;
 use sources::Moves;
 use statements::Statement;
-
-// The map's marks: 0 free, 1 code, 2 data.
-const FREE: u8 = 0;
-
-const CODE: u8 = 1;
-
-const DATA: u8 = 2;
 
 fn claiming(n: usize, mark: u8) -> Act
     ensures { λ r. ⌜ r ≡ record { gives = Start; moves = On n; claims = n; mark = mark } ⌝ }

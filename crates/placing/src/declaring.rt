@@ -10,14 +10,11 @@ ghost use Rattle.sources.specs.Inner.Assembling.{labelVerdict};
 ghost use Rattle.placing.specs.Inner.State.{Fair, FairDid, Tells, placeIn};
 use super::Counters;
 use super::Did;
+use codes::limits::LONGEST_LABEL;
+use codes::limits::MOST_LABELS;
 use labels::finding::find;
 use labels::finding::key;
 use values::Name;
-
-// "labels at most 512, a label at most 64 bytes"
-const MOST_LABELS: usize = 512;
-
-const LONGEST_LABEL: usize = 64;
 
 pub(crate) fn declare(
     s: &[u8],

@@ -14,6 +14,7 @@ use super::acts::act;
 use super::claims::is_taken;
 use super::claims::paint;
 use super::naming::bind_by;
+use codes::limits::MOST_CELLS;
 use isa::Address;
 use sources::Act;
 use sources::Gives;
@@ -32,7 +33,7 @@ fn label_out(g: Gives, waiting: usize, at: usize) -> bool
             if waiting == 0 {
                 return false;
             }
-            at >= 65536
+            at >= MOST_CELLS
         }
     }
 }
@@ -44,7 +45,7 @@ fn reserves_out(m: Moves, at: usize) -> bool
 {
     match m {
         Moves::On(_) => false,
-        Moves::Reserving(n) => 65536 - at < n,
+        Moves::Reserving(n) => MOST_CELLS - at < n,
         Moves::To(_) => false,
     }
 }

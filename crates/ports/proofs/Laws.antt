@@ -21,8 +21,9 @@ use Rattle.numerals.specs.declared.NumberRead.{NumberRead}
 use Rattle.numerals.specs.declared.NumberRead.the-variants.{Found, Absent}
 use Rattle.numerals.specs.Writing.{signedDecimal}
 use Rattle.ports.specs.Overwriting.{overwrite}
-use Rattle.ports.specs.Input.{memoryEnd, inputEnd, LF, lineAt, afterLine, byteTaken, numberTaken, Passed, passed, stringTaken}
-use Rattle.ports.specs.Output.{outputShort, lowByte, stringOf, endsInZero, textPut, bytePut, numberPut, stringPut}
+use Rattle.codes.specs.Stops.{memoryEnd, inputEnd, outputShort}
+use Rattle.ports.specs.Input.{LF, lineAt, afterLine, byteTaken, numberTaken, Passed, passed, stringTaken}
+use Rattle.ports.specs.Output.{lowByte, stringOf, endsInZero, textPut, bytePut, numberPut, stringPut}
 use Rattle.ports.specs.declared.Taken.{Taken}
 use Rattle.ports.specs.declared.Taken.the-variants.{Value, NoValue}
 use Rattle.ports.specs.declared.Moved.the-variants.{To, Short}

@@ -16,8 +16,9 @@ use Rattle.numerals.proofs.Filling.{written-text}
 use Rattle.numerals.proofs.Top.{signed-length}
 use Rattle.ports.specs.Overwriting.{overwrite}
 use Rattle.ports.specs.Searching.{upTo}
-use Rattle.ports.specs.Input.{inputEnd, memoryEnd, LF, lineAt, afterLine, byteTaken, numberTaken, passed, stringTaken}
-use Rattle.ports.specs.Output.{outputShort, lowByte, stringOf, textPut, stringPut}
+use Rattle.codes.specs.Stops.{inputEnd, memoryEnd, outputShort}
+use Rattle.ports.specs.Input.{LF, lineAt, afterLine, byteTaken, numberTaken, passed, stringTaken}
+use Rattle.ports.specs.Output.{lowByte, stringOf, textPut, stringPut}
 use Rattle.ports.specs.declared.Taken.the-variants.{Value, NoValue}
 use Rattle.ports.specs.declared.Moved.the-variants.{To, Short}
 use Rattle.ports.proofs.Searches.{upTo-part, meets-within}

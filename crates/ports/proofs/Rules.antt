@@ -11,7 +11,8 @@ use lib.ListN.{length, drop, length-append, length-drop}
 use Rattle.numerals.specs.Reading.{lineNumber}
 use Rattle.ports.specs.Overwriting.{overwrite}
 use Rattle.ports.specs.Searching.{upTo}
-use Rattle.ports.specs.Input.{memoryEnd, LF, lineAt, afterLine, numberTaken, passed, stringTaken}
+use Rattle.codes.specs.Stops.{memoryEnd}
+use Rattle.ports.specs.Input.{LF, lineAt, afterLine, numberTaken, passed, stringTaken}
 use Rattle.ports.specs.Output.{stringOf, endsInZero}
 use Rattle.ports.specs.Rules.{Free, Line, ended, last, StringFrom, Stands}
 use Rattle.ports.specs.declared.Taken.the-variants.{Value}

@@ -5,6 +5,7 @@ use mathlib.Core.Bool.{cond}
 use mathlib.Core.List.{List, [], _∷_, _++_}
 use lib.Dec.{ltb, leb}
 use lib.ListN.{length, getD, drop}
+use Rattle.codes.specs.Stops.{memoryEnd, inputEnd}
 use Rattle.numerals.specs.Reading.{lineNumber}
 use Rattle.ports.specs.Overwriting.{overwrite}
 use Rattle.ports.specs.Searching.{upTo}
@@ -12,13 +13,6 @@ use Rattle.ports.specs.declared.Taken.{Taken}
 use Rattle.ports.specs.declared.Taken.the-variants.{Value, NoValue}
 use Rattle.ports.specs.declared.Moved.{Moved}
 use Rattle.ports.specs.declared.Moved.the-variants.{To, Short}
-
--- "Stops: .. 5 memory end, .. 8 input at its end, 9 output room short"
-abbrev pub memoryEnd : ℕ
-memoryEnd = 5
-
-abbrev pub inputEnd : ℕ
-inputEnd = 8
 
 abbrev pub LF : ℕ
 LF = 10

@@ -8,11 +8,9 @@ use lib.ListN.{length, drop}
 use Rattle.numerals.specs.Writing.{signedDecimal}
 use Rattle.ports.specs.Overwriting.{overwrite}
 use Rattle.ports.specs.Searching.{upTo, meets}
-use Rattle.ports.specs.Input.{memoryEnd, Passed, passed}
+use Rattle.codes.specs.Stops.{memoryEnd, outputShort}
+use Rattle.ports.specs.Input.{Passed, passed}
 use Rattle.ports.specs.declared.Moved.the-variants.{To, Short}
-
-abbrev pub outputShort : ℕ
-outputShort = 9
 
 -- a text written at the position, if there is room for all of it
 unfoldable pub textPut : List ℕ → ℕ → List ℕ → Passed

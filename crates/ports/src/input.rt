@@ -8,6 +8,8 @@ ghost use Rattle.ports.specs.Input.{lineAt, afterLine, byteTaken, number
 use super::Moved;
 use super::Taken;
 use super::has_room;
+use codes::stops::INPUT_END;
+use codes::stops::MEMORY_END;
 
 // The end of the line at a position: its LF, or the input's end.
 fn line_end(input: &[u8], at: usize) -> usize
@@ -38,7 +40,7 @@ pub fn take_byte(input: &[u8], at: usize) -> Taken
     if at < input.len() {
         Taken::Value(input[at] as u16, at + 1)
     } else {
-        Taken::NoValue(8)
+        Taken::NoValue(INPUT_END)
     }
 }
 
@@ -47,7 +49,7 @@ pub fn take_number(input: &[u8], at: usize) -> Taken
     ensures { λ r. ⌜ r ≡ numberTaken (now (input .entry)) at ⌝ }
 {
     if input.len() <= at {
-        return Taken::NoValue(8);
+        return Taken::NoValue(INPUT_END);
     }
     let end = line_end(input, at);
     let x = numerals::reading::line_number(&input[at..end]);
@@ -72,7 +74,7 @@ pub fn take_string(m: &mut [u16], to: u16, input: &[u8], at: usize) -> Moved
     ensures { λ r. ⌜ passed r (now (m .exit)) ≡ stringTaken (now (m .entry)) to (now (input .entry)) at ⌝ }
 {
     if input.len() <= at {
-        return Moved::Short(8);
+        return Moved::Short(INPUT_END);
     }
     let end = line_end(input, at);
     let n = end - at;
@@ -81,5 +83,5 @@ pub fn take_string(m: &mut [u16], to: u16, input: &[u8], at: usize) -> Moved
         fill(m, first, input, at, n);
         return Moved::To(after(input, at, end));
     }
-    Moved::Short(5)
+    Moved::Short(MEMORY_END)
 }

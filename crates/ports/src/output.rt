@@ -8,6 +8,8 @@ ghost use Rattle.ports.specs.Input.{passed};
 ghost use Rattle.ports.specs.Output.{lowByte, stringOf, textPut, bytePut, numberPut, stringPut};
 use super::Moved;
 use super::has_room;
+use codes::stops::MEMORY_END;
+use codes::stops::OUTPUT_SHORT;
 
 // WRCHAR: the low byte.
 pub fn put_byte(out: &mut [u8], at: usize, x: u16) -> Moved
@@ -17,7 +19,7 @@ pub fn put_byte(out: &mut [u8], at: usize, x: u16) -> Moved
         out[at] = (x % 256) as u8;
         return Moved::To(at + 1);
     }
-    Moved::Short(9)
+    Moved::Short(OUTPUT_SHORT)
 }
 
 // A whole text, for which there is room.
@@ -40,7 +42,7 @@ pub fn put_text(out: &mut [u8], at: usize, text: &[u8]) -> Moved
         copy(out, at, text);
         return Moved::To(at + text.len());
     }
-    Moved::Short(9)
+    Moved::Short(OUTPUT_SHORT)
 }
 
 // WRINT: the signed decimal.
@@ -86,12 +88,12 @@ pub fn put_string(out: &mut [u8], at: usize, m: &[u16], from: u16) -> Moved
     let first = from as usize;
     let end = zero_at(m, first);
     if m.len() <= end {
-        return Moved::Short(5);
+        return Moved::Short(MEMORY_END);
     }
     let n = end - first;
     if has_room(out.len(), at, n) {
         print(out, at, m, first, n);
         return Moved::To(at + n);
     }
-    Moved::Short(9)
+    Moved::Short(OUTPUT_SHORT)
 }

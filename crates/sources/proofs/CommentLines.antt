@@ -25,7 +25,7 @@ use Rattle.statements.specs.declared.StatementRead.{StatementRead}
 use Rattle.statements.specs.declared.StatementRead.the-variants.{Passes, Fails}
 use Rattle.statements.proofs.Labelling.{never}
 use Rattle.statements.proofs.Spacing.{ReadAlike, end-read}
-use Rattle.sources.specs.Limits.{longestSource}
+use Rattle.codes.specs.Limits.{longestSource}
 use Rattle.sources.specs.Placing.{does, Bound, Place, start, Judged, acted, after, bindings}
 use Rattle.sources.specs.Uses.{Use, useBy, useOf, usesBy, usesRead}
 use Rattle.sources.specs.Order.{_on_}

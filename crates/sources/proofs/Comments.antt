@@ -18,7 +18,8 @@ use Rattle.tokens.proofs.Spacing.{Over}
 use Rattle.tokens.proofs.Respacing.{NoStray, line-itself, comment-added}
 use Rattle.values.specs.declared.LabelIn.{LabelIn}
 use Rattle.values.proofs.Spacing.{none, some}
-use Rattle.expressions.specs.Trees.{Tree, depth, deepest}
+use Rattle.codes.specs.Limits.{deepest}
+use Rattle.expressions.specs.Trees.{Tree, depth}
 use Rattle.expressions.specs.Worths.{worthOf}
 use Rattle.expressions.specs.declared.Worth.{Worth}
 use Rattle.expressions.specs.declared.Worth.the-variants as E
@@ -39,7 +40,7 @@ use Rattle.statements.specs.declared.StatementRead.the-variants.{Passes, Fails}
 use Rattle.statements.proofs.Labelling.{never}
 use Rattle.statements.proofs.Spacing.{ReadAlike, alike-read}
 use Rattle.statements.proofs.Top.{says-exactly}
-use Rattle.sources.specs.Limits.{mostCells, longestSource}
+use Rattle.codes.specs.Limits.{mostCells, longestSource}
 use Rattle.sources.specs.Placing.{doesRead, Place, start, labelled, after}
 use Rattle.sources.specs.Order.{Refusal, _on_}
 use Rattle.sources.specs.Inner.Assembling.{Verdict, passes, refused, firstOf, andThen, readLine, endsIt, upToEnd, loanVerdict, labelVerdict, ownVerdict, actVerdict, lineVerdict, walkLines, workOf, verdictOf, lateVerdict, memoryOf, assembledBy, accepted, assembleOf}

@@ -19,7 +19,8 @@ use Rattle.isa.specs.declared.Operand.the-variants as O
 use Rattle.tokens.specs.Reading.{tokensFrom}
 use Rattle.values.specs.declared.LabelIn.{LabelIn}
 use Rattle.values.specs.declared.LabelIn.the-variants as L
-use Rattle.expressions.specs.Trees.{Tree, depth, deepest}
+use Rattle.codes.specs.Limits.{deepest}
+use Rattle.expressions.specs.Trees.{Tree, depth}
 use Rattle.expressions.specs.Worths.{worthOf}
 use Rattle.expressions.specs.declared.Worth.{Worth}
 use Rattle.expressions.specs.declared.Worth.the-variants as E
@@ -45,7 +46,7 @@ use Rattle.statements.specs.declared.StatementRead.the-variants.{Passes, Fails}
 use Rattle.statements.proofs.Labelling.{never}
 use Rattle.statements.proofs.Passing.{instruction-from}
 use Rattle.statements.proofs.Top as statements
-use Rattle.sources.specs.Limits.{free}
+use Rattle.codes.specs.Marks.{free}
 use Rattle.sources.specs.Placing.{does, movedBy, Bound}
 use Rattle.sources.specs.Uses.{Use, useBy, useOf, secondCell, usesBy}
 use Rattle.sources.specs.Image.{wordBy, wordIn, codeOf, codeRead, givenBy}

@@ -9,7 +9,7 @@ use lib.ListN.{length, getD, replicate, set, length-set, length-replicate}
 use lib.Seq.{sets, getD-set-other}
 use borrow.Author.Tests.{ne-eqb}
 use Rattle.statements.specs.Judging.{judged}
-use Rattle.sources.specs.Limits.{free, codeMark, dataMark}
+use Rattle.codes.specs.Marks.{free, codeMark, dataMark}
 use Rattle.sources.specs.Sources.{Said}
 use Rattle.sources.specs.Placing.{doesRead, Bound, Place, start, acted, judgedLine, after, placeAfter, placeOf, bindings}
 use Rattle.sources.specs.Order.{Passed}

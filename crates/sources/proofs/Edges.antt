@@ -6,7 +6,7 @@ use mathlib.Core.List.{List, [], _∷_}
 use mathlib.Core.Path.{_≡_, refl, ap}
 use lib.Dec.{ltb}
 use lib.ListN.{length, replicate, length-replicate}
-use Rattle.sources.specs.Limits.{longestSource}
+use Rattle.codes.specs.Limits.{longestSource}
 use Rattle.sources.specs.Placing.{Place, names, act}
 use Rattle.sources.specs.Uses.{known, plainly, from, countedWord, same}
 use Rattle.sources.specs.Order.{_on_}

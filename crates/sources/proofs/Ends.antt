@@ -9,7 +9,8 @@ use lib.ListN.{length}
 use mir.Syntax.{w16}
 use mir.Val.{ofZ}
 use Rattle.isa.specs.declared.Opcode.{Opcode}
-use Rattle.expressions.specs.Trees.{Tree, depth, deepest}
+use Rattle.codes.specs.Limits.{deepest}
+use Rattle.expressions.specs.Trees.{Tree, depth}
 use Rattle.expressions.specs.Worths.{worthOf}
 use Rattle.expressions.specs.declared.Worth.{Worth}
 use Rattle.expressions.specs.declared.Worth.the-variants as E

@@ -12,7 +12,7 @@ use Rattle.statements.specs.Judging.{judged}
 use Rattle.statements.specs.declared.StatementRead.{StatementRead}
 use Rattle.statements.specs.declared.StatementRead.the-variants.{Passes}
 use Rattle.statements.proofs.Top as statements
-use Rattle.sources.specs.Limits.{free}
+use Rattle.codes.specs.Marks.{free}
 use Rattle.sources.specs.Sources.{Said, UpToEnd, over, ends, more}
 use Rattle.sources.specs.Placing.{does, doesRead, movedBy, Bound, Place, start, acted, Judged, judgedLine, after, placeOf, nextFrom, bindings}
 use Rattle.sources.specs.Uses.{valueOf, Use, usesBy, usesRead, usesOf, countedWord}

@@ -12,7 +12,7 @@ use borrow.Author.Tests.{ltb-true, ltb-false}
 use Rattle.statements.specs.FirstFailing.{Pass}
 use Rattle.statements.specs.Statements.{Says}
 use Rattle.statements.specs.Judging.{judged}
-use Rattle.sources.specs.Limits.{free}
+use Rattle.codes.specs.Marks.{free}
 use Rattle.sources.specs.Sources.{Said}
 use Rattle.sources.specs.Placing.{doesRead, Bound, Place, start, acted, judgedLine, after, placeAfter, placeOf, nextFrom, bindings}
 use Rattle.sources.specs.Order.{lineChecks, Passed}

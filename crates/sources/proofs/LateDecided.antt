@@ -5,7 +5,7 @@ use mathlib.Core.List.{List, [], _∷_, _++_}
 use lib.Dec.{eqb, ltb}
 use lib.ListN.{length}
 use Rattle.statements.specs.FirstFailing.{Pass}
-use Rattle.sources.specs.Limits.{mostCells, longestSource}
+use Rattle.codes.specs.Limits.{mostCells, longestSource}
 use Rattle.sources.specs.Placing.{Bound, Place, bindings}
 use Rattle.sources.specs.Uses.{valueOf, Use}
 use Rattle.sources.specs.Order.{_on_, loanChecks, endChecks, useChecks}

@@ -19,7 +19,7 @@ use Rattle.statements.specs.declared.StatementRead.{StatementRead}
 use Rattle.statements.specs.declared.StatementRead.the-variants.{Passes, Fails}
 use Rattle.statements.proofs.Top as Lines
 use Rattle.statements.proofs.Labelling.{never}
-use Rattle.sources.specs.Limits.{mostLabels, longestLabel}
+use Rattle.codes.specs.Limits.{mostLabels, longestLabel}
 use Rattle.sources.specs.Sources.{spelled}
 use Rattle.sources.specs.Placing.{does, doesRead, Place, names, labelled}
 use Rattle.sources.specs.Order.{Refusal, _on_, LabelOut, ReservesTooFar, PastEnd, ClaimedTwice, OfLabel, OfAct, lineChecks}

@@ -17,7 +17,7 @@ use Rattle.statements.specs.declared.Statement.{Statement}
 use Rattle.statements.specs.declared.StatementRead.{StatementRead}
 use Rattle.statements.specs.declared.StatementRead.the-variants.{Passes}
 use Rattle.statements.proofs.Top as Lines
-use Rattle.sources.specs.Limits.{free}
+use Rattle.codes.specs.Marks.{free}
 use Rattle.sources.specs.Placing.{does, Place}
 use Rattle.sources.specs.Order.{ClaimedTwice, PastEnd, lineChecks}
 

@@ -39,7 +39,7 @@ use Rattle.statements.specs.declared.StatementRead.{StatementRead}
 use Rattle.statements.specs.declared.StatementRead.the-variants.{Passes}
 use Rattle.statements.proofs.Spacing.{placeless, AlikeStatement, instruction, other, fails, ReadAlike, signless, alike-read, signless-read, end-read}
 use Rattle.statements.proofs.Top.{read-judged}
-use Rattle.sources.specs.Limits.{longestSource}
+use Rattle.codes.specs.Limits.{longestSource}
 use Rattle.sources.specs.Placing.{does, doesRead, Place, start, labelIn, labelled, after}
 use Rattle.sources.specs.Uses.{useBy, useOf, usesBy, usesRead}
 use Rattle.sources.specs.Inner.Assembling.{readLine, endsIt, upToEnd, loanVerdict, labelVerdict, ownVerdict, lineVerdict, walkLines, rawRead, Work, startWork, worked, workAfter, verdictOf, assembleOf}

@@ -9,7 +9,8 @@ use lib.Dec.{eqb, leb, ltb}
 use lib.ListN.{length, getD}
 use borrow.Author.Tests.{ltb-true, leb-true, eqb-true, lt-ltb, le-leb, eq-eqb, eqb-false}
 use Rattle.statements.proofs.Labelling.{never}
-use Rattle.sources.specs.Limits.{mostCells, free}
+use Rattle.codes.specs.Limits.{mostCells}
+use Rattle.codes.specs.Marks.{free}
 use Rattle.sources.specs.Placing.{Place}
 use Rattle.sources.specs.Uses.{Value, known, unknown, same, Counted, plainly, from}
 use Rattle.sources.specs.Order.{LabelOut, ReservesTooFar, PastEnd, TooFar}

@@ -14,7 +14,8 @@ use Rattle.names.specs.declared.Word.the-variants as W
 use Rattle.statements.specs.Statements.{HasWord}
 use Rattle.statements.specs.FirstFailing.{Pass}
 use Rattle.statements.proofs.Labelling.{never}
-use Rattle.sources.specs.Limits.{longestSource, codeMark, dataMark}
+use Rattle.codes.specs.Limits.{longestSource}
+use Rattle.codes.specs.Marks.{codeMark, dataMark}
 use Rattle.sources.specs.Sources.{Said, SourceText}
 use Rattle.sources.specs.Placing.{Judged, judgedLine}
 use Rattle.sources.specs.Order.{Refusal, loanChecks, FirstFailing, Passing}

@@ -18,7 +18,7 @@ use Rattle.operands.specs.declared.InstructionRead.{InstructionRead}
 use Rattle.operands.specs.declared.InstructionRead.the-variants as I
 use Rattle.items.specs.Items.{cellsOf}
 use Rattle.statements.specs.Statements.{Reading, nothing, instruction, org, equ, res, cells, end}
-use Rattle.sources.specs.Limits.{free}
+use Rattle.codes.specs.Marks.{free}
 use Rattle.sources.specs.Sources.{spelled, Said}
 use Rattle.sources.specs.Placing.{Bound, judgedLine, doesRead, nextFrom, placeOf, bindings}
 use Rattle.sources.specs.Uses.{valueOf, countedFor, countedWord}

@@ -2,7 +2,6 @@
 -- does to address, labels and map, Uses.antt the labels that operands name, Order.antt the list of checks and the first that fails,
 -- Image.antt the cells that an accepted source leaves. Below `Inner`: the same as a function, which the inner functions of the crates above
 -- cite; `proofs/Top.antt` shows that it accepts and refuses exactly as Order.antt and Image.antt say.
-pub mod Limits
 pub mod Sources
 pub mod Placing
 pub mod Uses

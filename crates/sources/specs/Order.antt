@@ -13,7 +13,8 @@ use Rattle.statements.specs.Checks.{OfReading, Unfit, TooDeep, NumberOut, ZeroD
 use Rattle.statements.specs.Judging.{judged}
 use Rattle.statements.specs.declared.Statement.{Statement}
 use Rattle.statements.specs.declared.StatementRead.the-variants.{Passes}
-use Rattle.sources.specs.Limits.{mostCells, longestSource, mostLabels, longestLabel, free}
+use Rattle.codes.specs.Limits.{mostCells, longestSource, mostLabels, longestLabel}
+use Rattle.codes.specs.Marks.{free}
 use Rattle.sources.specs.Sources.{spelled, Said, SourceText, Before}
 use Rattle.sources.specs.Placing.{does, Bound, Place, start, names, labelled, judgedLine, after, placeOf, bindings}
 use Rattle.sources.specs.Uses.{known, unknown, valueOf, Counted, plainly, from, Use, usesOf}

@@ -11,7 +11,7 @@ use Rattle.statements.specs.declared.Statement.{Statement}
 use Rattle.statements.specs.declared.Statement.the-variants.{Nothing, Instruction, Org, Equ, Res, Data, End}
 use Rattle.statements.specs.declared.StatementRead.{StatementRead}
 use Rattle.statements.specs.declared.StatementRead.the-variants.{Passes, Fails}
-use Rattle.sources.specs.Limits.{free, codeMark, dataMark}
+use Rattle.codes.specs.Marks.{free, codeMark, dataMark}
 use Rattle.sources.specs.Sources.{Said, spelled}
 use Rattle.sources.specs.declared.Act.{Act}
 use Rattle.sources.specs.declared.Gives.{Gives}

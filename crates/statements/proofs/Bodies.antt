@@ -16,7 +16,8 @@ use Rattle.isa.specs.declared.Opcode.{Opcode}
 use Rattle.names.specs.Names.{wordOf}
 use Rattle.names.specs.declared.Word.{Word}
 use Rattle.names.specs.declared.Word.the-variants as W
-use Rattle.expressions.specs.Trees.{Tree, depth, deepest, Expression}
+use Rattle.codes.specs.Limits.{deepest}
+use Rattle.expressions.specs.Trees.{Tree, depth, Expression}
 use Rattle.expressions.specs.Worths.{worthOf}
 use Rattle.expressions.specs.Reading.{expressionRead}
 use Rattle.expressions.specs.Reading as Expressions

@@ -15,7 +15,8 @@ use Rattle.numerals.specs.declared.Kept.{Kept}
 use Rattle.numerals.specs.declared.Kept.the-variants as N
 use Rattle.isa.specs.declared.Opcode.{Opcode}
 use Rattle.isa.proofs.Top.{few-operands}
-use Rattle.expressions.specs.Trees.{Tree, depth, deepest}
+use Rattle.codes.specs.Limits.{deepest}
+use Rattle.expressions.specs.Trees.{Tree, depth}
 use Rattle.expressions.specs.Worths.{worthOf}
 use Rattle.expressions.specs.declared.Worth.{Worth}
 use Rattle.expressions.specs.declared.Worth.the-variants as E

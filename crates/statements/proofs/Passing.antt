@@ -13,7 +13,8 @@ use Rattle.isa.specs.Encoding.{wordsOf}
 use Rattle.isa.specs.declared.Opcode.{Opcode}
 use Rattle.tokens.specs.Reading.{tokensFrom}
 use Rattle.values.proofs.Within.{LabelWithin}
-use Rattle.expressions.specs.Trees.{Tree, depth, deepest}
+use Rattle.codes.specs.Limits.{deepest}
+use Rattle.expressions.specs.Trees.{Tree, depth}
 use Rattle.expressions.specs.Worths.{worthOf}
 use Rattle.expressions.specs.declared.Worth.{Worth}
 use Rattle.expressions.specs.declared.Worth.the-variants as E

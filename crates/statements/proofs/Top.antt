@@ -17,7 +17,8 @@ use Rattle.values.specs.declared.LabelIn.{LabelIn}
 use Rattle.values.specs.declared.LabelIn.the-variants.{Absent, Named}
 use Rattle.values.specs.declared.Name.{Name}
 use Rattle.values.proofs.Within.{LabelWithin}
-use Rattle.expressions.specs.Trees.{Tree, depth, deepest}
+use Rattle.codes.specs.Limits.{deepest}
+use Rattle.expressions.specs.Trees.{Tree, depth}
 use Rattle.expressions.specs.Worths.{worthOf}
 use Rattle.expressions.specs.Reading as Expressions
 use Rattle.expressions.specs.declared.ExpressionRead.{ExpressionRead}

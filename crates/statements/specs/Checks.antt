@@ -8,7 +8,8 @@ use lib.IntN.{ℤ, pos, negsuc}
 use lib.Signed.{leZ}
 use Rattle.numerals.specs.declared.Kept.the-variants as N
 use Rattle.values.specs.declared.LabelIn.{LabelIn}
-use Rattle.expressions.specs.Trees.{Tree, depth, deepest}
+use Rattle.codes.specs.Limits.{deepest}
+use Rattle.expressions.specs.Trees.{Tree, depth}
 use Rattle.expressions.specs.Worths.{worthOf}
 use Rattle.expressions.specs.declared.Worth.the-variants as E
 use Rattle.operands.specs.Checks.{fits, operandAt, wordOf}

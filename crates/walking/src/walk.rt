@@ -18,6 +18,7 @@ use super::Lines;
 use super::Walked;
 use super::noting::note_statement;
 use super::writing::write_statement;
+use codes::limits::MOST_CELLS;
 use isa::Address;
 use placing::Counters;
 use placing::Did;
@@ -122,7 +123,7 @@ fn is_late(waiting: usize, at: usize) -> bool
     if waiting == 0 {
         return false;
     }
-    at >= 65536
+    at >= MOST_CELLS
 }
 
 // All lines pass and every label is bound, or the first refusal: "65,536 is 6 .., or the last line for labels bound at the source's end".

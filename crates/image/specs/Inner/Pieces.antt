@@ -8,7 +8,8 @@ use lib.ListN.{length}
 use Rattle.numerals.specs.Bytes.{bytes}
 use Rattle.numerals.specs.Writing.{decimal}
 use Rattle.ports.specs.Overwriting.{overwrite}
-use Rattle.image.specs.Image.{free, kind, cellLine, cellLines, LF, textOf}
+use Rattle.codes.specs.Marks.{free}
+use Rattle.image.specs.Image.{kind, cellLine, cellLines, LF, textOf}
 
 -- a cell's line with its LF, and nothing for a free cell
 unfoldable pub piece : ℕ → ℕ → ℕ → List ℕ

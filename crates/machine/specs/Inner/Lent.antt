@@ -3,7 +3,8 @@ use Prim.Native.Nat.{ℕ}
 use mathlib.Core.Bool.{Bool, true, false, cond}
 use mathlib.Core.List.{List}
 use Rattle.machine.specs.States.{State, state, machine}
-use Rattle.machine.specs.Stops.{none, isStored, Answer, answer}
+use Rattle.codes.specs.Stops.{none}
+use Rattle.machine.specs.Stops.{isStored, Answer, answer}
 use Rattle.machine.specs.declared.Inner.{Inner}
 
 -- a machine that runs

@@ -8,7 +8,7 @@ use lib.Dec.{eqb}
 use Rattle.numerals.specs.declared.Cursor.{Cursor}
 use Rattle.isa.specs.Opcodes.{table, countOf}
 use Rattle.isa.specs.Operands.{allows}
-use Rattle.isa.specs.Registers.{isRegister}
+use Rattle.codes.specs.Registers.{isRegister}
 use Rattle.isa.specs.declared.Opcode.{Opcode}
 use Rattle.tokens.specs.Reading.{tokensFrom}
 use Rattle.tokens.specs.declared.Kind.{Kind}

@@ -5,7 +5,7 @@ use Prim.Native.Char.{code}
 use mathlib.Core.Bool.{cond}
 use mathlib.Core.List.{List, [], _∷_}
 use lib.Dec.{eqb}
-use Rattle.isa.specs.Registers.{IX, IY, SP, isRegister}
+use Rattle.codes.specs.Registers.{IX, IY, SP, isRegister}
 use Rattle.names.specs.Names.{registerCode}
 use Rattle.tokens.specs.Marks.{onMark, only}
 use Rattle.tokens.specs.Commas.{atComma, onComma}

@@ -6,7 +6,7 @@ use mathlib.Core.Path.{_≡_}
 use lib.Dec.{ltb}
 use lib.ListN.{take, drop}
 use Rattle.labels.specs.Labels.{words, zipped}
-use Rattle.sources.specs.Limits.{mostCells, mostLabels}
+use Rattle.codes.specs.Limits.{mostCells, mostLabels}
 use Rattle.sources.specs.Placing.{Place}
 use Rattle.sources.specs.Order.{_on_}
 use Rattle.sources.specs.Inner.Assembling.{Verdict, passes, refused}

@@ -18,7 +18,8 @@ use Rattle.statements.specs.declared.Statement.{Statement}
 use Rattle.statements.specs.declared.Statement.the-variants.{Nothing, Instruction, Org, Equ, Res, Data, End}
 use Rattle.statements.specs.declared.StatementRead.{StatementRead}
 use Rattle.statements.specs.declared.StatementRead.the-variants.{Passes, Fails}
-use Rattle.sources.specs.Limits.{mostCells, longestSource, mostLabels, longestLabel, free}
+use Rattle.codes.specs.Limits.{mostCells, longestSource, mostLabels, longestLabel}
+use Rattle.codes.specs.Marks.{free}
 use Rattle.sources.specs.Sources.{spelled}
 use Rattle.sources.specs.Placing.{doesRead, Bound, Place, start, names, labelled, Judged, after, bindings}
 use Rattle.sources.specs.Uses.{Value, known, unknown, same, valueOf, Counted, plainly, from, Use, usesRead, countedWord}

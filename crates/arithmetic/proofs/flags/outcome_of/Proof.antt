@@ -1,5 +1,4 @@
 -- Each flag is its bit times what it counts for; five bits of at most 1 leave the sum below 32.
-use native.Mathlib.Nat.{mul-one}
 use borrow.Author.Needs.{needs}
 use Rattle.arithmetic.specs.Flags.{flagsOf}
 use Rattle.arithmetic.specs.Operations.{outcome}
@@ -9,11 +8,14 @@ use Rattle.arithmetic.proofs.flags.outcome_of.Tie as tie
 bit-of-requires : tie.Need-bit-of-requires
 bit-of-requires c κs = search needs
 
+mul-flags : tie.Need-mul-flags
+mul-flags c = search needs
+
 bit-of-requires-2 : tie.Need-bit-of-requires-2
 bit-of-requires-2 c κs = search needs
 
-mul-flags : tie.Need-mul-flags
-mul-flags c = search needs
+mul-flags-2 : tie.Need-mul-flags-2
+mul-flags-2 c = search needs
 
 add-flags : tie.Need-add-flags
 add-flags c = search needs
@@ -21,8 +23,8 @@ add-flags c = search needs
 bit-of-requires-3 : tie.Need-bit-of-requires-3
 bit-of-requires-3 c κs = search needs
 
-mul-flags-2 : tie.Need-mul-flags-2
-mul-flags-2 c = search needs
+mul-flags-3 : tie.Need-mul-flags-3
+mul-flags-3 c = search needs
 
 add-flags-2 : tie.Need-add-flags-2
 add-flags-2 c = search needs
@@ -30,8 +32,8 @@ add-flags-2 c = search needs
 bit-of-requires-4 : tie.Need-bit-of-requires-4
 bit-of-requires-4 c κs = search needs
 
-mul-flags-3 : tie.Need-mul-flags-3
-mul-flags-3 c = search needs
+mul-flags-4 : tie.Need-mul-flags-4
+mul-flags-4 c = search needs
 
 add-flags-3 : tie.Need-add-flags-3
 add-flags-3 c = search needs
@@ -39,8 +41,8 @@ add-flags-3 c = search needs
 bit-of-requires-5 : tie.Need-bit-of-requires-5
 bit-of-requires-5 c κs = search needs
 
-mul-flags-4 : tie.Need-mul-flags-4
-mul-flags-4 c = search needs
+mul-flags-5 : tie.Need-mul-flags-5
+mul-flags-5 c = search needs
 
 add-flags-4 : tie.Need-add-flags-4
 add-flags-4 c = search needs
@@ -54,7 +56,6 @@ returns c =
       c .before .before .bit-of3 .ensures .0,
       c .before .bit-of4 .ensures .0,
       c .bit-of5 .ensures .0,
-      mul-one,
     )
 
 pub outcome-of-spec : {M : Type 1} → statement M
@@ -62,16 +63,17 @@ outcome-of-spec =
     tie.close
     (tie.spec
     bit-of-requires
-    bit-of-requires-2
     mul-flags
+    bit-of-requires-2
+    mul-flags-2
     add-flags
     bit-of-requires-3
-    mul-flags-2
+    mul-flags-3
     add-flags-2
     bit-of-requires-4
-    mul-flags-3
+    mul-flags-4
     add-flags-3
     bit-of-requires-5
-    mul-flags-4
+    mul-flags-5
     add-flags-4
     returns)

@@ -1,0 +1,11 @@
+-- "A map of M bytes marks each cell: 0 free, 1 code, 2 data" (01, "What is lent").
+use Prim.Native.Nat.{ℕ}
+
+abbrev pub free : ℕ
+free = 0
+
+abbrev pub codeMark : ℕ
+codeMark = 1
+
+abbrev pub dataMark : ℕ
+dataMark = 2
