@@ -2,10 +2,10 @@
 use native.Mathlib.Omega.{arith}
 use lib.ListN.{length-append}
 use Rattle.numerals.specs.Writing.{decimal}
-use Rattle.image.proofs.Rooms.{places, places-start, wrote-field}
+use Rattle.texts.proofs.Rooms.{places, places-start, wrote-field}
 use borrow.Author.Needs.{needs}
-use Rattle.image.proofs.lines.field.Statement.{statement}
-use Rattle.image.proofs.lines.field.Tie as tie
+use Rattle.texts.proofs.writing.field.Statement.{statement}
+use Rattle.texts.proofs.writing.field.Tie as tie
 
 put-text-requires : tie.Need-put-text-requires
 put-text-requires c κs = search needs
