@@ -65,7 +65,9 @@ fn a_rule_is_run_and_its_record_told() {
     let halts = format!("stop=1\nsteps=9\n{}taken=2\nwritten=2\n", registers(46, 33, 10));
     assert_eq!(ran(&[], "a."), (Some(0), "a.".to_string(), halts));
     let spent = format!("stop=7\nsteps=2\n{}taken=1\nwritten=1\n", registers(97, 0, 4));
-    assert_eq!(ran(&["2"], "a."), (Some(3), "a".to_string(), spent));
+    assert_eq!(ran(&["2"], "a."), (Some(3), "a".to_string(), spent.clone()));
+    assert_eq!(ran(&["0002"], "a."), (Some(3), "a".to_string(), spent));
+    assert!(ran(&["0"], "a.").2.starts_with("stop=7\nsteps=0\nA=0\n"));
     let ended = format!("stop=8\nsteps=0\n{}taken=0\nwritten=0\n", registers(0, 0, 0));
     assert_eq!(ran(&["1000000"], ""), (Some(3), String::new(), ended));
     for budget in ["1000001", "-1", "x", "", "0x10"] {
