@@ -4,7 +4,7 @@
 
 use second::case::{self, Case};
 use second::{answer, count, make, program, show, speed};
-use std::io::{self, BufRead, BufWriter, Write};
+use std::io::{self, BufRead, BufWriter, Read, Write};
 use std::process::ExitCode;
 
 const USAGE: &str = "usage:
@@ -12,6 +12,7 @@ const USAGE: &str = "usage:
   second make KIND COUNT SEED > cases
       KIND: assemble encode decode step run print machine all line
   second assemble M FILE
+  second run M FILE [BUDGET] < input > output 2> record
   second count < cases
   second show < cases
   second bench LABELS > source
@@ -27,6 +28,11 @@ fn main() -> ExitCode {
         ["answer"] => answer_all(),
         ["make", kind, count, seed] => make_all(kind, count, seed),
         ["assemble", cells, _] => assemble_file(cells),
+        ["run", cells, _] => run_file(cells, program::USUAL_BUDGET),
+        ["run", cells, _, steps] => match program::budget(steps) {
+            Some(steps) => run_file(cells, steps),
+            None => Err(USAGE.to_string()),
+        },
         ["count"] => count_all(),
         ["show"] => for_each_case(|case, out| write!(out, "{}", show::show(case))),
         ["bench", labels @ ("20" | "500")] => {
@@ -109,10 +115,10 @@ fn speed_all(wanted: impl Fn(&str) -> bool) -> Done {
     Ok(ExitCode::SUCCESS)
 }
 
-/// Prints a text and ends with a code.
-fn put(text: &str, code: ExitCode) -> Done {
+/// Prints bytes and ends with a code.
+fn put(bytes: impl AsRef<[u8]>, code: ExitCode) -> Done {
     let mut out = io::stdout().lock();
-    out.write_all(text.as_bytes()).and_then(|()| out.flush()).map_err(failed)?;
+    out.write_all(bytes.as_ref()).and_then(|()| out.flush()).map_err(failed)?;
     Ok(code)
 }
 
@@ -129,16 +135,45 @@ fn make_all(kind: &str, count: &str, seed: &str) -> Done {
     Ok(ExitCode::SUCCESS)
 }
 
-/// M is judged before the file is opened. The file's name is taken as the system gave it.
+/// The bytes of the file that the third word names, as the system gave it.
+fn source() -> Result<Vec<u8>, String> {
+    std::fs::read(std::env::args_os().nth(3).unwrap_or_default()).map_err(failed)
+}
+
+/// M is judged before the file is opened.
 fn assemble_file(cells: &str) -> Done {
     let cells = match program::memory_size(cells) {
         Some(cells) => cells,
         None => return put(&program::bad_size_text(), ExitCode::FAILURE),
     };
-    let file = std::env::args_os().nth(3).unwrap_or_default();
-    let source = std::fs::read(&file).map_err(failed)?;
-    match program::assemble_text(cells, &source) {
+    match program::assemble_text(cells, &source()?) {
         Ok(text) => put(&text, ExitCode::SUCCESS),
+        Err(text) => put(&text, ExitCode::FAILURE),
+    }
+}
+
+/// Runs a rule on the standard input; the record goes to standard error. 3 is any stop but HALT.
+fn run_file(cells: &str, steps: u32) -> Done {
+    let cells = match program::memory_size(cells) {
+        Some(cells) => cells,
+        None => return put(&program::bad_size_text(), ExitCode::FAILURE),
+    };
+    let source = source()?;
+    let mut input = Vec::new();
+    io::stdin()
+        .lock()
+        .take(program::RUN_BYTES as u64 + 1)
+        .read_to_end(&mut input)
+        .map_err(failed)?;
+    if input.len() > program::RUN_BYTES {
+        return Err("second: more than 65536 bytes of input\n".to_string());
+    }
+    match program::run_rule(cells, &source, &input, steps) {
+        Ok(ran) => {
+            put(&ran.output, ExitCode::SUCCESS)?;
+            eprint!("{}", ran.record);
+            Ok(ExitCode::from(if ran.halted { 0 } else { 3 }))
+        }
         Err(text) => put(&text, ExitCode::FAILURE),
     }
 }

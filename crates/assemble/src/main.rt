@@ -1,13 +1,10 @@
 // `assemble FILE M`: assembles a file and prints its image, or `refused=` and `line=` (document 01, "The printed image"). A refusal is told
 // on standard error too, in one sentence; so is a file that cannot be read, and output that cannot be written. M is judged before the file
 // is opened. A program of this kit has no exit status of its own: the script `assemble` at the root gives one by what was printed.
-mod arguments; // FILE and M
-mod printing; // image or refusal, written out
-mod rooms; // what is lent
-mod source; // the file's bytes
-mod texts; // text in a room
+mod printing; // the image, written out
 
-use source::Loaded;
+use desk::refusals::print_refusal;
+use desk::rooms;
 use sources::Line;
 
 // Assembles a source at a size, and prints.
@@ -17,7 +14,7 @@ fn assemble_at(path: &[u8], text: &[u8], memory: &mut [u16], map: &mut [u8]) {
         printing::print_image(memory, map);
         return;
     }
-    printing::print_refusal(path, reply.refusal, reply.line);
+    print_refusal(path, reply.refusal, reply.line);
 }
 
 // Lends as many cells as M says.
@@ -33,40 +30,26 @@ fn assemble_text(path: &[u8], text: &[u8], size: usize) {
     assemble_at(path, text, &mut memory[..size], &mut map[..size]);
 }
 
-// A file that is open.
-fn assemble_open(path: &[u8], fd: i32, size: usize) {
-    let mut text = rooms::source();
-    let loaded = source::load(fd, &mut text);
-    libc::close(fd);
-    match loaded {
-        Loaded::Bytes(n) => {
-            if n <= text.len() {
-                assemble_text(path, &text[..n], size);
-            }
-        }
-        Loaded::Failed => os::fail(path),
-    }
-}
-
 fn assemble_file(path: &[u8], size: usize) {
-    let fd = os::open_read(path);
-    if fd < 0 {
-        os::fail(path);
+    let mut text = rooms::source();
+    let loaded = desk::source::read(path, &mut text);
+    if loaded.failed {
         return;
     }
-    assemble_open(path, fd, size);
+    let n = loaded.bytes;
+    assemble_text(path, &text[..n], size);
 }
 
 fn main() {
-    if !arguments::are_two() {
-        texts::usage();
+    if os::arg_count() != 3 {
+        io::write_all(2, b"usage: assemble FILE M\n");
         return;
     }
-    let size = arguments::size();
+    let size = desk::arguments::size();
     let mut path = io::buffer();
     let n = os::arg(1, &mut path);
     if size == 0 {
-        printing::print_refusal(&path[..n], 1, Line(0));
+        print_refusal(&path[..n], 1, Line(0));
         return;
     }
     if os::errno() != 0 {

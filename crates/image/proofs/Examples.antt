@@ -5,7 +5,8 @@ use mathlib.Core.List.{List, [], _∷_, _++_}
 use lib.ListN.{replicate}
 use Rattle.numerals.specs.Bytes.{bytes}
 use Rattle.numerals.specs.Writing.{decimalBefore, decimal}
-use Rattle.image.specs.Image.{cellLine, cellLines, claimed, textOf, imageText}
+use Rattle.texts.specs.Lines.{textOf}
+use Rattle.image.specs.Image.{cellLine, cellLines, claimed, imageText}
 use Rattle.image.specs.Printing.{Leaves, knownMarks, goodLoan, printed}
 
 -- what is left, by refusal, text's length and room

@@ -10,7 +10,7 @@ use Rattle.image.specs.Printing.{knownMarks, goodLoan, leaves, printed}
 use Rattle.image.specs.declared.Printed.the-variants.{Done, BadLoan, RoomShort}
 use Rattle.ports.specs.Overwriting.{overwrite}
 use Rattle.image.proofs.Texts.{both-true}
-use Rattle.image.proofs.Rooms.{overwrite-front}
+use Rattle.texts.proofs.Rooms.{overwrite-front}
 
 -- ---- loans
 

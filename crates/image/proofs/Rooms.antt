@@ -1,97 +1,18 @@
--- Writing one text after another into a room is writing both at once; and the places of a decimal are its text.
+-- Writing the cells one behind the other is writing their text at once.
 use mathlib.Core.Path.{_≡_, refl, sym, ap, _∙_}
-use mathlib.Core.List.{List, [], _∷_, _++_, append-assoc}
-use Prim.Native.Nat.{ℕ, _+_, _-_, _≤_, _<_}
-use native.Mathlib.Nat.{add-assoc}
+use mathlib.Core.List.{List, _++_}
+use Prim.Native.Nat.{ℕ, _+_, _≤_, _<_}
 use native.Mathlib.Omega.{arith}
-use borrow.Author.Tests.{le-leb}
-use lib.ListN.{length, getD, set, take, drop, length-append, length-drop}
-use lib.Seq.{take-all, take-at, drop-drop, length-take-le}
-use Rattle.numerals.specs.Writing.{decimal, written}
-use Rattle.numerals.specs.declared.Written.{Written}
-use Rattle.numerals.proofs.Filling.{written-text, length-decimal}
-use Rattle.image.specs.Image.{cellLines, claimed, headLines, textOf, imageText}
-use Rattle.image.specs.Inner.Pieces.{piece, cellsText, Wrote}
-use Rattle.image.proofs.Texts.{text-append, left, left-more, left-none, left-length}
+use lib.ListN.{length, getD}
 use Rattle.ports.specs.Overwriting.{overwrite}
-use Rattle.ports.specs.Input.{Passed, passed}
-use Rattle.ports.specs.Output.{textPut}
-use Rattle.ports.specs.declared.Moved.{Moved}
-use Rattle.ports.proofs.Outcomes.{text-put}
-use Rattle.ports.proofs.Overwrites.{overwrite-none, overwrite-length, overwrite-more, overwrite-after}
-
-module _ (xs : List ℕ) (at : ℕ) (ys : List ℕ) where
-  -- a text written behind another
-  pub overwrite-on : (zs : List ℕ) → at ≤ length xs → overwrite (overwrite xs at ys) (at + length ys) zs ≡ overwrite xs at (ys ++ zs)
-  unfolding overwrite
-  overwrite-on zs h =
-      let front : length (take at xs ++ ys) ≡ at + length ys = simp (length-append, length-take-le at xs h) in
-      let before : take (at + length ys) (overwrite xs at ys) ≡ take at xs ++ ys =
-      rw (← append-assoc (take at xs) ys) (take-at (take at xs ++ ys) _ _ front) in
-      let after : drop (at + length ys + length zs) (overwrite xs at ys) ≡ drop (at + length (ys ++ zs)) xs =
-      sym (drop-drop (length zs) (at + length ys) (overwrite xs at ys))
-      ∙ ap (drop (length zs)) (overwrite-after xs at ys h)
-      ∙ drop-drop (length zs) (at + length ys) xs
-      ∙ ap (λ (n : ℕ). drop n xs) (add-assoc at (length ys) (length zs) ∙ ap (λ (n : ℕ). at + n) (sym (length-append ys zs))) in
-      rw (before, after) (simp append-assoc)
-
-  -- in two steps
-  pub wrote-on : (zs : List ℕ) {mid after : List ℕ} {k next : ℕ} → at ≤ length xs → Wrote xs at ys mid k → Wrote mid k zs after next
-      → Wrote xs at (ys ++ zs) after next
-  wrote-on zs h w v =
-      (omega (arith, length-append ys zs), v .1 ∙ rw (w .1, w .0) (overwrite-on zs h))
-
-  -- and one byte more
-  pub wrote-byte : (b : ℕ) {mid : List ℕ} {k : ℕ} → at + length ys < length xs → Wrote xs at ys mid k
-      → Wrote xs at (ys ++ (b ∷ [])) (set mid k b) (k + 1)
-  wrote-byte b h w =
-      (omega (arith, length-append ys (b ∷ [])), rw (w .1, w .0) (overwrite-more xs at ys b h))
-
--- the same text by another name
-pub wrote-as : (xs : List ℕ) (at : ℕ) (ys zs : List ℕ) {after : List ℕ} {next : ℕ} → ys ≡ zs → Wrote xs at ys after next → Wrote xs at zs after next
-wrote-as xs at ys zs e w = (omega (arith, w .0, ap length e), w .1 ∙ ap (overwrite xs at) e)
-
--- a room keeps its length
-pub wrote-length : (xs : List ℕ) (at : ℕ) (ys : List ℕ) {after : List ℕ} {next : ℕ} → at + length ys ≤ length xs → Wrote xs at ys after next
-    → length after ≡ length xs
-wrote-length xs at ys h w = ap length (w .1) ∙ overwrite-length xs at ys h
-
--- a text that fits is written
-put-row : (xs : List ℕ) (at : ℕ) (ys : List ℕ) {after : List ℕ} {r : Moved} → at + length ys ≤ length xs → passed r after ≡ textPut xs at ys
-    → after ≡ overwrite xs at ys
-put-row xs at ys h e = ap (λ (p : Passed). p .row) (e ∙ text-put xs at ys (le-leb (at + length ys) (length xs) h))
-
--- nothing written
-pub wrote-none : (xs : List ℕ) (at : ℕ) → Wrote xs at [] xs at
-wrote-none xs at = (omega arith, sym (overwrite-none xs at))
-
--- at the head of a room
-pub overwrite-front : (xs ys : List ℕ) → overwrite xs 0 ys ≡ ys ++ drop (length ys) xs
-unfolding overwrite
-overwrite-front xs ys = let e : 0 + length ys ≡ length ys = omega arith in ap (λ (n : ℕ). ys ++ drop n xs) e
-
--- a decimal's places, from its start on, are its text
-module _ {w : Written} (n : ℕ) (is : w ≡ written (decimal n)) where
-  pub places : (drop (w .start) (w .bytes) ≡ decimal n) × (length (w .bytes) ≡ 11)
-  places = rw is (written-text (decimal n) (omega (arith, length-decimal n)))
-
-  pub places-start : (w .start ≤ 11) × (11 - w .start ≡ length (decimal n))
-  places-start = omega (arith, places .1, ap length (places .0), length-drop (w .start) (w .bytes), length-decimal n)
-
-  pub places-text : take (11 - w .start) (drop (w .start) (w .bytes)) ≡ decimal n
-  places-text = rw (places .0) (take-all (11 - w .start) (decimal n) (omega (arith, places-start .1)))
-
-  -- a text and a decimal behind it
-  pub wrote-field : (xs : List ℕ) (at : ℕ) (text : List ℕ) {mid after : List ℕ} {r s : Moved} → at + length (text ++ decimal n) ≤ length xs
-      → passed r mid ≡ textPut xs at text
-      → passed s after ≡ textPut mid (at + length text) (take (11 - w .start) (drop (w .start) (w .bytes)))
-      → Wrote xs at (text ++ decimal n) after (at + length text + (11 - w .start))
-  wrote-field xs at text {mid} fits e f =
-      let l = length-append text (decimal n) in
-      let front : mid ≡ overwrite xs at text = put-row xs at text (omega arith) e in
-      let long : length mid ≡ length xs = ap length front ∙ overwrite-length xs at text (omega arith) in
-      let back = put-row mid (at + length text) (decimal n) (omega arith) (rw places-text at f) in
-      wrote-on xs at text (decimal n) (omega arith) (refl, front) (omega (arith, places-start .1), back)
+use Rattle.ports.proofs.Overwrites.{overwrite-none}
+use Rattle.texts.specs.Lines.{textOf}
+use Rattle.texts.specs.Inner.Wrote.{Wrote}
+use Rattle.texts.proofs.Texts.{text-append}
+use Rattle.texts.proofs.Rooms.{overwrite-on, wrote-on}
+use Rattle.image.specs.Image.{cellLines, claimed, headLines, imageText}
+use Rattle.image.specs.Inner.Pieces.{piece, cellsText}
+use Rattle.image.proofs.Texts.{left, left-more, left-none, left-length}
 
 -- a room after the loop that writes the cells has come to one, with the place behind what is written: the rest still has to be written
 abbrev pub Writing : List ℕ → ℕ → List ℕ → List ℕ → List ℕ → ℕ → ℕ → Type 0

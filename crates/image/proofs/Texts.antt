@@ -12,19 +12,15 @@ use lib.Seq.{drop-cons}
 use Rattle.numerals.specs.Bytes.{LF, bytes}
 use Rattle.numerals.specs.Writing.{decimal}
 use Rattle.numerals.proofs.Filling.{length-decimal}
-use Rattle.image.specs.Image.{kind, cellLine, cellLines, claimed, headLines, textOf, imageText}
+use Rattle.texts.specs.Lines.{textOf}
+use Rattle.texts.proofs.Texts.{text-append}
+use Rattle.image.specs.Image.{kind, cellLine, cellLines, claimed, headLines, imageText}
 use Rattle.image.specs.Printing.{knownMarks}
 use Rattle.image.specs.Inner.Pieces.{piece, kindAndValue, cellsText}
 
 pub both-true : (a b : Bool) → a && b ≡ true → (a ≡ true) × (b ≡ true)
 both-true true b e = (refl, e)
 both-true false b e = let z : _≡_ {A = ℕ} 0 1 = cc in absurd (omega arith)
-
--- some lines and others after them
-pub text-append : (a b : List (List ℕ)) → textOf (a ++ b) ≡ textOf a ++ textOf b
-unfolding textOf
-text-append [] b = refl
-text-append (l ∷ a) b = rw (text-append a b) (sym (append-assoc l (LF ∷ textOf a) (textOf b)))
 
 -- ---- the cells that are left
 

@@ -5,8 +5,9 @@ use mathlib.Core.List.{List, [], _∷_, _++_}
 use lib.Dec.{eqb}
 use lib.ListN.{length, getD}
 use Rattle.codes.specs.Marks.{free, codeMark}
-use Rattle.numerals.specs.Bytes.{LF, bytes}
+use Rattle.numerals.specs.Bytes.{bytes}
 use Rattle.numerals.specs.Writing.{decimal}
+use Rattle.texts.specs.Lines.{textOf}
 
 -- how a claimed cell's mark is printed
 abbrev pub kind : ℕ → List ℕ
@@ -33,11 +34,6 @@ headLines size number = bytes "version=1" ∷ (bytes "size=" ++ decimal size) �
 
 abbrev pub imageLines : List ℕ → List ℕ → List (List ℕ)
 imageLines memory marks = headLines (length memory) (claimed marks) ++ cellLines memory 0 marks
-
--- "one line each", as 01 says of a refusal: an LF after every line, the last too
-unfoldable pub textOf : List (List ℕ) → List ℕ
-textOf [] = []
-textOf (line ∷ lines) = line ++ (LF ∷ textOf lines)
 
 -- the text of an image
 abbrev pub imageText : List ℕ → List ℕ → List ℕ

@@ -1,31 +1,17 @@
 // The text of an image, written into a room that has place for it (specs/Image.antt). Each function answers the place after what it wrote.
 ghost use mathlib.Core.Path.{_≡_};
-ghost use mathlib.Core.List.{_++_};
 ghost use Prim.Native.Nat.{_+_, _≤_};
 ghost use lib.ListN.{length};
 ghost use Rattle.codes.specs.Limits.{mostCells};
-ghost use Rattle.numerals.specs.Writing.{decimal};
 ghost use Rattle.ports.specs.Overwriting.{overwrite};
-ghost use Rattle.image.specs.Image.{headLines, textOf, imageText};
-ghost use Rattle.image.specs.Inner.Pieces.{kindAndValue, piece, cellsText, Wrote};
+ghost use Rattle.texts.specs.Lines.{textOf};
+ghost use Rattle.texts.specs.Inner.Wrote.{Wrote};
+ghost use Rattle.image.specs.Image.{headLines, imageText};
+ghost use Rattle.image.specs.Inner.Pieces.{kindAndValue, piece, cellsText};
 use super::lengths::claimed_in;
 use codes::marks::CODE;
 use codes::marks::FREE;
-use ports::output::put_text;
-
-// A text and a decimal after it.
-fn field(room: &mut [u8], at: usize, text: &[u8], n: u32) -> usize
-    requires { ⌜ at + length (now text ++ decimal n) ≤ length (now room) ⌝ }
-    ensures { λ r. ⌜ Wrote (now (room .entry)) at (now (text .entry) ++ decimal n) (now (room .exit)) r ⌝ }
-{
-    put_text(room, at, text);
-    let written = numerals::writing::unsigned_decimal(n);
-    let bytes = written.bytes;
-    let start = written.start;
-    let next = at + text.len();
-    put_text(room, next, &bytes[start..]);
-    next + (11 - start)
-}
+use texts::writing::field;
 
 // What stands behind the address in a cell's line.
 fn kind_and_value(room: &mut [u8], at: usize, mark: u8, value: u16) -> usize

@@ -47,6 +47,43 @@ fn a_file_is_assembled() {
 }
 
 #[test]
+fn a_rule_is_run_and_its_record_told() {
+    let file = std::env::temp_dir().join(format!("second-run-{}.ens", std::process::id()));
+    std::fs::write(&file, "next: INCHAR .R1\nWRCHAR .R1\nCMP .R1,#46\nBNZ /next\nHALT")
+        .expect("a file");
+    let name = file.to_str().expect("a name");
+    let ran = |arguments: &[&str], input: &str| {
+        let all = [&["run", "16", name][..], arguments].concat();
+        let out = second(&all, input);
+        let text = |bytes| String::from_utf8(bytes).expect("text");
+        (out.status.code(), text(out.stdout), text(out.stderr))
+    };
+    let registers = |r1, sr, pc| {
+        let others = "R2=0\nR3=0\nR4=0\nR5=0\nR6=0\nR7=0\nR8=0\nR9=0\n";
+        format!("A=0\nR0=0\nR1={r1}\n{others}SR={sr}\nIX=0\nIY=0\nSP=0\nPC={pc}\n")
+    };
+    let halts = format!("stop=1\nsteps=9\n{}taken=2\nwritten=2\n", registers(46, 33, 10));
+    assert_eq!(ran(&[], "a."), (Some(0), "a.".to_string(), halts));
+    let spent = format!("stop=7\nsteps=2\n{}taken=1\nwritten=1\n", registers(97, 0, 4));
+    assert_eq!(ran(&["2"], "a."), (Some(3), "a".to_string(), spent.clone()));
+    assert_eq!(ran(&["0002"], "a."), (Some(3), "a".to_string(), spent));
+    assert!(ran(&["0"], "a.").2.starts_with("stop=7\nsteps=0\nA=0\n"));
+    let ended = format!("stop=8\nsteps=0\n{}taken=0\nwritten=0\n", registers(0, 0, 0));
+    assert_eq!(ran(&["1000000"], ""), (Some(3), String::new(), ended));
+    for budget in ["1000001", "-1", "x", "", "0x10"] {
+        assert_eq!(ran(&[budget], "a.").0, Some(2));
+    }
+    assert_eq!(ran(&[], &"a".repeat(65_536)).0, Some(3));
+    assert_eq!(ran(&[], &"a".repeat(65_537)).0, Some(2));
+    let refused = second(&["run", "9", name], "");
+    assert_eq!(
+        (refused.status.code(), refused.stdout),
+        (Some(1), b"refused=11\nline=5\n".to_vec())
+    );
+    std::fs::remove_file(&file).expect("removed");
+}
+
+#[test]
 fn cases_are_made_answered_counted_and_shown() {
     let cases = printed(&["make", "all", "300", "5"], "");
     assert_eq!(cases.lines().count(), 300);

@@ -1,6 +1,6 @@
 -- The places of a decimal, from its start on, are its text (`places-start`).
 use native.Mathlib.Omega.{arith}
-use Rattle.image.proofs.Rooms.{places-start}
+use Rattle.texts.proofs.Rooms.{places-start}
 use borrow.Author.Needs.{needs}
 use Rattle.image.proofs.lengths.decimal_length.Statement.{statement}
 use Rattle.image.proofs.lengths.decimal_length.Tie as tie

@@ -2,7 +2,7 @@
 use native.Mathlib.Omega.{arith}
 use lib.ListN.{length-append}
 use Rattle.image.proofs.Texts.{piece-free, piece-claimed, piece-length, kind-and-value-length}
-use Rattle.image.proofs.Rooms.{wrote-none, wrote-on, wrote-byte, wrote-length}
+use Rattle.texts.proofs.Rooms.{wrote-none, wrote-on, wrote-byte, wrote-length}
 use borrow.Author.Needs.{needs}
 use Rattle.image.proofs.lines.cell.Statement.{statement}
 use Rattle.image.proofs.lines.cell.Tie as tie

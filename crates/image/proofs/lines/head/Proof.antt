@@ -2,7 +2,7 @@
 use native.Mathlib.Omega.{arith}
 use lib.ListN.{length-append}
 use Rattle.image.proofs.Texts.{head-length, head-text}
-use Rattle.image.proofs.Rooms.{wrote-on, wrote-byte, wrote-length}
+use Rattle.texts.proofs.Rooms.{wrote-on, wrote-byte, wrote-length}
 use borrow.Author.Needs.{needs}
 use Rattle.image.proofs.lines.head.Statement.{statement}
 use Rattle.image.proofs.lines.head.Tie as tie

@@ -1,6 +1,6 @@
 -- The two texts of the two kinds (`kind-code`, `kind-data`).
 use mathlib.Core.Path.{sym}
-use Rattle.image.proofs.Rooms.{wrote-as}
+use Rattle.texts.proofs.Rooms.{wrote-as}
 use native.Mathlib.Omega.{arith}
 use Rattle.image.proofs.Texts.{kind-code, kind-data, kind-and-value-length}
 use borrow.Author.Needs.{needs}

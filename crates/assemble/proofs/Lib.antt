@@ -1,3 +1,0 @@
--- Laws.
-pub mod Sizes
-pub mod Words

@@ -1,2 +1,0 @@
--- The program's own rule: which M it takes.
-pub mod Sizes

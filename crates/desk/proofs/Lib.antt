@@ -1,0 +1,4 @@
+-- Laws.
+pub mod Sizes
+pub mod Words
+pub mod Putting

@@ -1,0 +1,3 @@
+-- Which M the programs take, and what putting text promises.
+pub mod Sizes
+pub mod Putting

@@ -1,0 +1,2 @@
+-- Laws of the budget's word.
+pub mod Budgets

@@ -1,0 +1,2 @@
+-- The program's own rule: which budget it takes.
+pub mod Budgets
