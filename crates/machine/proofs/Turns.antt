@@ -46,10 +46,14 @@ module _ (input : List ℕ) (s : State) where
           let its = step-completes input s done in
           run-none input (stepOf input s .after) (parts-good input (stepOf input s .after) (its .good)) (its .code ∙ z)
 
+      -- how that run ends, by whether the step completes and whether it gives no stop
+      ended : Bool → Bool → Ending
+      ended c z =
+          cond c (cond z (oneMore rest) (ending (stepOf input s .after) (stepOf input s .stop) 1))
+          (ending (stepOf input s .after) (stepOf input s .stop) 0)
+
       go : (c z : Bool) → stepOf input s .completed ≡ c → eqb (stepOf input s .stop) 0 ≡ z →
-          reply (cond c (cond z (oneMore rest) (ending (stepOf input s .after) (stepOf input s .stop) 1)) (ending (stepOf input s .after) (stepOf input s .stop) 0) .after)
-          (ofOneStep (cond c (cond z (oneMore rest) (ending (stepOf input s .after) (stepOf input s .stop) 1)) (ending (stepOf input s .after) (stepOf input s .stop) 0) .stop)) ≡
-          replyOf input s
+          reply (ended c z .after) (ofOneStep (ended c z .stop)) ≡ replyOf input s
       go true true p q =
           ap (λ (e : Ending). reply (e .after) (ofOneStep (e .stop))) (spends p (eqb-true _ _ q))
           ∙ ap (reply (stepOf input s .after)) (sym (eqb-true _ _ q))

@@ -32,20 +32,21 @@ use Rattle.machine.specs.Stops.{goodLoan, Answer, answer, refuses}
 unfoldable pub stopAt : ℕ → ℕ → ℕ
 stopAt next size = cond (ltb next size) none memoryEnd
 
+-- what a step that completes leaves: registers, stop, positions, memory and output. Its stop is the stop code too
+abbrev pub leaves : List ℕ → ℕ → ℕ → ℕ → List ℕ → List ℕ → Answer
+leaves r stop taken written m out = answer (state (machine r stop taken written) m out) stop true
+
 -- a step that an effect makes, with the positions after it
 unfoldable pub does : State → Effect → ℕ → ℕ → Answer
 does s e taken written =
-    answer (state (machine (registersAfter (s .registers .r) e) (stopAt (e .next) (length (s .memory))) taken written) (memoryAfter (s .memory) e) (s .output))
-    (stopAt (e .next) (length (s .memory))) true
+    leaves (registersAfter (s .registers .r) e) (stopAt (e .next) (length (s .memory))) taken written (memoryAfter (s .memory) e) (s .output)
 
 -- HALT: H is set, the stop code is 1, and PC is the next address
 abbrev pub haltedRegisters : State → ℕ → List ℕ
 haltedRegisters s next = set (set (s .registers .r) SR (register s SR % forH + forH)) PC (next % 65536)
 
 unfoldable pub halts : State → ℕ → Answer
-halts s next =
-    answer (state (machine (haltedRegisters s next) halted (s .registers .taken) (s .registers .written)) (s .memory) (s .output))
-    halted true
+halts s next = leaves (haltedRegisters s next) halted (s .registers .taken) (s .registers .written) (s .memory) (s .output)
 
 -- a value taken of the input, written to a place
 abbrev pub takes : State → ℕ → Place → Taken → Answer
@@ -55,8 +56,7 @@ takes s next place (NoValue k) = refuses s k
 -- PC goes on to the next address, and nothing else of the registers changes
 unfoldable pub goesOn : State → ℕ → ℕ → ℕ → List ℕ → List ℕ → Answer
 goesOn s next taken written m out =
-    answer (state (machine (set (s .registers .r) PC (next % 65536)) (stopAt next (length (s .memory))) taken written) m out)
-    (stopAt next (length (s .memory))) true
+    leaves (set (s .registers .r) PC (next % 65536)) (stopAt next (length (s .memory))) taken written m out
 
 abbrev pub fills : State → ℕ → Moved → List ℕ → Answer
 fills s next (To taken) m = goesOn s next taken (s .registers .written) m (s .output)
