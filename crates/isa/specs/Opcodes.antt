@@ -10,7 +10,9 @@ use mathlib.Core.Bool.{cond}
 use lib.Dec.{ltb}
 use lib.ListN.{getD}
 use Rattle.isa.specs.declared.Opcode.{Opcode}
-use Rattle.isa.specs.declared.Opcode.the-variants.{NOP, HALT, MOVE, PUSH, POP, ADD, SUB, MUL, DIV, MOD, INC, DEC, NEG, CMP, AND, OR, XOR, NOT, BR, BZ, BNZ, BP, BNP, BN, BNN, BV, BNV, BC, BNC, BE, BO, CALL, RET, INCHAR, ININT, INSTR, WRCHAR, WRINT, WRSTR}
+use Rattle.isa.specs.declared.Opcode.the-variants.{NOP, HALT, MOVE, PUSH, POP, ADD, SUB, MUL, DIV, MOD, INC, DEC, NEG, CMP, AND, OR, XOR, NOT}
+use Rattle.isa.specs.declared.Opcode.the-variants.{BR, BZ, BNZ, BP, BNP, BN, BNN, BV, BNV, BC, BNC, BE, BO, CALL, RET}
+use Rattle.isa.specs.declared.Opcode.the-variants.{INCHAR, ININT, INSTR, WRCHAR, WRINT, WRSTR}
 use Rattle.isa.specs.declared.FoundOpcode.{FoundOpcode}
 use Rattle.isa.specs.declared.FoundOpcode.the-variants.{Known, Unknown}
 use Rattle.isa.specs.declared.Row.{Row}
