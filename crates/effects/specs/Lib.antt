@@ -5,3 +5,4 @@ pub mod Conditions
 pub mod Stack
 pub mod Effects
 pub mod Applied
+pub mod Inner

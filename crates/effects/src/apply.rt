@@ -10,10 +10,10 @@ use codes::registers::PC;
 use codes::registers::SP;
 use codes::registers::SR;
 
-fn kept_h(sr: u16, v: u16) -> u16
+fn kept_h(sr: u16, v: usize) -> u16
     ensures { λ x. ⌜ x ≡ keepingH sr v ⌝ }
 {
-    v % FOR_H + sr / FOR_H * FOR_H
+    (v % (FOR_H as usize)) as u16 + sr / FOR_H * FOR_H
 }
 
 // A number stored in a row of cells or of registers, unless it is past the end.
@@ -29,7 +29,7 @@ fn put_register(r: &mut [u16; 16], k: usize, v: u16)
     ensures { λ _. ⌜ now (r .exit) ≡ withRegister (now (r .entry)) k v ⌝ }
 {
     if k == SR {
-        r[SR] = kept_h(r[SR], v);
+        r[SR] = kept_h(r[SR], v as usize);
         return;
     }
     put(r, k, v);

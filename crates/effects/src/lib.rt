@@ -15,10 +15,17 @@ pub enum Place {
     InCell(u16),
 }
 
+// An operand as it is found: where it is, what stands there, and the stop of one that is not there, a register by its code or a cell.
+pub struct Located {
+    pub place: Place,
+    pub value: u16,
+    pub fault: u8,
+}
+
 // What becomes of the flags Z, C, V, P, S.
 pub enum Flags {
     Unchanged,
-    Become(u16),
+    Become(usize),
 }
 
 // The next PC, not reduced; SP; a value and the place it goes to; the flags.

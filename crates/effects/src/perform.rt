@@ -3,7 +3,11 @@ ghost use mathlib.Core.Path.{_≡_};
 ghost use lib.ListN.{length};
 ghost use Rattle.isa.specs.Opcodes.{table};
 ghost use Rattle.isa.specs.Operands.{isTarget};
-ghost use Rattle.effects.specs.Effects.{found, byOpcode, addressesThere, performOf};
+ghost use mathlib.Core.Bool.{cond};
+ghost use Rattle.codes.specs.Stops.{none, memoryEnd};
+ghost use Rattle.effects.specs.Effects.{found, byOpcode};
+ghost use Rattle.effects.specs.Inner.Located.{stopOfFaults, performsOn};
+use super::Located;
 use super::Performed;
 use super::Place;
 use super::Port;
@@ -14,10 +18,7 @@ use super::conditions::not_positive;
 use super::conditions::odd;
 use super::conditions::overflow;
 use super::conditions::zero;
-use super::places::located;
 use super::places::target;
-use super::places::there;
-use super::places::value;
 use super::shapes::compared;
 use super::shapes::divided;
 use super::shapes::goes_on;
@@ -31,7 +32,8 @@ use codes::registers::PC;
 use codes::registers::SP;
 use codes::registers::SR;
 use codes::stops::MEMORY_END;
-use isa::Instruction;
+use codes::stops::NO_REGISTER;
+use codes::stops::NONE;
 use isa::Kinds;
 use isa::Opcode;
 
@@ -94,7 +96,7 @@ fn by_opcode(
 }
 
 // Whether an opcode's operand is a target, which counts only as next PC.
-fn has_target(op: Opcode) -> bool
+pub fn has_target(op: Opcode) -> bool
     ensures { λ b. ⌜ b ≡ isTarget (table op .first) ⌝ }
 {
     let its = isa::opcodes::row(op);
@@ -102,34 +104,58 @@ fn has_target(op: Opcode) -> bool
     isa::operands::is_target(k)
 }
 
-// Whether the operands that are cells are cells of memory. The opcode is asked only where one is not: that is rare, and saves a look
-// at the table in every step.
-fn addresses_there(m: &[u16], op: Opcode, p: Place, q: Place) -> bool
-    ensures { λ b. ⌜ b ≡ addressesThere (length (now (m .entry))) op p q ⌝ }
+// The stop of an operand that is outside memory: none where it is a target, which counts only as next PC.
+fn outside(op: Opcode) -> u8
+    ensures { λ k. ⌜ k ≡ cond (isTarget (table op .first)) none memoryEnd ⌝ }
 {
-    if !there(m, p) {
-        return has_target(op);
-    }
-    if !there(m, q) {
-        return has_target(op);
-    }
-    true
+    if has_target(op) { NONE } else { MEMORY_END }
 }
 
-// What an instruction comes to, its address after it being `next`. Nothing is written. Each value is found right after its place,
-// before the addresses are judged: so compiled, one jump finds both.
-pub fn perform(r: &[u16; 16], m: &[u16], next: usize, i: Instruction) -> Performed
-    ensures { λ e. ⌜ e ≡ performOf (now (r .entry)) (now (m .entry)) next i ⌝ }
+// The stop of two operands, the first being there.
+fn of_second(op: Opcode, b: u8) -> u8
+    ensures { λ k. ⌜ k ≡ stopOfFaults op none b ⌝ }
 {
-    let op = i.op;
-    let a = i.first;
-    let b = i.second;
-    let p = located(r, next, a);
-    let x = value(r, m, next, p);
-    let q = located(r, next, b);
-    let y = value(r, m, next, q);
-    if !addresses_there(m, op, p, q) {
-        return Performed::Stops(MEMORY_END);
+    if b == NONE {
+        return NONE;
     }
-    by_opcode(m, next, r[SP], r[SR], p, q, x, y, op)
+    if b == NO_REGISTER {
+        return NO_REGISTER;
+    }
+    outside(op)
+}
+
+// The stop of two operands: a register that is not there before a cell that is not. The opcode is asked only where one is not there.
+fn judged(op: Opcode, a: u8, b: u8) -> u8
+    ensures { λ k. ⌜ k ≡ stopOfFaults op a b ⌝ }
+{
+    if a == NONE {
+        return of_second(op, b);
+    }
+    if a == NO_REGISTER {
+        return NO_REGISTER;
+    }
+    if b == NO_REGISTER {
+        return NO_REGISTER;
+    }
+    outside(op)
+}
+
+// What an instruction comes to, its operands being found and its address after it being `next`. Nothing is written.
+pub fn perform(
+    r: &[u16; 16],
+    m: &[u16],
+    next: usize,
+    op: Opcode,
+    a: Located,
+    b: Located,
+) -> Performed
+    ensures { λ e. ⌜ e ≡ performsOn (now (r .entry)) (now (m .entry)) next op a b ⌝ }
+{
+    let stop = judged(op, a.fault, b.fault);
+    if stop != NONE {
+        return Performed::Stops(stop);
+    }
+    let p = a.place;
+    let q = b.place;
+    by_opcode(m, next, r[SP], r[SR], p, q, a.value, b.value, op)
 }

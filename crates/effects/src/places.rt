@@ -1,14 +1,23 @@
 // Where operands are, and what stands there (specs/Places.antt).
 ghost use mathlib.Core.Path.{_≡_};
 ghost use lib.ListN.{length, getD};
-ghost use Rattle.effects.specs.Seen.{see};
-ghost use Rattle.effects.specs.Places.{plus, placeOf, valueAt, thereIn, targetOf};
+ghost use mathlib.Core.List.{List};
+ghost use Prim.Native.Nat.{ℕ};
+ghost use Rattle.codes.specs.Stops.{none};
+ghost use Rattle.isa.specs.Operands.{isTarget, operandOf};
+ghost use Rattle.isa.specs.declared.Kinds.{Kinds};
+ghost use Rattle.isa.specs.declared.Operand.the-variants as Operand;
+ghost use Rattle.effects.specs.Places.{plus, targetOf};
+ghost use Rattle.effects.specs.Inner.Located.{locatedAt, unregistered, locate};
+use super::Located;
 use super::Place;
 use codes::registers::IX;
 use codes::registers::IY;
 use codes::registers::PC;
 use codes::registers::SP;
-use isa::Operand;
+use codes::stops::MEMORY_END;
+use codes::stops::NO_REGISTER;
+use codes::stops::NONE;
 
 // A cell, and 0 past the end.
 pub fn cell(m: &[u16], at: usize) -> u16
@@ -17,57 +26,98 @@ pub fn cell(m: &[u16], at: usize) -> u16
     if at < m.len() { m[at] } else { 0 }
 }
 
-// A register as operands see it; the address after the instruction stands for PC.
-pub fn seen(r: &[u16; 16], next: usize, code: usize) -> u16
-    ensures { λ v. ⌜ v ≡ see (now (r .entry)) next code ⌝ }
-{
-    if code == PC {
-        return (next % 65536) as u16;
-    }
-    cell(r, code)
-}
-
 fn sum(a: u16, d: u16) -> u16
     ensures { λ v. ⌜ v ≡ plus a d ⌝ }
 {
     ((a as u32 + d as u32) % 65536) as u16
 }
 
-pub fn located(r: &[u16; 16], next: usize, o: Operand) -> Place
-    ensures { λ p. ⌜ p ≡ placeOf (now (r .entry)) next o ⌝ }
+fn found(place: Place, value: u16) -> Located
+    ensures { λ f. ⌜ f ≡ record { place = place; value = value; fault = none } ⌝ }
 {
-    match o {
-        Operand::Absent => Place::Nowhere,
-        Operand::Immediate(v) => Place::Constant(v),
-        Operand::Register(k) => Place::InRegister(k as usize),
-        Operand::Memory(a) => Place::InCell(a),
-        Operand::Indirect(k) => Place::InCell(seen(r, next, k as usize)),
-        Operand::IndexedX(d) => Place::InCell(sum(seen(r, next, IX), d)),
-        Operand::IndexedY(d) => Place::InCell(sum(seen(r, next, IY), d)),
-        Operand::IndexedSp(d) => Place::InCell(sum(seen(r, next, SP), d)),
-        Operand::Relative(d) => Place::InCell(sum(seen(r, next, PC), d)),
+    Located {
+        place: place,
+        value: value,
+        fault: NONE,
     }
 }
 
-pub fn value(r: &[u16; 16], m: &[u16], next: usize, p: Place) -> u16
-    ensures { λ v. ⌜ v ≡ valueAt (now (r .entry)) (now (m .entry)) next p ⌝ }
+fn at_cell(m: &[u16], a: u16) -> Located
+    ensures { λ f. ⌜ f ≡ locatedAt (length (now (m .entry))) (Place.InCell a) (getD (now (m .entry)) a 0) ⌝ }
 {
-    match p {
-        Place::Nowhere => 0,
-        Place::Constant(v) => v,
-        Place::InRegister(k) => seen(r, next, k),
-        Place::InCell(a) => cell(m, a as usize),
+    let i = a as usize;
+    if i < m.len() {
+        return found(Place::InCell(a), m[i]);
+    }
+    Located {
+        place: Place::InCell(a),
+        value: 0,
+        fault: MEMORY_END,
     }
 }
 
-pub fn there(m: &[u16], p: Place) -> bool
-    ensures { λ b. ⌜ b ≡ thereIn (length (now (m .entry))) p ⌝ }
+fn no_register() -> Located
+    ensures { λ f. ⌜ f ≡ unregistered ⌝ }
 {
-    match p {
-        Place::Nowhere => true,
-        Place::Constant(_) => true,
-        Place::InRegister(_) => true,
-        Place::InCell(a) => (a as usize) < m.len(),
+    Located {
+        place: Place::Nowhere,
+        value: 0,
+        fault: NO_REGISTER,
+    }
+}
+
+fn at_register(r: &[u16; 16], next: usize, code: u16) -> Located
+    ensures { λ f. ⌜ ((m : List ℕ) → f ≡ locate (now (r .entry)) m next (Operand.Register code)) ⌝ }
+{
+    let k = code as usize;
+    if k < PC {
+        return found(Place::InRegister(k), r[k]);
+    }
+    if k == PC {
+        return found(Place::InRegister(PC), (next % 65536) as u16);
+    }
+    no_register()
+}
+
+fn behind(r: &[u16; 16], m: &[u16], next: usize, code: u16) -> Located
+    ensures { λ f. ⌜ f ≡ locate (now (r .entry)) (now (m .entry)) next (Operand.Indirect code) ⌝ }
+{
+    let k = code as usize;
+    if k < PC {
+        return at_cell(m, r[k]);
+    }
+    if k == PC {
+        return at_cell(m, (next % 65536) as u16);
+    }
+    no_register()
+}
+
+// The operand of a mode and its word, place and value found in one match; what is no mode counts as mode 7.
+pub fn located(
+    r: &[u16; 16],
+    m: &[u16],
+    next: usize,
+    relative: bool,
+    mode: u16,
+    word: u16,
+) -> Located
+    ensures { λ f. ⌜ ((k : Kinds) → isTarget k ≡ relative → f ≡ locate (now (r .entry)) (now (m .entry)) next (operandOf k mode word)) ⌝ }
+{
+    match mode {
+        0 => found(Place::Nowhere, 0),
+        1 => found(Place::Constant(word), word),
+        2 => at_register(r, next, word),
+        3 => at_cell(m, word),
+        4 => behind(r, m, next, word),
+        5 => at_cell(m, sum(r[IX], word)),
+        6 => at_cell(m, sum(r[IY], word)),
+        _ => {
+            if relative {
+                at_cell(m, sum((next % 65536) as u16, word))
+            } else {
+                at_cell(m, sum(r[SP], word))
+            }
+        }
     }
 }
 

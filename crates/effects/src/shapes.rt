@@ -74,13 +74,13 @@ pub(crate) fn moved(next: usize, sp: u16, place: Place, value: u16) -> Performed
 pub(crate) fn resulted(next: usize, sp: u16, place: Place, o: Outcome) -> Performed
     ensures { λ r. ⌜ r ≡ Performed.Does (writes next sp place (o .value) (Flags.Become (o .flags))) ⌝ }
 {
-    Performed::Does(written(next, sp, place, o.value, Flags::Become(o.flags)))
+    Performed::Does(written(next, sp, place, o.value, Flags::Become(o.flags as usize)))
 }
 
 pub(crate) fn compared(next: usize, sp: u16, flags: u16) -> Performed
     ensures { λ r. ⌜ r ≡ Performed.Does (writes next sp Place.Nowhere 0 (Flags.Become flags)) ⌝ }
 {
-    Performed::Does(written(next, sp, Place::Nowhere, 0, Flags::Become(flags)))
+    Performed::Does(written(next, sp, Place::Nowhere, 0, Flags::Become(flags as usize)))
 }
 
 // To the accumulator; a zero divisor is stop 6.

@@ -16,7 +16,7 @@ use super::operands::permits;
 use super::operands::register_there;
 
 // What a first word alone decides: the one place that a table of 2,496 entries may replace.
-pub(crate) fn first_word(w: u16) -> FirstWord
+pub fn first_word(w: u16) -> FirstWord
     ensures { λ r. ⌜ r ≡ firstWordRead w ⌝ }
 {
     match opcode(w / 64) {
@@ -37,7 +37,7 @@ pub(crate) fn first_word(w: u16) -> FirstWord
 }
 
 // How many words the instruction of a first word has.
-fn size_of(w: u16) -> usize
+pub fn size_of(w: u16) -> usize
     ensures { λ r. ⌜ r ≡ sizeIn w ⌝ }
 {
     if 0 < w / 8 % 8 {
@@ -48,7 +48,7 @@ fn size_of(w: u16) -> usize
 }
 
 // The word at a place, and 0 past the end.
-fn word_at(m: &[u16], at: usize) -> u16
+pub fn word_at(m: &[u16], at: usize) -> u16
     ensures { λ r. ⌜ r ≡ getD (now (m .entry)) at 0 ⌝ }
 {
     if at < m.len() { m[at] } else { 0 }

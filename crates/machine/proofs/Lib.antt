@@ -10,5 +10,6 @@ pub mod InputOutput
 pub mod Runs
 pub mod Counts
 pub mod Answers
+pub mod Fetching
 pub mod Turns
 pub mod Top

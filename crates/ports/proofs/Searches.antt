@@ -1,11 +1,11 @@
 -- Laws of `upTo` and `meets`: where a loop that looks for an element stops, and what the part before it is.
 use mathlib.Core.Path.{_≡_, refl, sym, ap, _∙_}
-use mathlib.Core.Bool.{Bool, true, false, cond}
+use mathlib.Core.Bool.{Bool, true, false, cond, not, _||_, true≢false}
 use mathlib.Core.List.{List, [], _∷_, _++_}
 use Prim.Native.Nat.{ℕ, zero, suc, _+_, _-_, _≤_, _<_}
 use native.Mathlib.Numerals.{add-one}
 use native.Mathlib.Omega.{arith}
-use borrow.Author.Tests.{eq-eqb, ne-eqb, eqb-true, eqb-false, lt-ltb}
+use borrow.Author.Tests.{eq-eqb, ne-eqb, eqb-true, eqb-false, lt-ltb, not-true}
 use lib.Dec.{eqb, ltb, leb·suc-suc}
 use lib.ListN.{length, getD, take, drop, drop-of-length-le, length-drop}
 use lib.Seq.{take-all, drop-cons}
@@ -25,6 +25,37 @@ module _ (x : ℕ) where
   pub search-none : (s : List ℕ) (i : ℕ) → length s ≤ i → length (upTo x (drop i s)) ≡ 0
   unfolding upTo
   search-none s i h = rw (drop-of-length-le s h)
+
+  -- n elements are passed, none of which is x
+  abbrev Passes : List ℕ → ℕ → ℕ → Type 0
+  Passes s i n = length (upTo x (drop i s)) ≡ n + length (upTo x (drop (i + n) s))
+
+  passes-one : (s : List ℕ) (i : ℕ) → i < length s → eqb (getD s i 0) x ≡ false → Passes s i 1
+  passes-one s i h e = omega (arith, search-more s i h (eqb-false _ _ e))
+
+  -- one more, where the tests so far and its own are false
+  passes-more : (s : List ℕ) (i n : ℕ) (b : Bool) → i + n < length s → (b ≡ false → Passes s i n)
+      → (b || eqb (getD s (i + n) 0) x) ≡ false → Passes s i (suc n)
+  passes-more s i n true h so e = absurd (true≢false e)
+  passes-more s i n false h so e =
+      let far : i + suc n ≡ i + n + 1 = omega arith in rw far (omega (arith, so refl, search-more s (i + n) h (eqb-false _ _ e)))
+
+  -- eight at once, by their tests joined in one
+  pub search-eight : (s : List ℕ) (i : ℕ) → i + 8 ≤ length s
+      → not
+      (eqb (getD s i 0) x || eqb (getD s (i + 1) 0) x || eqb (getD s (i + 2) 0) x || eqb (getD s (i + 3) 0) x || eqb (getD s (i + 4) 0) x
+      || eqb (getD s (i + 5) 0) x || eqb (getD s (i + 6) 0) x || eqb (getD s (i + 7) 0) x) ≡ true
+      → Passes s i 8
+  search-eight s i h e =
+      passes-more s i 7 _ (omega arith)
+      (passes-more s i 6 _ (omega arith)
+      (passes-more s i 5 _ (omega arith)
+      (passes-more s i 4 _ (omega arith)
+      (passes-more s i 3 _ (omega arith)
+      (passes-more s i 2 _ (omega arith)
+      (passes-more s i 1 _ (omega arith)
+      (passes-one s i (omega arith))))))))
+      (not-true _ e)
 
   -- it is the list's beginning
   pub upTo-take : (s : List ℕ) → take (length (upTo x s)) s ≡ upTo x s

@@ -1,5 +1,6 @@
 // What is written to the output (specs/Output.antt).
 ghost use mathlib.Core.Path.{_≡_};
+ghost use mathlib.Core.Bool.{true};
 ghost use mathlib.Core.List.{map};
 ghost use Prim.Native.Nat.{_+_, _≤_};
 ghost use lib.ListN.{length, take, drop};
@@ -55,11 +56,43 @@ pub fn put_number(out: &mut [u8], at: usize, x: u16) -> Moved
     put_text(out, at, &bytes[start..])
 }
 
+// Whether none of eight cells from a place on is 0. `|` looks at all eight with no branch between, so they are tested as one vector.
+fn all_full(m: &[u16], i: usize) -> bool
+    requires { ⌜ i + 8 ≤ length (now m) ⌝ }
+    ensures { λ r. ⌜ (r ≡ true → length (stringOf (drop i (now (m .entry)))) ≡ 8 + length (stringOf (drop (i + 8) (now (m .entry))))) ⌝ }
+{
+    !((m[i] == 0)
+        | (m[i + 1] == 0)
+        | (m[i + 2] == 0)
+        | (m[i + 3] == 0)
+        | (m[i + 4] == 0)
+        | (m[i + 5] == 0)
+        | (m[i + 6] == 0)
+        | (m[i + 7] == 0))
+}
+
+// Passes eight cells at a time while none of them is 0.
+fn past_full(m: &[u16], from: usize) -> usize
+    ensures { λ r. ⌜ r + length (stringOf (drop r (now (m .entry)))) ≡ from + length (stringOf (drop from (now (m .entry)))) ⌝ }
+{
+    let mut i = from;
+    while i < m.len() {
+        if m.len() - i < 8 {
+            return i;
+        }
+        if !all_full(m, i) {
+            return i;
+        }
+        i += 8;
+    }
+    i
+}
+
 // The place of the first cell that is 0, from a place on, and the end of memory where there is none.
 fn zero_at(m: &[u16], from: usize) -> usize
     ensures { λ r. ⌜ r ≡ from + length (stringOf (drop from (now (m .entry)))) ⌝ }
 {
-    let mut i = from;
+    let mut i = past_full(m, from);
     while i < m.len() {
         if m[i] == 0 {
             return i;

@@ -1,7 +1,10 @@
 -- The inner step's promise in one equation: what it is lent, as a state, and what it leaves, as an answer.
-use Prim.Native.Nat.{ℕ}
+use Prim.Native.Nat.{ℕ, _+_}
 use mathlib.Core.Bool.{Bool, true, false, cond}
 use mathlib.Core.List.{List}
+use lib.ListN.{getD}
+use Rattle.isa.specs.Decoding.{instructionIn}
+use Rattle.isa.specs.declared.Instruction.{Instruction}
 use Rattle.machine.specs.States.{State, state, machine}
 use lib.Dec.{eqb}
 use Rattle.codes.specs.Stops.{none, budgetSpent}
@@ -24,3 +27,7 @@ left r m out a = answer (state (machine r (codeAfter (a .completed) (a .stop)) (
 -- a step's stop, by that of a run of one step: the run ends with its budget spent where the step gives none
 abbrev pub ofOneStep : ℕ → ℕ
 ofOneStep k = cond (eqb k budgetSpent) none k
+
+-- the instruction of a first word w at a place of memory
+abbrev pub instructionAt : List ℕ → ℕ → ℕ → Instruction
+instructionAt m at w = instructionIn w (getD m (at + 1) 0) (getD m (at + 2) 0)

@@ -7,4 +7,6 @@ use Rattle.effects.proofs.apply.kept_h.Tie as tie
 
 pub kept-h-spec : {M : Type 1} → statement M
 unfolding keepingH
-kept-h-spec = tie.close (tie.spec (λ c. search needs) (λ c. search needs) (λ c. refl))
+kept-h-spec =
+    tie.close
+    (tie.spec (λ c. search needs) (λ c. search needs) (λ c. search needs) (λ c. search needs) (λ c. search needs) (λ c. refl))

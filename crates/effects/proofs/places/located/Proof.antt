@@ -1,40 +1,61 @@
--- By the operand: each arm is the line of `placeOf` for it.
+-- Each arm finds the operand at its mode's place of the list; past the list stands mode 7.
+use mathlib.Core.Path.{_∙_}
 use borrow.Author.Needs.{needs}
-use Rattle.effects.specs.Places.{placeOf}
+use Rattle.isa.specs.Operands.{operandOf}
+use Rattle.isa.proofs.Past.{past}
+use Rattle.effects.specs.Seen.{see}
+use Rattle.effects.specs.Places.{placeOf, valueAt, thereIn}
+use Rattle.effects.specs.Inner.Located.{locate}
+use Rattle.effects.proofs.Locating.{relative-operand, stacked-operand}
 use Rattle.effects.proofs.places.located.Statement.{statement}
 use Rattle.effects.proofs.places.located.Tie as tie
 
+returns-8 : tie.Need-returns-8
+unfolding locate placeOf valueAt see
+returns-8 c k t =
+    rw (
+      relative-operand k _ _ (past 7 (c .before .before .before .before .before .args .mode) (c .before .before .before .match .rest))
+          (t ∙ c .before .before .if1 .taken),
+      ← c .before .sum3 .ensures,
+    ) (c .at-cell4 .ensures)
+
+returns-9 : tie.Need-returns-9
+unfolding locate placeOf valueAt see
+returns-9 c k t =
+    rw (
+      stacked-operand k _ _ (past 7 (c .before .before .before .before .before .before .args .mode) (c .before .before .before .before .match .rest))
+          (t ∙ c .before .before .before .if1 .left),
+      ← c .before .sum4 .ensures,
+    ) (c .at-cell5 .ensures)
+
 pub located-spec : {M : Type 1} → statement M
-unfolding placeOf
+unfolding operandOf locate placeOf valueAt thereIn see
 located-spec =
     tie.close
     (tie.spec
-    (λ c. c .match .keys1)
-    (λ c. c .match .keys2)
-    (λ c. c .match .keys3)
+    (λ c κs. tt)
+    (λ c κs. tt)
+    (λ c κs. tt)
+    (λ c κs. tt)
+    (λ c κs. tt)
     (λ c. search needs)
-    (λ c. c .match .keys4)
-    (λ c. c .match .keys5)
+    (λ c κs. tt)
+    (λ c κs. tt)
     (λ c. search needs)
     (λ c κs. tt)
-    (λ c. c .match .keys6)
+    (λ c κs. tt)
+    (λ c. search needs)
     (λ c κs. tt)
     (λ c κs. tt)
-    (λ c. c .match .keys7)
+    (λ c. search needs)
     (λ c κs. tt)
     (λ c κs. tt)
-    (λ c. c .match .keys8)
-    (λ c κs. tt)
-    (λ c κs. tt)
-    (λ c. c .match .keys9)
-    (λ c κs. tt)
-    (λ c κs. tt)
-    (λ c. rw (c .enum-told .given .1))
-    (λ c. rw (c .before .o .given .1))
-    (λ c. rw (c .before .o2 .given .1))
-    (λ c. rw (c .before .o3 .given .1))
-    (λ c. rw (c .before .before .o4 .given .1, c .seen .ensures))
-    (λ c. rw (c .before .before .before .o5 .given .1, ← c .before .seen2 .ensures, c .sum .ensures))
-    (λ c. rw (c .before .before .before .o6 .given .1, ← c .before .seen3 .ensures, c .sum2 .ensures))
-    (λ c. rw (c .before .before .before .o7 .given .1, ← c .before .seen4 .ensures, c .sum3 .ensures))
-    (λ c. rw (c .before .before .before .o8 .given .1, ← c .before .seen5 .ensures, c .sum4 .ensures)))
+    (λ c k t. rw (c .before .match .keys1) (c .found .ensures))
+    (λ c k t. rw (c .before .match .keys2) (c .found2 .ensures))
+    (λ c k t. rw (c .before .match .keys3) (c .at-register .ensures (c .before .before .before .args .m .now)))
+    (λ c k t. rw (c .before .match .keys4) (c .at-cell .ensures))
+    (λ c k t. rw (c .before .match .keys5) (c .behind .ensures))
+    (λ c k t. rw (c .before .before .before .match .keys6, ← c .before .sum .ensures) (c .at-cell2 .ensures))
+    (λ c k t. rw (c .before .before .before .match .keys7, ← c .before .sum2 .ensures) (c .at-cell3 .ensures))
+    returns-8
+    returns-9)

@@ -1,5 +1,5 @@
--- A turn passes a cell that is not 0, so that what is left of the string is one shorter.
-use mathlib.Core.Path.{_≡_, refl}
+-- No 0 is passed by eights. A turn then passes a cell that is not 0, so that what is left of the string is one shorter.
+use mathlib.Core.Path.{_≡_}
 use Prim.Native.Nat.{_+_, _-_}
 use native.Mathlib.Omega.{arith}
 use borrow.Author.Needs.{needs}
@@ -15,8 +15,11 @@ Inv-loop m from i₀ i = i + length (stringOf (drop i m)) ≡ from + length (str
 abbrev μ-loop : tie.MeasureT-loop
 μ-loop m from i₀ i = length m - i
 
+past-full-requires : tie.Need-past-full-requires Inv-loop μ-loop
+past-full-requires c κs = search needs
+
 loop-holds : tie.Need-loop-holds Inv-loop μ-loop
-loop-holds c = refl
+loop-holds c = c .past-full .ensures
 
 mul-if1 : tie.Need-mul-if1 Inv-loop μ-loop
 mul-if1 c = search needs
@@ -25,7 +28,9 @@ shared-slice-read-if1 : tie.Need-shared-slice-read-if1 Inv-loop μ-loop
 shared-slice-read-if1 c = search needs
 
 returns : tie.Need-returns Inv-loop μ-loop
-returns c = let p = c .before .before .before in omega (arith, search-here 0 (p .before .args .m .now) (p .loop .i) (c .before .before .loop-test .taken) (c .if1 .taken))
+returns c =
+    let p = c .before .before .before in
+    omega (arith, search-here 0 (p .before .before .before .args .m .now) (p .loop .i) (c .before .before .loop-test .taken) (c .if1 .taken))
 
 add-i : tie.Need-add-i Inv-loop μ-loop
 add-i c = search needs
@@ -34,10 +39,12 @@ loop-less : tie.Need-loop-less Inv-loop μ-loop
 loop-less c = search needs
 
 loop-again : tie.Need-loop-again Inv-loop μ-loop
-loop-again c = let p = c .before .before .before in omega (arith, search-more 0 (p .before .args .m .now) (p .loop .i) (c .before .before .loop-test .taken) (c .if1 .left))
+loop-again c =
+    let p = c .before .before .before in
+    omega (arith, search-more 0 (p .before .before .before .args .m .now) (p .loop .i) (c .before .before .loop-test .taken) (c .if1 .left))
 
 returns-2 : tie.Need-returns-2 Inv-loop μ-loop
-returns-2 c = omega (arith, search-none 0 (c .before .before .args .m .now) (c .before .loop .i) (c .loop-test .left))
+returns-2 c = omega (arith, search-none 0 (c .before .before .before .before .args .m .now) (c .before .loop .i) (c .loop-test .left))
 
 pub zero-at-spec : {M : Type 1} → statement M
 zero-at-spec =
@@ -45,6 +52,7 @@ zero-at-spec =
     (tie.spec
     Inv-loop
     μ-loop
+    past-full-requires
     loop-holds
     mul-if1
     shared-slice-read-if1
