@@ -2,7 +2,7 @@
 use Prim.Native.Nat.{ℕ}
 use mathlib.Core.List.{List}
 use mathlib.Core.Path.{_≡_, refl, sym, ap, ap₂, subst, _∙_}
-use Rattle.labels.specs.Labels.{labelsIn}
+use Rattle.labels.specs.Inner.Labels.{labelsIn}
 use Rattle.statements.proofs.Labelling.{never}
 use Rattle.sources.specs.Placing.{Bound, bindings}
 use Rattle.sources.specs.Uses.{Use}

@@ -3,7 +3,7 @@ ghost use mathlib.Core.Path.{_≡_};
 ghost use Prim.Native.Nat.{_≤_, _<_};
 ghost use lib.ListN.{length};
 ghost use Rattle.codes.specs.Limits.{mostCells, longestSource};
-ghost use Rattle.labels.specs.Labels.{labelsIn, Reach};
+ghost use Rattle.labels.specs.Inner.Labels.{labelsIn, Reach};
 ghost use Rattle.sources.specs.Order.{_on_};
 ghost use Rattle.sources.specs.Inner.Assembling.{passes};
 ghost use Rattle.uses.specs.Inner.Held.{usesHeld, Room, mostUses};

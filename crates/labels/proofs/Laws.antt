@@ -13,7 +13,7 @@ use Rattle.values.specs.declared.Name.{Name}
 use Rattle.names.specs.Names.{same}
 use Rattle.names.proofs.Same.{same-other-by}
 use Rattle.sources.specs.Sources.{spelled}
-use Rattle.labels.specs.Labels.{window, words, labelsBefore, keyOf, wordBy, OtherKeys}
+use Rattle.labels.specs.Inner.Labels.{window, words, labelsBefore, keyOf, wordBy, OtherKeys}
 
 pub length-window : (s : List ℕ) (a n : ℕ) → length (window s a n) ≡ n
 unfolding window

@@ -1,2 +1,2 @@
 -- The labels of a source, as the lent rows hold them.
-pub mod Labels
+pub mod Inner

@@ -1,9 +1,9 @@
-// A name among the labels (specs/Labels.antt).
+// A name among the labels (specs/Inner/Labels.antt).
 ghost use mathlib.Core.Path.{_≡_};
 ghost use Prim.Native.Nat.{_+_, _-_, _≤_, _<_};
 ghost use lib.ListN.{length, getD};
 ghost use Rattle.names.specs.Names.{same};
-ghost use Rattle.labels.specs.Labels.{window, labelsBefore, words, keyOf, OtherKeys, farthest, InCell};
+ghost use Rattle.labels.specs.Inner.Labels.{window, labelsBefore, words, keyOf, OtherKeys, farthest, InCell};
 
 // The byte at a place, 0 past the end.
 fn byte(s: &[u8], i: usize) -> u8

@@ -18,7 +18,7 @@ use Rattle.sources.specs.Placing.{Bound, Place, names, labelled}
 use Rattle.names.specs.Names.{same}
 use Rattle.sources.specs.Order.{_on_}
 use Rattle.sources.specs.Inner.Assembling.{passes, refused, firstOf, among, nameVerdict, labelVerdict}
-use Rattle.labels.specs.Labels.{window, wordBy, words, labelsBefore, zipped}
+use Rattle.labels.specs.Inner.Labels.{window, wordBy, words, labelsBefore, zipped}
 use Rattle.labels.proofs.Laws.{length-words, words-snoc, spelled-window}
 use Rattle.placing.specs.Inner.State.{stateOf, placeIn, Fair}
 use Rattle.placing.specs.declared.Counters.{Counters}

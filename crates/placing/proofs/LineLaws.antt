@@ -15,7 +15,7 @@ use Rattle.sources.specs.Placing.{Place, does, doesRead, labelled, acted, after
 use Rattle.sources.specs.Order.{_on_}
 use Rattle.sources.specs.Inner.Assembling.{Verdict, passes, refused, andThen, labelVerdict, ownVerdict, actVerdict, lineVerdict}
 use Rattle.sources.specs.declared.Act.{Act}
-use Rattle.labels.specs.Labels.{words}
+use Rattle.labels.specs.Inner.Labels.{words}
 use Rattle.placing.specs.Inner.State.{stateOf, placeIn, Keeps, Tells}
 use Rattle.placing.specs.declared.Counters.{Counters}
 use Rattle.placing.specs.declared.Did.{Did}

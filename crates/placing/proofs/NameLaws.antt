@@ -7,7 +7,7 @@ use lib.ListN.{length, take, drop, replicate, take-append-drop, length-drop}
 use lib.Seq.{take-all, length-take-le, drop-length}
 use Rattle.sources.specs.Placing.{Bound, Place, boundTo, boundAll}
 use Rattle.statements.proofs.Labelling.{never}
-use Rattle.labels.specs.Labels.{zipped}
+use Rattle.labels.specs.Inner.Labels.{zipped}
 use Rattle.placing.specs.Inner.State.{stateOf}
 use Rattle.placing.specs.declared.Counters.{Counters}
 

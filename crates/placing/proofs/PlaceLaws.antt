@@ -10,7 +10,7 @@ use lib.Seq.{drop-length}
 use borrow.Author.Tests.{lt-ltb, leb-false}
 use Rattle.codes.specs.Limits.{mostCells}
 use Rattle.isa.specs.declared.Address.{Address}
-use Rattle.labels.specs.Labels.{zipped}
+use Rattle.labels.specs.Inner.Labels.{zipped}
 use Rattle.sources.specs.Placing.{Bound, Place, boundTo, boundAll, boundBy, movedBy, marked, acted}
 use Rattle.sources.specs.Order.{_on_}
 use Rattle.sources.specs.Inner.Assembling.{passes, refused, firstOf, givesStart, reservesTooFar, taken, actVerdict}

@@ -4,7 +4,7 @@ ghost use mathlib.Core.List.{List};
 ghost use Prim.Native.Nat.{ℕ, _+_, _≤_};
 ghost use lib.ListN.{length};
 ghost use Rattle.codes.specs.Limits.{mostLabels, longestSource};
-ghost use Rattle.labels.specs.Labels.{Part};
+ghost use Rattle.labels.specs.Inner.Labels.{Part};
 ghost use Rattle.placing.specs.Inner.State.{Fair, FairDid, TellsLabel, placeIn};
 use super::Counters;
 use super::Did;

@@ -5,7 +5,7 @@ ghost use lib.ListN.{length};
 ghost use Rattle.statements.specs.Reading.{lineRead};
 ghost use Rattle.values.specs.declared.LabelIn.the-variants.{Named};
 ghost use Rattle.codes.specs.Limits.{mostCells, longestSource};
-ghost use Rattle.labels.specs.Labels.{Part, Rows};
+ghost use Rattle.labels.specs.Inner.Labels.{Part, Rows};
 ghost use Rattle.placing.specs.Inner.State.{placeIn, Fair, FairDid, TellsLine};
 use super::Counters;
 use super::Did;

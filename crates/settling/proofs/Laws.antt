@@ -13,7 +13,7 @@ use Rattle.sources.specs.Uses.{Value, known, unknown, valueOf, from, Use, count
 use Rattle.sources.specs.Order.{Refusal, _on_}
 use Rattle.sources.specs.Inner.Assembling.{Verdict, passes, refused, andThen, firstOf, tooFar, useVerdict, usesVerdict, filled}
 use Rattle.statements.proofs.Labelling.{never}
-use Rattle.labels.specs.Labels.{window, words, labelsBefore, zipped}
+use Rattle.labels.specs.Inner.Labels.{window, words, labelsBefore, zipped}
 use Rattle.labels.proofs.Laws.{length-words}
 use Rattle.uses.specs.Inner.Held.{countedBy, useHeld, useAt, usesHeld}
 use Rattle.settling.specs.declared.Word.{Word}

@@ -1,6 +1,6 @@
 // All labels that operands name, in the order of lines and operands.
 ghost use Prim.Native.Nat.{_<_};
-ghost use Rattle.labels.specs.Labels.{labelsIn, Reach};
+ghost use Rattle.labels.specs.Inner.Labels.{labelsIn, Reach};
 ghost use Rattle.uses.specs.Inner.Held.{usesHeld, Room, mostUses};
 ghost use Rattle.settling.specs.Inner.Settling.{SettlesUses};
 use super::Settled;

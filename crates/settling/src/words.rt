@@ -1,7 +1,7 @@
 // The word that a label stands for (sources/specs/Uses.antt, `countedWord`), or 13 or 14.
 ghost use Prim.Native.Nat.{_+_, _≤_, _<_};
 ghost use Rattle.codes.specs.Limits.{mostCells};
-ghost use Rattle.labels.specs.Labels.{window, labelsIn, Reach, farthest, InCell};
+ghost use Rattle.labels.specs.Inner.Labels.{window, labelsIn, Reach, farthest, InCell};
 ghost use Rattle.sources.specs.Uses.{valueOf};
 ghost use Rattle.settling.specs.Inner.Settling.{Finds, Reaches, TellsUse};
 use super::Word;

@@ -13,7 +13,7 @@ use Rattle.sources.specs.Order.{_on_}
 use Rattle.sources.specs.Inner.Assembling.{Verdict, passes, refused, firstOf, andThen, Work, endVerdict}
 use Rattle.sources.specs.declared.Gives.the-variants.{Start}
 use Rattle.sources.specs.declared.Line.{Line}
-use Rattle.labels.specs.Labels.{words, zipped}
+use Rattle.labels.specs.Inner.Labels.{words, zipped}
 use Rattle.labels.proofs.Laws.{length-words}
 use Rattle.placing.specs.Inner.State.{stateOf, Fair, BindsFine}
 use Rattle.placing.specs.declared.Counters.{Counters}

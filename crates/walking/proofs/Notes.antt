@@ -14,7 +14,7 @@ use Rattle.values.specs.declared.LabelIn.the-variants.{Absent, Named}
 use Rattle.values.specs.declared.Name.{Name}
 use Rattle.operands.specs.declared.Given.{Given}
 use Rattle.statements.specs.declared.Statement.{Statement}
-use Rattle.labels.specs.Labels.{window, InCell}
+use Rattle.labels.specs.Inner.Labels.{window, InCell}
 use Rattle.sources.specs.Uses.{Counted, from, Use, countedFor, secondCell, usesBy}
 use Rattle.uses.specs.Inner.Held.{countedBy, useHeld}
 use Rattle.walking.specs.Inner.Noting.{awayFor, Placeable, notedBy, noted}

@@ -31,7 +31,7 @@ use Rattle.statements.specs.declared.Statement.the-variants.{Nothing, Instructi
 use Rattle.statements.specs.declared.StatementRead.the-variants.{Passes}
 use Rattle.statements.proofs.Labelling.{never}
 use Rattle.statements.proofs.Passing.{instruction-from, words-claimed, operand-labels-within}
-use Rattle.labels.specs.Labels.{Part}
+use Rattle.labels.specs.Inner.Labels.{Part}
 use Rattle.labels.proofs.Laws.{spelled-window}
 use Rattle.walking.specs.Inner.Noting.{Placeable, notedBy, noted}
 use Rattle.walking.proofs.Notes.{few-words}

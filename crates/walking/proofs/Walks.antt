@@ -20,7 +20,7 @@ use Rattle.sources.specs.Inner.Assembling.{Verdict, passes, refused, firstOf, a
 use Rattle.sources.specs.Inner.Assembling.{pastEnd, actVerdict, lineVerdict, walkLines, rawRead, Work, startWork, worked, workAfter}
 use Rattle.sources.specs.declared.Act.{Act}
 use Rattle.sources.proofs.Loop.{lineAt, linesFrom, goesOn, lines-over, lines-on}
-use Rattle.labels.specs.Labels.{words, zipped, Part}
+use Rattle.labels.specs.Inner.Labels.{words, zipped, Part}
 use Rattle.labels.proofs.Laws.{window-part}
 use Rattle.uses.specs.Inner.Held.{usesHeld, mostUses}
 use Rattle.placing.specs.Inner.State.{placeIn, Fair, FairDid, Tells}

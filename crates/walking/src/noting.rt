@@ -9,7 +9,7 @@ ghost use Rattle.statements.specs.Reading.{lineRead};
 ghost use Rattle.statements.specs.declared.StatementRead.the-variants.{Passes};
 ghost use Rattle.codes.specs.Limits.{mostCells, longestSource};
 ghost use Rattle.sources.specs.Uses.{usesBy, secondCell};
-ghost use Rattle.labels.specs.Labels.{InCell};
+ghost use Rattle.labels.specs.Inner.Labels.{InCell};
 ghost use Rattle.uses.specs.Inner.Held.{Adds, Room};
 ghost use Rattle.walking.specs.Inner.Noting.{awayFor, noted, AddsOf, Placeable};
 use isa::Operand;

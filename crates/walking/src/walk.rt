@@ -10,7 +10,7 @@ ghost use Rattle.statements.specs.Reading.{lineRead};
 ghost use Rattle.sources.specs.Placing.{doesRead};
 ghost use Rattle.sources.specs.Uses.{usesRead};
 ghost use Rattle.sources.specs.Inner.Assembling.{endsIt, rawRead};
-ghost use Rattle.labels.specs.Labels.{InCell};
+ghost use Rattle.labels.specs.Inner.Labels.{InCell};
 ghost use Rattle.uses.specs.Inner.Held.{Room};
 ghost use Rattle.walking.specs.Inner.Noting.{AddsOf};
 ghost use Rattle.walking.specs.Inner.Walking.{Lent, workIn, SaysLines, Holds, EndsSource};

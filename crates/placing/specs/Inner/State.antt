@@ -5,7 +5,7 @@ use mathlib.Core.List.{List}
 use mathlib.Core.Path.{_≡_}
 use lib.Dec.{ltb}
 use lib.ListN.{length, take, drop}
-use Rattle.labels.specs.Labels.{words, zipped}
+use Rattle.labels.specs.Inner.Labels.{words, zipped}
 use Rattle.codes.specs.Limits.{mostCells, mostLabels}
 use Rattle.values.specs.declared.LabelIn.the-variants.{Named}
 use Rattle.values.specs.declared.Name.{Name}

@@ -7,7 +7,7 @@ use Rattle.sources.specs.Placing.{Bound}
 use Rattle.sources.specs.Uses.{Value, known, unknown, valueOf, from, Use, countedWord}
 use Rattle.sources.specs.Order.{_on_}
 use Rattle.sources.specs.Inner.Assembling.{Verdict, passes, refused, tooFar, useVerdict, usesVerdict, filled}
-use Rattle.labels.specs.Labels.{window}
+use Rattle.labels.specs.Inner.Labels.{window}
 use Rattle.uses.specs.Inner.Held.{countedBy, useHeld}
 use Rattle.settling.specs.declared.Word.{Word}
 use Rattle.settling.specs.declared.Word.the-variants as W

@@ -6,7 +6,7 @@ use mathlib.Core.Path.{_≡_}
 use lib.Dec.{eqb}
 use lib.ListN.{length, getD}
 use Rattle.sources.specs.Uses.{Counted, plainly, from, Use}
-use Rattle.labels.specs.Labels.{window}
+use Rattle.labels.specs.Inner.Labels.{window}
 
 -- how far the address after the instruction lies behind the cell; 0 where the label's value stands as it is
 abbrev pub countedBy : ℕ → ℕ → Counted

@@ -8,7 +8,7 @@ use Rattle.values.specs.declared.LabelIn.{LabelIn}
 use Rattle.values.specs.declared.LabelIn.the-variants.{Absent, Named}
 use Rattle.operands.specs.declared.Given.{Given}
 use Rattle.codes.specs.Limits.{mostCells}
-use Rattle.labels.specs.Labels.{window, Part, InCell}
+use Rattle.labels.specs.Inner.Labels.{window, Part, InCell}
 use Rattle.sources.specs.Uses.{Use, countedFor}
 use Rattle.uses.specs.Inner.Held.{usesHeld}
 

@@ -5,7 +5,7 @@ use mathlib.Core.Path.{_≡_}
 use lib.ListN.{length, replicate}
 use Rattle.codes.specs.Limits.{mostCells, longestSource, mostLabels}
 use Rattle.codes.specs.Marks.{free}
-use Rattle.labels.specs.Labels.{labelsIn, Rows}
+use Rattle.labels.specs.Inner.Labels.{labelsIn, Rows}
 use Rattle.sources.specs.Placing.{bindings}
 use Rattle.sources.specs.Order.{_on_}
 use Rattle.sources.specs.Inner.Assembling.{Verdict, passes, refused, andThen, Work, endVerdict, workOf, linesVerdict, lastLine}

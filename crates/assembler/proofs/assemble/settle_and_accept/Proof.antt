@@ -1,4 +1,4 @@
-use Rattle.labels.specs.Labels.{words, zipped}
+use Rattle.labels.specs.Inner.Labels.{words, zipped}
 use Rattle.uses.specs.Inner.Held.{usesHeld}
 use Rattle.sources.specs.Inner.Assembling.{usesVerdict, filled}
 use Rattle.assembler.proofs.Outcomes.{not-settled, all-settled}

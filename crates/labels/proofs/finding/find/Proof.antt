@@ -4,7 +4,7 @@ use mathlib.Core.Path.{_≡_, sym, subst, _∙_}
 use native.Mathlib.Omega.{arith}
 use native.Mathlib.Nat.{sub-zero}
 use lib.ListN.{drop, getD}
-use Rattle.labels.specs.Labels.{window, words, labelsBefore, OtherKeys}
+use Rattle.labels.specs.Inner.Labels.{window, words, labelsBefore, OtherKeys}
 use Rattle.labels.proofs.Laws.{key-same, place-here, place-more, place-end, place-passed}
 use Rattle.labels.proofs.finding.find.Statement.{statement}
 use Rattle.labels.proofs.finding.find.Tie as tie

@@ -1,7 +1,7 @@
 use borrow.Author.Needs.{needs}
 use Prim.Native.Nat.{_≤_, _-_}
 use native.Mathlib.Omega.{arith}
-use Rattle.labels.specs.Labels.{OtherKeys}
+use Rattle.labels.specs.Inner.Labels.{OtherKeys}
 use Rattle.labels.proofs.Laws.{others-none, others-more}
 use Rattle.labels.proofs.finding.of_key.Statement.{statement}
 use Rattle.labels.proofs.finding.of_key.Tie as tie

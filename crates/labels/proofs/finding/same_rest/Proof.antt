@@ -2,7 +2,7 @@ use borrow.Author.Needs.{needs}
 use Prim.Native.Nat.{_+_, _-_, _≤_}
 use mathlib.Core.Path.{_≡_, refl, sym, _∙_}
 use native.Mathlib.Omega.{arith}
-use Rattle.labels.specs.Labels.{window}
+use Rattle.labels.specs.Inner.Labels.{window}
 use Rattle.names.specs.Names.{same}
 use Rattle.labels.proofs.Laws.{same-more, same-stop, same-end}
 use Rattle.labels.proofs.finding.same_rest.Statement.{statement}

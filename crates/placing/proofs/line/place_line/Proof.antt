@@ -3,7 +3,7 @@ use borrow.Author.Needs.{needs}
 use Prim.Native.Nat.{_+_}
 use native.Mathlib.Omega.{arith}
 use lib.ListN.{length}
-use Rattle.labels.specs.Labels.{words}
+use Rattle.labels.specs.Inner.Labels.{words}
 use Rattle.labels.proofs.Laws.{length-words}
 use Rattle.placing.specs.Inner.State.{placeIn}
 use Rattle.placing.proofs.LineLaws.{as-read, absent-placed}

@@ -8,7 +8,7 @@ use Rattle.values.specs.declared.LabelIn.the-variants.{Named}
 use Rattle.statements.specs.declared.LineRead.{LineRead}
 use Rattle.sources.specs.Placing.{labelled}
 use Rattle.sources.specs.Inner.Assembling.{labelVerdict}
-use Rattle.labels.specs.Labels.{words}
+use Rattle.labels.specs.Inner.Labels.{words}
 use Rattle.labels.proofs.Laws.{length-words}
 use Rattle.placing.specs.Inner.State.{placeIn, FairDid}
 use Rattle.placing.specs.declared.Did.the-variants.{No}

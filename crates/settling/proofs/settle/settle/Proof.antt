@@ -7,7 +7,7 @@ use Prim.Native.Nat.{ℕ, _+_, _*_, _-_, _≤_}
 use lib.ListN.{length, getD, set}
 use Rattle.sources.specs.Order.{_on_}
 use Rattle.sources.specs.Inner.Assembling.{passes, usesVerdict, filled}
-use Rattle.labels.specs.Labels.{labelsIn}
+use Rattle.labels.specs.Inner.Labels.{labelsIn}
 use Rattle.uses.specs.Inner.Held.{usesHeld}
 use Rattle.settling.proofs.Laws.{nothing-held, nothing-filled, one-passes, all-refused, one-filled}
 use Rattle.settling.proofs.settle.settle.Statement.{statement}

@@ -1,7 +1,7 @@
 -- A name at its place among the labels, or at none.
 use borrow.Author.Needs.{needs}
 use mathlib.Core.Path.{refl}
-use Rattle.labels.specs.Labels.{window}
+use Rattle.labels.specs.Inner.Labels.{window}
 use Rattle.settling.proofs.Laws.{value-is, value-no}
 use Rattle.settling.proofs.words.look_up.Statement.{statement}
 use Rattle.settling.proofs.words.look_up.Tie as tie

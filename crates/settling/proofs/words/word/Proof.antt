@@ -2,7 +2,7 @@
 use borrow.Author.Needs.{needs}
 use mathlib.Core.Path.{subst}
 use Rattle.sources.specs.Uses.{valueOf}
-use Rattle.labels.specs.Labels.{window, labelsIn}
+use Rattle.labels.specs.Inner.Labels.{window, labelsIn}
 use Rattle.settling.specs.declared.Word.{Word}
 use Rattle.settling.specs.Inner.Settling.{Finds}
 use Rattle.settling.proofs.Laws.{tells-none, tells-plain, tells-far}
