@@ -1,10 +1,9 @@
 -- Document 01's rows once more, in its own order and figures. A name that got another number, here and in the code together, would leave every
 -- proof above it standing: it fails here.
-use Prim.Native.Nat.{ℕ}
 use mathlib.Core.Bool.{true, false}
 use mathlib.Core.List.{[], _∷_}
 use mathlib.Core.Path.{_≡_, refl}
-use Rattle.codes.specs.Registers.{A, SR, IX, IY, SP, PC, isRegister}
+use Rattle.codes.specs.Registers.{A, SR, IX, IY, SP, PC, registerCount, isRegister}
 use Rattle.codes.specs.Flags.{forZ, forC, forV, forP, forS, forH, isOn}
 use Rattle.codes.specs.Stops.{none, halted, noOpcode, noMode, noRegister, memoryEnd, zeroDivisor, budgetSpent, inputEnd, outputShort, badLoan}
 use Rattle.codes.specs.Marks.{free, codeMark, dataMark}
@@ -24,7 +23,10 @@ use Rattle.codes.specs.Limits.{
 pub registers : A ∷ SR ∷ IX ∷ IY ∷ SP ∷ PC ∷ [] ≡ 10 ∷ 11 ∷ 12 ∷ 13 ∷ 14 ∷ 15 ∷ []
 registers = refl
 
--- .. and there is no register 16
+-- "R0..R9 0..9", and these six: there is no register 16
+pub sixteen : registerCount ≡ 16
+sixteen = refl
+
 pub last-register : isRegister PC ≡ true
 last-register = refl
 

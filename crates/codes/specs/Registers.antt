@@ -21,6 +21,10 @@ SP = 14
 abbrev pub PC : ℕ
 PC = 15
 
+-- how many there are: the codes 0 to 15
+abbrev pub registerCount : ℕ
+registerCount = 16
+
 -- a code names a register: R0..R9 by its own number, the others as above
 abbrev pub isRegister : ℕ → Bool
-isRegister code = ltb code 16
+isRegister code = ltb code registerCount

@@ -14,5 +14,3 @@ pub const LARGEST_SR: u16 = 63;
 pub const LARGEST_STOP_CODE: u8 = 6;
 
 pub const LARGEST_BUDGET: u32 = 1000000;
-
-pub const FIRST_WORDS: u16 = 2496;

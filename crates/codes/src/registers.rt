@@ -10,3 +10,5 @@ pub const IY: usize = 13;
 pub const SP: usize = 14;
 
 pub const PC: usize = 15;
+
+pub const REGISTER_COUNT: u16 = 16;

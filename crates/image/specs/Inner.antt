@@ -1,2 +1,2 @@
--- What the inner functions promise one another. Nothing here has to be believed: the promise of `print` cites Printing.antt and Image.antt alone.
+-- What the inner functions promise one another. Nothing here has to be believed: the promise of `print` cites Printing.antt, Image.antt and the lines of `texts`.
 pub mod Pieces

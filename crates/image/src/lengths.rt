@@ -31,7 +31,7 @@ pub(crate) fn claimed_in(map: &[u8]) -> usize
     let mut n: usize = 0;
     let mut i: usize = 0;
     while i < map.len() {
-        if map[i] != 0 {
+        if map[i] != FREE {
             n += 1;
         }
         i += 1;

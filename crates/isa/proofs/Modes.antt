@@ -12,7 +12,8 @@ use Rattle.isa.specs.declared.Operand.{Operand}
 use Rattle.isa.specs.declared.Operand.the-variants.{Absent, Immediate, Register, Memory, Indirect, IndexedX, IndexedY, IndexedSp, Relative}
 use Rattle.codes.specs.Registers.{isRegister}
 use Rattle.isa.specs.Opcodes.{presentIn}
-use Rattle.isa.specs.Operands.{modeOf, operandWords, wordOf, registerThere, modesOf, oneOf, seventh, isTarget, seventhFits, operandOf}
+use Rattle.isa.specs.Operands.{modeOf, operandWords, registerThere, modesOf, oneOf, seventh, isTarget, seventhFits, operandOf}
+use Rattle.isa.specs.Inner.Words.{wordOf}
 use Rattle.isa.specs.Decoding.{wordsOfMode}
 use Rattle.isa.proofs.Tests.{or-false}
 

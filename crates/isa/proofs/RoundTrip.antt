@@ -17,7 +17,8 @@ use Rattle.isa.specs.declared.FirstWord.the-variants.{Allowed, UnknownOp
 use Rattle.isa.specs.declared.Decoded.{Decoded}
 use Rattle.isa.specs.declared.Decoded.the-variants.{Read, NoOpcode, NoMode, NoRegister, PastMemory}
 use Rattle.isa.specs.Opcodes.{table}
-use Rattle.isa.specs.Operands.{modeOf, operandWords, wordOf, registerThere, modesOf, oneOf, operandOf}
+use Rattle.isa.specs.Operands.{modeOf, operandWords, registerThere, modesOf, oneOf, operandOf}
+use Rattle.isa.specs.Inner.Words.{wordOf}
 use Rattle.isa.specs.Encoding.{firstWordOf, wordsOf, allowed, encoding, encodeOf}
 use Rattle.isa.specs.Decoding.{opcodeIn, mode1In, mode2In, modesAllowed, sizeIn, instructionIn, registersThere, firstWordRead, readUnless}
 use Rattle.isa.specs.Decoding.{followed, decodeWord, decodeOf, stopOf, wordsOfMode}

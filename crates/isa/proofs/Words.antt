@@ -13,8 +13,9 @@ use Rattle.isa.specs.declared.Instruction.{Instruction}
 use Rattle.isa.specs.declared.Encoded.{Encoded}
 use Rattle.isa.specs.declared.Encoded.the-variants.{One, Two, Three, Refused}
 use Rattle.isa.specs.Opcodes.{table, opcodes, opcodeOf, presentIn, countOf}
-use Rattle.isa.specs.Operands.{modeOf, operandWords, wordOf, registerThere, modesOf, oneOf, seventhFits, allows}
-use Rattle.isa.specs.Encoding.{firstWordOf, wordsOf, allowed, handedBack, Encoding, encoding, encodeOf, refusalOf, wordsIn, answered}
+use Rattle.isa.specs.Operands.{modeOf, operandWords, registerThere, modesOf, oneOf, seventhFits, allows}
+use Rattle.isa.specs.Encoding.{firstWordOf, wordsOf, allowed, Encoding, encoding, encodeOf, refusalOf, wordsIn, answered}
+use Rattle.isa.specs.Inner.Words.{wordOf, handedBack}
 use Rattle.isa.specs.Decoding.{opcodeIn, mode1In, mode2In, modesAllowed, sizeIn, wordsOfMode}
 use Rattle.isa.proofs.Tests.{both-true}
 use Rattle.isa.proofs.Numbers.{number-below, opcode-of-number, each}

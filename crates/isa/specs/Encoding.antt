@@ -25,14 +25,6 @@ allowed i =
     (allows (table (i .op) .first) (i .first) && allows (table (i .op) .second) (i .second)) &&
     (registerThere (i .first) && registerThere (i .second))
 
--- one, two or three words as the encoder hands them back
-abbrev pub handedBack : List ℕ → Encoded
-handedBack [] = Refused
-handedBack (w ∷ []) = One w
-handedBack (w ∷ a ∷ []) = Two w a
-handedBack (w ∷ a ∷ b ∷ []) = Three w a b
-handedBack (w ∷ a ∷ b ∷ c ∷ ws) = Refused
-
 -- a refusal's number, 0 for none, and the words
 pub record Encoding : Type 0 where
   pub refusal : ℕ

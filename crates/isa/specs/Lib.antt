@@ -3,3 +3,4 @@ pub mod Opcodes
 pub mod Operands
 pub mod Encoding
 pub mod Decoding
+pub mod Inner

@@ -34,10 +34,6 @@ operandWords (IndexedY d) = d ∷ []
 operandWords (IndexedSp d) = d ∷ []
 operandWords (Relative d) = d ∷ []
 
--- that word, and 0 where there is no operand
-abbrev pub wordOf : Operand → ℕ
-wordOf o = getD (operandWords o) 0 0
-
 -- a register that an operand names is one of the 16
 abbrev pub registerThere : Operand → Bool
 registerThere Absent = true

@@ -2,7 +2,8 @@
 ghost use mathlib.Core.Path.{_≡_};
 ghost use mathlib.Core.List.{_∷_, _++_};
 ghost use Rattle.isa.specs.Operands.{operandWords};
-ghost use Rattle.isa.specs.Encoding.{allowed, handedBack, encodeOf, answered};
+ghost use Rattle.isa.specs.Encoding.{allowed, encodeOf, answered};
+ghost use Rattle.isa.specs.Inner.Words.{handedBack};
 use super::Encoded;
 use super::Instruction;
 use super::Operand;

@@ -3,9 +3,11 @@ ghost use mathlib.Core.Path.{_≡_};
 ghost use mathlib.Core.Bool.{_&&_};
 ghost use mathlib.Core.List.{[], _∷_};
 ghost use lib.Dec.{leb};
-ghost use Rattle.isa.specs.Operands.{modeOf, wordOf, registerThere, modesOf, oneOf, isTarget, seventhFits, allows, operandOf};
+ghost use Rattle.isa.specs.Operands.{modeOf, registerThere, modesOf, oneOf, isTarget, seventhFits, allows, operandOf};
+ghost use Rattle.isa.specs.Inner.Words.{wordOf};
 use super::Kinds;
 use super::Operand;
+use codes::registers::REGISTER_COUNT;
 
 pub(crate) fn mode(o: Operand) -> u16
     ensures { λ r. ⌜ r ≡ modeOf o ⌝ }
@@ -44,8 +46,8 @@ pub(crate) fn register_there(o: Operand) -> bool
     ensures { λ r. ⌜ r ≡ registerThere o ⌝ }
 {
     match o {
-        Operand::Register(r) => r < 16,
-        Operand::Indirect(r) => r < 16,
+        Operand::Register(r) => r < REGISTER_COUNT,
+        Operand::Indirect(r) => r < REGISTER_COUNT,
         _ => true,
     }
 }

@@ -45,7 +45,9 @@ pub fn key(s: &[u8], a: usize, n: u16) -> usize
 // The first label from a place on that has the key; how many there are, if none has.
 fn of_key(keys: &[u16], from: usize, count: usize, wanted: usize) -> usize
     requires { ⌜ (from ≤ count) × (count ≤ length (now keys)) ⌝ }
-    ensures { λ r. ⌜ (from ≤ r) × (r ≤ count) × OtherKeys (now (keys .entry)) wanted from r × (r < count → getD (now (keys .entry)) r 0 ≡ wanted) ⌝ }
+    ensures { λ r. ⌜
+        (from ≤ r) × (r ≤ count) × OtherKeys (now (keys .entry)) wanted from r × (r < count → getD (now (keys .entry)) r 0 ≡ wanted)
+        ⌝ }
 {
     let mut i = from;
     while i < count {
@@ -68,7 +70,9 @@ pub fn find(
     size: usize,
 ) -> usize
     requires { ⌜ (start < farthest) × InCell size × (count ≤ length (now starts)) × (count ≤ length (now keys)) ⌝ }
-    ensures { λ r. ⌜ r ≡ labelsBefore (window (now (line .entry)) start size) (words (now (s .entry)) (now (starts .entry)) (now (keys .entry)) count) ⌝ }
+    ensures { λ r. ⌜
+        r ≡ labelsBefore (window (now (line .entry)) start size) (words (now (s .entry)) (now (starts .entry)) (now (keys .entry)) count)
+        ⌝ }
 {
     let wanted = key(line, start, size as u16);
     let mut i = of_key(keys, 0, count, wanted);

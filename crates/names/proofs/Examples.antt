@@ -33,7 +33,7 @@ Codes [] = Unit {0}
 Codes (c ∷ cs) = (registerCode (bytes (c .name)) ≡ c .its) × (registerCode (smallBytes (c .name)) ≡ c .its) × Codes cs
 
 pub record Examples : Type 0 where
-  -- "Registers: R0..R9 0..9, A 10, SR 11, IX 12, IY 13, SP 14, PC 15", by the names that the instruction set has for them
+  -- "Registers: R0..R9 0..9, A 10, SR 11, IX 12, IY 13, SP 14, PC 15", by their names in `codes`
   pub codes : Codes (coded "R0" 0 ∷ coded "R1" 1 ∷ coded "R2" 2 ∷ coded "R3" 3 ∷ coded "R4" 4 ∷ coded "R5" 5 ∷ coded "R6" 6 ∷ coded "R7" 7 ∷ coded "R8" 8 ∷ coded "R9" 9 ∷ coded "A" A ∷ coded "SR" SR ∷ coded "IX" IX ∷ coded "IY" IY ∷ coded "SP" SP ∷ coded "PC" PC ∷ [])
   -- every opcode's name, in small letters
   pub all-small : map (λ (o : Opcode). wordOf (smallBytes (table o .name))) opcodes ≡ map Instructs opcodes

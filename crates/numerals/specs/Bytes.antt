@@ -5,7 +5,7 @@ use Prim.Native.String.{String}
 use Prim.Native.String as Text
 use mathlib.Core.Bool.{Bool, cond, _&&_, _||_}
 use mathlib.Core.List.{List, [], _∷_}
-use lib.Dec.{leb, ltb, eqb}
+use lib.Dec.{leb, eqb}
 
 -- the bytes of a quoted text
 abbrev pub bytes : String → List ℕ

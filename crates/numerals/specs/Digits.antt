@@ -1,5 +1,5 @@
 -- Digits over any radix: decimal and hexadecimal are instances.
-use Prim.Native.Nat.{ℕ, suc, _+_, _*_, _<_}
+use Prim.Native.Nat.{ℕ, _+_, _*_, _<_}
 use mathlib.Core.Bool.{Bool, true, _&&_, not}
 use mathlib.Core.List.{List, [], _∷_}
 use lib.Dec.{ltb, T}

@@ -1,14 +1,13 @@
 -- The number at a place of a text, as a function; `proofs/Top.antt` shows that it finds exactly the rule's numbers.
 use Prim.Native.Nat.{ℕ, suc, _+_}
 use Prim.Native.Char.{code}
-use mathlib.Core.Bool.{Bool, true, false, cond, _&&_, _||_, not}
+use mathlib.Core.Bool.{Bool, true, false, cond, _&&_}
 use mathlib.Core.List.{List, [], _∷_}
 use lib.Dec.{ltb, eqb}
 use lib.ListN.{length, getD, take, drop}
 use Rattle.numerals.specs.Bytes.{rank}
 use Rattle.numerals.specs.Digits.{worth, endsWord}
 use Rattle.numerals.specs.Numbers.{base, prefix, cut, keptOf}
-use Rattle.numerals.specs.declared.Cursor.{Cursor}
 use Rattle.numerals.specs.declared.Radix.{Radix}
 use Rattle.numerals.specs.declared.Radix.the-variants.{Decimal, Hexadecimal}
 use Rattle.numerals.specs.declared.Kept.{Kept}

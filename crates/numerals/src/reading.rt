@@ -3,7 +3,7 @@ ghost use mathlib.Core.Path.{_≡_};
 ghost use Prim.Native.Nat.{_+_, _-_, _≤_};
 ghost use lib.ListN.{length, take, drop, getD};
 ghost use Rattle.numerals.specs.Digits.{worth};
-ghost use Rattle.numerals.specs.Numbers.{base, prefix, cut, keptOf};
+ghost use Rattle.numerals.specs.Numbers.{base, cut, keptOf};
 ghost use Rattle.numerals.specs.Reading.{digitsAt, radixAt, unsignedAt, numberAt, lineNumber};
 use super::Cursor;
 use super::Kept;

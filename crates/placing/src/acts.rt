@@ -1,5 +1,6 @@
 // What a statement does to the place (sources/specs/Placing.antt, `does`).
 ghost use mathlib.Core.Path.{_≡_};
+ghost use Rattle.codes.specs.Marks.{free};
 ghost use Rattle.sources.specs.Placing.{does};
 ghost use Rattle.sources.specs.declared.Gives.the-variants.{Start};
 ghost use Rattle.sources.specs.declared.Moves.the-variants.{On};
@@ -25,7 +26,7 @@ fn claiming(n: usize, mark: u8) -> Act
 }
 
 fn moving(gives: Gives, moves: Moves) -> Act
-    ensures { λ r. ⌜ r ≡ record { gives = gives; moves = moves; claims = 0; mark = 0 } ⌝ }
+    ensures { λ r. ⌜ r ≡ record { gives = gives; moves = moves; claims = 0; mark = free } ⌝ }
 {
     Act {
         gives: gives,

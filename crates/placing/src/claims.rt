@@ -4,6 +4,7 @@ ghost use Prim.Native.Nat.{_+_, _≤_, _<_};
 ghost use lib.ListN.{length, replicate};
 ghost use lib.Seq.{sets};
 ghost use Rattle.sources.specs.Inner.Assembling.{taken};
+use codes::marks::FREE;
 
 pub(crate) fn is_taken(marks: &[u8], at: usize, n: usize) -> bool
     requires { ⌜ (0 < n → at + n ≤ length (now marks)) ⌝ }
@@ -11,7 +12,7 @@ pub(crate) fn is_taken(marks: &[u8], at: usize, n: usize) -> bool
 {
     let mut i: usize = 0;
     while i < n {
-        if marks[at + i] != 0 {
+        if marks[at + i] != FREE {
             return true;
         }
         i += 1;

@@ -17,7 +17,7 @@ fn line_end(input: &[u8], at: usize) -> usize
 {
     let mut i = at;
     while i < input.len() {
-        if input[i] == 10 {
+        if input[i] == b'\n' {
             return i;
         }
         i += 1;

@@ -31,7 +31,7 @@ fn look_up(
 
 // A value less the address after the instruction, if it lies from -32768 to 32767.
 fn distance(value: u16, next: usize) -> Word
-    requires { ⌜ next ≤ mostCells + 300 ⌝ }
+    requires { ⌜ next ≤ mostCells + 254 ⌝ }
     ensures { λ r. ⌜ Reaches value next r ⌝ }
 {
     let v = value as usize;

@@ -10,7 +10,7 @@ pub fn line_end(s: &[u8], from: usize) -> usize
 {
     let mut i = from;
     while i < s.len() {
-        if s[i] == 10 {
+        if s[i] == b'\n' {
             return i;
         }
         i += 1;

@@ -13,17 +13,17 @@ pub fn character(s: &[u8], from: Cursor) -> Character
         return Character::Broken;
     }
     let b = s[at];
-    if b == 34 {
+    if b == b'"' {
         return Character::Closed(Cursor { at: at + 1 });
     }
-    if b == 92 {
+    if b == b'\\' {
         if s.len() - at < 2 {
             return Character::Broken;
         }
-        if s[at + 1] != 110 {
+        if s[at + 1] != b'n' {
             return Character::Broken;
         }
-        return Character::Stands(10, Cursor { at: at + 2 });
+        return Character::Stands(b'\n', Cursor { at: at + 2 });
     }
     if b < 32 {
         return Character::Broken;

@@ -18,13 +18,13 @@ use numerals::bytes::run_end;
 fn is_blank(b: u8) -> bool
     ensures { λ r. ⌜ r ≡ isBlank b ⌝ }
 {
-    if b == 32 {
+    if b == b' ' {
         return true;
     }
-    if b == 9 {
+    if b == b'\t' {
         return true;
     }
-    b == 13
+    b == b'\r'
 }
 
 // The place after the blanks that stand from a place on.
@@ -103,10 +103,10 @@ fn token_here(s: &[u8], at: usize, directly: bool) -> Token
     if rank < 17 {
         return spanning(Kind::Word, at, directly, run_end(s, at, 17));
     }
-    if b == 34 {
+    if b == b'"' {
         return string_token(s, at, directly);
     }
-    if b == 59 {
+    if b == b';' {
         return spanning(Kind::End, at, directly, at);
     }
     if b < 33 {

@@ -7,7 +7,8 @@ use native.Mathlib.Omega.{arith}
 use lib.ListN.{length, length-append}
 use Rattle.codes.specs.Limits.{mostCells, longestSource}
 use Rattle.isa.specs.Opcodes.{countOf}
-use Rattle.isa.specs.Operands.{operandWords, wordOf}
+use Rattle.isa.specs.Operands.{operandWords}
+use Rattle.isa.specs.Inner.Words.{wordOf}
 use Rattle.isa.specs.Encoding.{allowed, wordsOf, encodeOf}
 use Rattle.isa.specs.declared.Instruction.{Instruction}
 use Rattle.isa.specs.declared.Opcode.{Opcode}

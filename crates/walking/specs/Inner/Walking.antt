@@ -1,6 +1,6 @@
 -- What the rows stand for, and what the walk answers.
 use Prim.Native.Nat.{ℕ, _≤_, _<_}
-use mathlib.Core.List.{List, map}
+use mathlib.Core.List.{List}
 use mathlib.Core.Path.{_≡_}
 use lib.ListN.{length, replicate}
 use Rattle.codes.specs.Limits.{mostCells, longestSource, mostLabels}
@@ -43,7 +43,7 @@ SaysLines M source of r = Says (linesVerdict M source) (workOf M source) (lastLi
 -- every label is bound, and the rows hold what the work has come to
 pub record Holds (s starts keys vs ms memory row aways : List ℕ) (w : Work) (labels named : ℕ) : Type 0 where
   pub few : labels ≤ mostLabels
-  pub enough : named < mostUses
+  pub few : named < mostUses
   pub bound : labelsIn s starts keys vs labels ≡ bindings (w .place)
   pub marks : ms ≡ w .place .marks
   pub cells : memory ≡ w .cells

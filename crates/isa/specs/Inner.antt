@@ -1,0 +1,2 @@
+-- What the inner functions promise one another. Nothing here has to be believed: no promise to a host or a program cites it.
+pub mod Words
