@@ -5,12 +5,14 @@
  * what crates/machine/specs/Steps.antt and Runs.antt define, for any registers, any budget and any lengths and contents
  * of memory, input and output. What is promised is restated in crates/host/proofs/Top.antt. No C is part of it.
  *
- * To link, on x86-64 Linux (the archive is x86-64 on every machine that writes it):
+ * To link, on x86-64 Linux:
  *
  *     rt staticlib host                                   writes target/staticlib/libhost.a
  *     cc -Iinclude your.c target/staticlib/libhost.a      it needs only memcpy of the C library
  *
- * examples/host.c is a whole program; examples/host builds and runs it.
+ * The archive is x86-64 on every machine that writes it: a compiler for Arm cannot link it, one for x86-64 can.
+ *
+ * examples/host.c is a whole program; examples/host builds and runs it, on Arm with such a compiler and an emulator.
  */
 #ifndef ENS2025_INCLUDED
 #define ENS2025_INCLUDED
@@ -64,7 +66,7 @@ enum {
     ENS2025_STOP_BUDGET_SPENT = 7,  /* of a run only: the machine runs on; run again */
     ENS2025_STOP_INPUT_END = 8,     /* the instruction at PC wants more input than is left: lend more, and go on */
     ENS2025_STOP_OUTPUT_ROOM = 9,   /* the instruction at PC wants more room than is left: lend more, and go on */
-    ENS2025_STOP_BAD_LOAN = 10      /* what was lent is no machine, or the budget is too large; nothing changed */
+    ENS2025_STOP_BAD_LOAN = 10      /* what was lent is no machine, or the budget is too large; nothing of it changed */
 };
 
 /* The limits. */
@@ -105,8 +107,8 @@ struct ens2025_registers {
  *
  * What C cannot check and the host owes, as for any C function: no pointer is null or misaligned, also where a
  * length is 0 (lend the address of any object of the type); each row has at least as many elements as its length
- * says; g, memory, output and count overlap neither each other nor the input, and nobody else changes any of them
- * during the call.
+ * says; g, memory, output and count overlap neither each other nor the input; and during the call nobody else reads
+ * or changes these, or changes the input.
  */
 
 /*
@@ -139,8 +141,9 @@ uint8_t ens2025_step(struct ens2025_registers *g,
  *
  * 7, 8 and 9 can be resumed: g->stop is 0, PC stands at the instruction that is next, and of that nothing has been done
  * yet. After 7 call again. After 8 lend a longer input, after 9 a longer output (or move or empty them, above): lent the
- * same, a run with a step left repeats 8 or 9 with count 0. Two runs, of a and then of b steps, b at least 1, do what one of
- * a + b does, and their counts add up to its count.
+ * same, a run with a step left repeats 8 or 9 with count 0. Two runs, of a and then of b steps, do what one of a + b does,
+ * and their counts add up to its count, where b is at least 1, a + b at most 1,000,000, and the second is lent the same
+ * input and what the first left. (Without a step, b = 0, the second returns 7 where the first returned 8 or 9.)
  *
  * Lend whole lines: ININT and INSTR take what is left up to its LF, or all of it where there is none, so that the rest of
  * a line that comes later is a line of its own. 8 is returned only where no byte is left. What WRINT or WRSTR writes is
