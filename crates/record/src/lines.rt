@@ -1,17 +1,14 @@
 // The record's lines, written into a room that has place for them (specs/Record.antt). No line has more than 20 bytes. Each function
 // answers the place after what it wrote.
 ghost use mathlib.Core.List.{[], _∷_, _++_};
-ghost use Prim.Native.Nat.{_+_, _≤_};
+ghost use Prim.Native.Nat.{_+_, _*_, _≤_};
 ghost use lib.ListN.{length};
 ghost use Rattle.numerals.specs.Writing.{decimal};
 ghost use Rattle.texts.specs.Lines.{textOf};
 ghost use Rattle.texts.specs.Inner.Wrote.{Wrote};
-ghost use Rattle.record.specs.Record.{endLines, lowLines, highLines, specialLines, positionLines, recordText};
+ghost use Rattle.record.specs.Record.{endLines, positionLines, recordText};
+ghost use Rattle.record.specs.Inner.Cells.{linesFrom};
 use codes::registers::A;
-use codes::registers::IX;
-use codes::registers::IY;
-use codes::registers::PC;
-use codes::registers::SP;
 use codes::registers::SR;
 use texts::writing::field;
 
@@ -43,40 +40,23 @@ fn end(room: &mut [u8], stop: u8, steps: u32, a: u16) -> usize
     cell(room, third, b"A=", a)
 }
 
-// R0 to R4.
-fn low(room: &mut [u8], at: usize, r: [u16; 16]) -> usize
-    requires { ⌜ at + 100 ≤ length (now room) ⌝ }
-    ensures { λ next. ⌜ Wrote (now (room .entry)) at (textOf (lowLines r)) (now (room .exit)) next × (next ≤ at + 100) ⌝ }
+// The lines of n registers, from a code on. Their names stand in one row, three bytes each.
+fn cells(room: &mut [u8], at: usize, names: &[u8], r: [u16; 16], from: usize, n: usize) -> usize
+    requires { ⌜ (at + 20 * n ≤ length (now room)) × (3 * n ≤ length (now names)) × (from + n ≤ 16) ⌝ }
+    ensures { λ next. ⌜
+        Wrote (now (room .entry)) at (textOf (linesFrom (now (names .entry)) r from n)) (now (room .exit)) next
+        × (next ≤ at + 20 * n)
+        ⌝ }
 {
-    let r1 = cell(room, at, b"R0=", r[0]);
-    let r2 = cell(room, r1, b"R1=", r[1]);
-    let r3 = cell(room, r2, b"R2=", r[2]);
-    let r4 = cell(room, r3, b"R3=", r[3]);
-    cell(room, r4, b"R4=", r[4])
-}
-
-// R5 to R9.
-fn high(room: &mut [u8], at: usize, r: [u16; 16]) -> usize
-    requires { ⌜ at + 100 ≤ length (now room) ⌝ }
-    ensures { λ next. ⌜ Wrote (now (room .entry)) at (textOf (highLines r)) (now (room .exit)) next × (next ≤ at + 100) ⌝ }
-{
-    let r6 = cell(room, at, b"R5=", r[5]);
-    let r7 = cell(room, r6, b"R6=", r[6]);
-    let r8 = cell(room, r7, b"R7=", r[7]);
-    let r9 = cell(room, r8, b"R8=", r[8]);
-    cell(room, r9, b"R9=", r[9])
-}
-
-// SR, IX, IY, SP, PC.
-fn special(room: &mut [u8], at: usize, r: [u16; 16]) -> usize
-    requires { ⌜ at + 100 ≤ length (now room) ⌝ }
-    ensures { λ next. ⌜ Wrote (now (room .entry)) at (textOf (specialLines r)) (now (room .exit)) next × (next ≤ at + 100) ⌝ }
-{
-    let ix = cell(room, at, b"SR=", r[SR]);
-    let iy = cell(room, ix, b"IX=", r[IX]);
-    let sp = cell(room, iy, b"IY=", r[IY]);
-    let pc = cell(room, sp, b"SP=", r[SP]);
-    cell(room, pc, b"PC=", r[PC])
+    let mut next = at;
+    let mut k: usize = 0;
+    while k < n {
+        let name = 3 * k;
+        let behind = name + 3;
+        next = cell(room, next, &names[name..behind], r[from + k]);
+        k += 1;
+    }
+    next
 }
 
 // How many bytes were taken of the input, and written to the output.
@@ -101,8 +81,7 @@ pub(crate) fn write(
     ensures { λ next. ⌜ Wrote (now (room .entry)) 0 (recordText stop steps r taken written) (now (room .exit)) next × (next ≤ 400) ⌝ }
 {
     let first = end(room, stop, steps, r[A]);
-    let fifth = low(room, first, r);
-    let others = high(room, fifth, r);
-    let last = special(room, others, r);
+    let special = cells(room, first, b"R0=R1=R2=R3=R4=R5=R6=R7=R8=R9=", r, 0, 10);
+    let last = cells(room, special, b"SR=IX=IY=SP=PC=", r, SR, 5);
     positions(room, last, taken, written)
 }

@@ -1,9 +1,10 @@
--- The groups of lines, one behind the other (`lines-on`).
-use mathlib.Core.List.{[], _∷_, _++_}
+-- The groups of lines, one behind the other (`lines-on`); the registers' names, three bytes each, are those of their lines.
+use mathlib.Core.List.{_++_}
 use Prim.Native.Nat.{_≤_}
 use lib.ListN.{length, getD}
 use native.Mathlib.Omega.{arith}
 use Rattle.record.specs.Record.{endLines, lowLines, highLines, specialLines, positionLines}
+use Rattle.record.specs.Inner.Cells.{linesFrom}
 use Rattle.record.proofs.Texts.{lines-on}
 use Rattle.codes.specs.Registers.{A}
 use borrow.Author.Needs.{needs}
@@ -16,14 +17,17 @@ array-read-end c = search needs
 end-requires : tie.Need-end-requires
 end-requires c κs = search needs
 
-low-requires : tie.Need-low-requires
-low-requires c κs = search needs
+slice-aggregate-cells : tie.Need-slice-aggregate-cells
+slice-aggregate-cells c = search needs
 
-high-requires : tie.Need-high-requires
-high-requires c κs = search needs
+cells-requires : tie.Need-cells-requires
+cells-requires c κs = search needs
 
-special-requires : tie.Need-special-requires
-special-requires c κs = search needs
+slice-aggregate-cells-2 : tie.Need-slice-aggregate-cells-2
+slice-aggregate-cells-2 c = search needs
+
+cells-requires-2 : tie.Need-cells-requires-2
+cells-requires-2 c κs = search needs
 
 positions-requires : tie.Need-positions-requires
 positions-requires c κs = search needs
@@ -32,17 +36,15 @@ same-length : tie.Need-same-length
 same-length c = search needs
 
 returns : tie.Need-returns
+unfolding linesFrom
 returns c =
-    let a = (c .before .before .before .before .before .before .before .before .before .before .before .before .before .before .before .before .before .before .before .before .before .args) in
+    let a = c .before .before .before .before .before .before .before .before .before .before .before .before .before .before .before .before .before .before .before .args in
     let first = endLines (a .stop) (a .steps) (getD (a .t4) A 0) in
-    let fourth = first ++ lowLines (a .t4) in
-    let ninth = fourth ++ highLines (a .t4) in
-    let last = ninth ++ specialLines (a .t4) in
+    let numbered = lowLines (a .t4) ++ highLines (a .t4) in
     let h : 0 ≤ length (a .room .now) = omega arith in
-    let two = lines-on (a .room .now) 0 first (lowLines (a .t4)) 60 100 h (c .before .before .before .before .before .before .before .before .before .before .before .before .before .before .before .before .before .before .end .ensures) (c .before .before .before .before .before .before .before .before .before .before .before .before .before .before .low .ensures) in
-    let three = lines-on (a .room .now) 0 fourth (highLines (a .t4)) 160 100 h two (c .before .before .before .before .before .before .before .before .before .before .high .ensures) in
-    let four = lines-on (a .room .now) 0 ninth (specialLines (a .t4)) 260 100 h three (c .before .before .before .before .before .before .special .ensures) in
-    lines-on (a .room .now) 0 last (positionLines (a .taken) (a .written)) 360 40 h four (c .before .before .positions .ensures)
+    let two = lines-on (a .room .now) 0 first numbered 60 200 h (c .before .before .before .before .before .before .before .before .before .before .before .before .before .before .before .before .end .ensures) (c .before .before .before .before .before .before .before .before .before .before .before .cells .ensures) in
+    let three = lines-on (a .room .now) 0 (first ++ numbered) (specialLines (a .t4)) 260 100 h two (c .before .before .before .before .before .before .cells2 .ensures) in
+    lines-on (a .room .now) 0 (first ++ numbered ++ specialLines (a .t4)) (positionLines (a .taken) (a .written)) 360 40 h three (c .before .before .positions .ensures)
 
 pub write-spec : {M : Type 1} → statement M
 write-spec =
@@ -50,9 +52,10 @@ write-spec =
     (tie.spec
     array-read-end
     end-requires
-    low-requires
-    high-requires
-    special-requires
+    slice-aggregate-cells
+    cells-requires
+    slice-aggregate-cells-2
+    cells-requires-2
     positions-requires
     same-length
     returns)
