@@ -76,7 +76,7 @@ module _ (s starts keys vs ms memory row aways : List ℕ) (v : Verdict) (w : Wo
       let i : d .bound ≡ c .bound + c .waiting = omega (arith, length-drop (d .bound) held, all-there, z, e) in
       record {
         few = omega (arith, i, told .3 .few);
-        few = told .4;
+        few-named = told .4;
         bound =
             ap (λ (k : ℕ). zipped (words s starts keys k) vs′) i
             ∙ ap (λ (x : List (List ℕ)). zipped x vs′) (sym (take-all (d .bound) held (omega (arith, i, all-there))))

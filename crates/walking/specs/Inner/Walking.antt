@@ -43,7 +43,7 @@ SaysLines M source of r = Says (linesVerdict M source) (workOf M source) (lastLi
 -- every label is bound, and the rows hold what the work has come to
 pub record Holds (s starts keys vs ms memory row aways : List ℕ) (w : Work) (labels named : ℕ) : Type 0 where
   pub few : labels ≤ mostLabels
-  pub few : named < mostUses
+  pub few-named : named < mostUses
   pub bound : labelsIn s starts keys vs labels ≡ bindings (w .place)
   pub marks : ms ≡ w .place .marks
   pub cells : memory ≡ w .cells
