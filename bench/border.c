@@ -37,12 +37,16 @@ static uint8_t by_run(struct ens2025_registers *g)
 static double timed(uint8_t (*way)(struct ens2025_registers *), struct ens2025_registers *g)
 {
     clock_t start;
+    uint8_t stop;
 
     memset(g, 0, sizeof *g);
     memcpy(memory, image, sizeof memory);
     start = clock();
-    if (way(g) != ENS2025_STOP_BUDGET_SPENT)
+    stop = way(g);
+    if (stop != ENS2025_STOP_BUDGET_SPENT) {
+        fprintf(stderr, "border: the rule stops with %u before its %u steps\n", stop, ENS2025_MOST_STEPS);
         exit(1);
+    }
     return (double)(clock() - start) * 1e9 / CLOCKS_PER_SEC / ENS2025_MOST_STEPS;
 }
 
@@ -62,8 +66,10 @@ int main(int argc, char **argv)
     for (i = 0; i < TIMES; i++) {
         steps[i] = timed(by_steps, &g);
         runs[i] = timed(by_run, &h);
-        if (memcmp(g.r, h.r, sizeof g.r) != 0)
+        if (memcmp(g.r, h.r, sizeof g.r) != 0) {
+            fprintf(stderr, "border: single steps and a run do not leave the same registers\n");
             return 1;
+        }
     }
     qsort(steps, TIMES, sizeof *steps, ordered);
     qsort(runs, TIMES, sizeof *runs, ordered);

@@ -6,7 +6,8 @@
  *     cc -std=c99 -Iinclude examples/host.c target/staticlib/libhost.a -o target/host
  *     target/host examples/pump.image < levels
  *
- * `examples/host` does all of it. Exit status: 0; 1 where a call does not do what ens2025.h says; 2 without an image.
+ * `examples/host` does all of it. Exit status: 0; 1 where a call does not do what ens2025.h says; 2 without an image, where the input
+ * cannot be read or is longer than 65,536 bytes, or where the output cannot be written.
  */
 #include "ens2025.h"
 
@@ -60,11 +61,18 @@ static int load(struct machine *x, const char *name)
     return x->cells > 0;
 }
 
+/* Whether all that was printed has been taken. An error stays with the stream. */
+static int printed(void)
+{
+    return fflush(stdout) == 0 && !ferror(stdout);
+}
+
 /* Prints what the rule has written, and empties the output. */
-static void print_output(struct machine *x)
+static int print_output(struct machine *x)
 {
     fwrite(x->output, 1, x->g.written, stdout);
     x->g.written = 0;
+    return printed();
 }
 
 int main(int argc, char **argv)
@@ -82,6 +90,10 @@ int main(int argc, char **argv)
     }
     x.input = input;
     x.input_len = fread(input, 1, sizeof input, stdin);
+    if (getchar() != EOF || ferror(stdin)) {
+        fprintf(stderr, "host: an input that cannot be read, or of more than %lu bytes\n", (unsigned long)sizeof input);
+        return 2;
+    }
 
     /* Three single steps of one machine, as a debugger takes them, and a run of three of the other leave the same. */
     other = x;
@@ -96,13 +108,16 @@ int main(int argc, char **argv)
 
     /* On by runs of 20 steps, in firmware of up to 1,000,000: after 7 again, after 9 with an empty output. */
     while (stop == ENS2025_STOP_BUDGET_SPENT || (stop == ENS2025_STOP_OUTPUT_ROOM && x.g.written > 0)) {
-        if (stop == ENS2025_STOP_OUTPUT_ROOM)
-            print_output(&x);
+        if (stop == ENS2025_STOP_OUTPUT_ROOM && !print_output(&x))
+            goto full;
         stop = run(&x, 20, &count);
         steps += count;
     }
-    print_output(&x);
+    if (!print_output(&x))
+        goto full;
     printf("stop %u after %lu steps, %lu bytes taken\n", stop, steps, (unsigned long)x.g.taken);
+    if (!printed())
+        goto full;
 
     /* The machine repeats its stop; too large a budget and a memory of no cell are bad loans. Nothing changes. */
     other = x;
@@ -118,4 +133,7 @@ int main(int argc, char **argv)
 wrong:
     fprintf(stderr, "host: a call does not do what ens2025.h says\n");
     return 1;
+full:
+    fprintf(stderr, "host: the output cannot be written\n");
+    return 2;
 }
