@@ -113,6 +113,6 @@ kind-stays = Settled.kind-stays
 pub examples : Examples
 examples = Examples.examples
 
--- The promises of `instruction`, `settled` and `settled_instruction` are equations with their meanings: two replies that meet one coincide.
+-- The promise of `instruction` is an equation with its meaning: two replies that meet it coincide.
 pub coincide : {A : Type 0} {meaning r r′ : A} → r ≡ meaning → r′ ≡ meaning → r ≡ r′
 coincide p q = p ∙ sym q
