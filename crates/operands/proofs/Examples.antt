@@ -19,7 +19,7 @@ use Rattle.tokens.specs.Bytes.{isBlank, isMark}
 use Rattle.tokens.specs.Reading.{blanks, closing, tokenHere, tokenAt, tokensWithin, tokensFrom}
 use Rattle.values.specs.Ranges.{displacementOf}
 use Rattle.values.specs.declared.LabelIn.the-variants as L
-use Rattle.operands.specs.Inner.Walk.{starts, indexStep, walk, operandsOf}
+use Rattle.operands.specs.Reading.{starts, indexStep, walk, operandsOf}
 use Rattle.operands.specs.Checks.{fits, wordOf, labelIn, judged, instructionRead}
 use Rattle.operands.specs.Settling.{settledInstruction}
 use Rattle.operands.specs.declared.Given.{Given}

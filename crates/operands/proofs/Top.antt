@@ -17,7 +17,7 @@ use Rattle.values.specs.declared.LabelIn.the-variants as L
 use Rattle.values.specs.declared.Name.{Name}
 use Rattle.values.proofs.Within.{LabelWithin}
 use Rattle.operands.specs.Operands.{OperandField}
-use Rattle.operands.specs.Inner.Walk.{reads, wrong, operandsOf}
+use Rattle.operands.specs.Reading.{reads, wrong, operandsOf}
 use Rattle.operands.specs.Checks.{operandWith, operandAt, labelIn, given, fits, instructionRead, refusalOf}
 use Rattle.operands.specs.Settling.{settledOperand, settledInstruction}
 use Rattle.operands.specs.declared.Given.{Given}

@@ -1,8 +1,8 @@
-// One operand (specs/Operands.antt): a function for each state of the walk (specs/Inner/Walk.antt) that the code passes.
+// One operand (specs/Operands.antt): a function for each state of the walk (specs/Reading.antt) that the code passes.
 ghost use mathlib.Core.Path.{_≡_};
 ghost use Rattle.tokens.specs.Reading.{tokenAt};
-ghost use Rattle.operands.specs.Inner.Walk.{hash, slash, dollar};
-ghost use Rattle.operands.specs.Inner.Walk as W;
+ghost use Rattle.operands.specs.Reading.{hash, slash, dollar};
+ghost use Rattle.operands.specs.Reading as W;
 ghost use Rattle.operands.specs.Inner.Peeks.{registerOf, Goes};
 use super::OperandRead;
 use super::RegisterRead;
