@@ -48,7 +48,7 @@ one-reading = Readings.once
 
 -- ---- the four answers of `instruction`, which thereby come in the order 3, 5, 6
 
--- "5 opcode's operand count, or kind not allowed": what it is to fit.
+-- 5, "opcode's operand count, or kind not allowed": what it is to fit.
 pub fits-exactly : (op : Opcode) (os : List Written) → (fits op os ≡ true) ↔ Fits op os
 fits-exactly = Exactly.fits-exactly
 
