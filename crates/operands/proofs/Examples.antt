@@ -90,8 +90,6 @@ pub record Examples : Type 0 where
   -- "blanks may stand between" tokens; "Labels keep case; other words don't"
   pub blanks-between : Says MOVE "# -5 [ . ix ] , [ . A ]" (Read (plain (IndexedX 65531)) (plain (Indirect A)))
   pub nothing : Says NOP " ; no operand" (Read (plain Absent) (plain Absent))
-  -- "`/-30` is 65506"
-  pub memory : Says PUSH "/-30" (Read (plain (Memory 65506)) (plain Absent))
   -- a register's name without `.` is a label
   pub label : Says PUSH "#R1" (Read (labelled (Immediate 0) 1 3) (plain Absent))
   pub label-target : Says BR "$loop" (Read (labelled (Relative 0) 1 5) (plain Absent))
@@ -138,7 +136,6 @@ examples =
       first-and-last = (refl, (refl, (refl, (refl, tt))));
       blanks-between = refl;
       nothing = refl;
-      memory = refl;
       label = refl;
       label-target = refl;
       wrong-forms = (refl, (refl, (refl, (refl, (refl, (refl, (refl, (refl, (refl, (refl, (refl, (refl, (refl, tt)))))))))))));
