@@ -56,7 +56,8 @@ module _ (W : Type 0) (number : ℕ → W) (operate : Operation → W → W → 
     pub product : Waiting
 
   -- what is next at an operand's place, with the reader of what follows an operand and that of a further operand
-  abbrev pub atOperand : Symbol → (Waiting → W → List Frame → Outcome) → (Waiting → Waiting → List Frame → Outcome) → Waiting → Waiting → List Frame → Outcome
+  abbrev pub atOperand : Symbol → (Waiting → W → List Frame → Outcome) → (Waiting → Waiting → List Frame → Outcome) → Waiting → Waiting
+      → List Frame → Outcome
   atOperand (Number n) operators operands l p k = operators l (joined p (number n)) k
   atOperand (Sums o) operators operands l p k = wrong
   atOperand (Products o) operators operands l p k = wrong
@@ -68,7 +69,8 @@ module _ (W : Type 0) (number : ℕ → W) (operate : Operation → W → W → 
   shut operators l v [] = wrong
   shut operators l v (f ∷ k) = operators (f .sum) (joined (f .product) (enclose (joined l v))) k
 
-  abbrev pub atOperator : Symbol → (Waiting → W → List Frame → Outcome) → (Waiting → Waiting → List Frame → Outcome) → Waiting → W → List Frame → Outcome
+  abbrev pub atOperator : Symbol → (Waiting → W → List Frame → Outcome) → (Waiting → Waiting → List Frame → Outcome) → Waiting → W
+      → List Frame → Outcome
   atOperator (Number n) operators operands l v k = wrong
   atOperator (Sums o) operators operands l v k = operands (waits (joined l v) o) nothing k
   atOperator (Products o) operators operands l v k = operands l (waits v o) k

@@ -14,7 +14,7 @@ pub data Tree : Type 0 where
 abbrev pub Expression : List Token → Tree → Type 0
 Expression ts tree = G.Sum Tree literal node enclosed ts tree
 
--- "parentheses at most 32 deep"
+-- how deep its parentheses are
 unfoldable pub depth : Tree → ℕ
 depth (literal v) = 0
 depth (node o a b) = max (depth a) (depth b)

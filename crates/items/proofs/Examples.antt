@@ -40,7 +40,7 @@ pub record Examples : Type 0 where
   pub newline-items : ItemsIn "DATA \"ab\\n\",7" newlineItems
   pub newline-cells : cellsOf newlineItems ≡ bytes "ab" ++ (10 ∷ 0 ∷ 7 ∷ [])
   pub newline-five : dataIn "DATA \"ab\\n\",7" ≡ Cells 5
-  -- "DATA \"a\",-1" of the first program takes cells 6, 7 and 8
+  -- `DATA "a",-1` of 01's printed image takes cells 6, 7 and 8
   pub minus-one-items : ItemsIn "DATA \"a\",-1" (string (bytes "a") ∷ number (numeral true Decimal 1) ∷ [])
   pub minus-one-cells : cellsOf (string (bytes "a") ∷ number (numeral true Decimal 1) ∷ []) ≡ 97 ∷ 0 ∷ 65535 ∷ []
   pub empty-string : dataIn "DATA \"\"" ≡ Cells 1

@@ -28,8 +28,8 @@ use Rattle.values.specs.declared.ValueRead.{ValueRead}
 use Rattle.values.specs.declared.ValueRead.the-variants as R
 use Rattle.items.specs.Items.{Item, number, itemCells, itemInRange, cellsOf, allInRange}
 use Rattle.items.specs.Reading.{characters, item, Result, reads, wrong, cons, walk, judged, itemsRead}
-use Rattle.items.specs.Inner.Turns.{stringAt, itemBy, itemAt, measured}
-use Rattle.items.specs.Writing.{acceptedCells, cellsFrom, accepted, cellsAt}
+use Rattle.items.specs.Inner.Turns.{stringAt, itemBy, itemAt, measured, accepted, cellsAt}
+use Rattle.items.specs.Writing.{acceptedCells, cellsFrom}
 use Rattle.items.specs.declared.ItemRead.the-variants.{Absent}
 use Rattle.items.specs.declared.ItemsRead.{ItemsRead}
 use Rattle.items.specs.declared.ItemsRead.the-variants.{Cells, WrongForm, OutOfRange}

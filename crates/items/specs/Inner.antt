@@ -1,2 +1,2 @@
--- What the code's inner functions promise one another. Nothing here has to be believed: `proofs/Top.antt` shows that the reader follows the rule.
+-- What the code's inner functions promise one another. Nothing here has to be believed: the promises of `items` and `write_cells` do not cite it.
 pub mod Turns

@@ -1,4 +1,4 @@
--- The reading of DATA's items as a walk over their tokens (values' Walks.antt); `proofs/Top.antt` shows that it finds exactly the rule's items.
+-- The reading of DATA's items as a walk over their tokens (values' specs/Walks.antt); `proofs/Top.antt` shows that it finds exactly the rule's items.
 use Prim.Native.Nat.{ℕ, _+_}
 use mathlib.Core.Bool.{cond}
 use mathlib.Core.List.{List, [], _∷_}
@@ -11,8 +11,8 @@ use Rattle.tokens.specs.declared.Kind.{Kind}
 use Rattle.tokens.specs.declared.Kind.the-variants as K
 use Rattle.tokens.specs.declared.Token.{Token}
 use Rattle.values.specs.Reading.{valueBy, digitsBy}
-use Rattle.values.specs.Inner.Walks as Walks
-pub use Rattle.values.specs.Inner.Walks.{to, emit, halt, reads, wrong, cons}
+use Rattle.values.specs.Walks as Walks
+pub use Rattle.values.specs.Walks.{to, emit, halt, reads, wrong, cons}
 use Rattle.items.specs.Items.{Item, number, string, cellsOf, allInRange}
 use Rattle.items.specs.declared.ItemsRead.{ItemsRead}
 use Rattle.items.specs.declared.ItemsRead.the-variants.{Cells, WrongForm, OutOfRange}

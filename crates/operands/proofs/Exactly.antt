@@ -16,7 +16,7 @@ use Rattle.isa.specs.declared.Opcode.{Opcode}
 use Rattle.tokens.specs.declared.Token.{Token}
 use Rattle.values.proofs.Walks.{never}
 use Rattle.operands.specs.Operands.{OperandField}
-use Rattle.operands.specs.Inner.Walk.{Result, reads, wrong, operandsOf}
+use Rattle.operands.specs.Reading.{Result, reads, wrong, operandsOf}
 use Rattle.operands.specs.Checks.{operandWith, operandAt, fits, wordOf, given, ranged, judged, judgedForm, instructionRead, refusalOf}
 use Rattle.operands.specs.declared.Given.{Given}
 use Rattle.operands.specs.declared.InstructionRead.{InstructionRead}

@@ -9,7 +9,7 @@ use Rattle.numerals.specs.Numbers.{keptOf}
 use Rattle.numerals.specs.Reading.{run, digitsAt, radixAt, unsignedAt}
 use Rattle.isa.specs.Opcodes.{table, countOf}
 use Rattle.isa.specs.Operands.{allows}
-use Rattle.codes.specs.Registers.{PC}
+use Rattle.codes.specs.Registers.{A, PC}
 use Rattle.isa.specs.declared.Opcode.{Opcode}
 use Rattle.isa.specs.declared.Opcode.the-variants.{NOP, MOVE, PUSH, INC, BR, BZ, INSTR}
 use Rattle.isa.specs.declared.Operand.{Operand}
@@ -19,7 +19,7 @@ use Rattle.tokens.specs.Bytes.{isBlank, isMark}
 use Rattle.tokens.specs.Reading.{blanks, closing, tokenHere, tokenAt, tokensWithin, tokensFrom}
 use Rattle.values.specs.Ranges.{displacementOf}
 use Rattle.values.specs.declared.LabelIn.the-variants as L
-use Rattle.operands.specs.Inner.Walk.{starts, indexStep, walk, operandsOf}
+use Rattle.operands.specs.Reading.{starts, indexStep, walk, operandsOf}
 use Rattle.operands.specs.Checks.{fits, wordOf, labelIn, judged, instructionRead}
 use Rattle.operands.specs.Settling.{settledInstruction}
 use Rattle.operands.specs.declared.Given.{Given}
@@ -88,10 +88,8 @@ pub record Examples : Type 0 where
   -- the first and the last register
   pub first-and-last : Reads PUSH (shown ".R0" (Register 0) ∷ shown ".PC" (Register PC) ∷ shown "[.R0]" (Indirect 0) ∷ shown "[.PC]" (Indirect PC) ∷ [])
   -- "blanks may stand between" tokens; "Labels keep case; other words don't"
-  pub blanks-between : Says MOVE "# -5 [ . ix ] , [ . A ]" (Read (plain (IndexedX 65531)) (plain (Indirect 10)))
+  pub blanks-between : Says MOVE "# -5 [ . ix ] , [ . A ]" (Read (plain (IndexedX 65531)) (plain (Indirect A)))
   pub nothing : Says NOP " ; no operand" (Read (plain Absent) (plain Absent))
-  -- "`/-30` is 65506"
-  pub memory : Says PUSH "/-30" (Read (plain (Memory 65506)) (plain Absent))
   -- a register's name without `.` is a label
   pub label : Says PUSH "#R1" (Read (labelled (Immediate 0) 1 3) (plain Absent))
   pub label-target : Says BR "$loop" (Read (labelled (Relative 0) 1 5) (plain Absent))
@@ -120,7 +118,7 @@ pub record Examples : Type 0 where
   pub target-settled : Settles BR "$x" 65531 8 (Relative 65531) Absent
   pub second-settled : Settles MOVE ".R1,#x[.IX]" 7 8 (Register 1) (IndexedX 8)
   pub both-settled : Settles MOVE "#x,/x" 7 8 (Immediate 7) (Memory 8)
-  pub number-stays : Settles MOVE "#5,.A" 7 8 (Immediate 5) (Register 10)
+  pub number-stays : Settles MOVE "#5,.A" 7 8 (Immediate 5) (Register A)
 
 pub examples : Examples
 unfolding rank worthAfter keptOf run digitsAt radixAt unsignedAt table countOf allows capital isNamed registers placeIn registerCode isBlank isMark blanks closing tokenHere tokenAt tokensWithin tokensFrom displacementOf starts indexStep walk operandsOf fits wordOf labelIn judged instructionRead
@@ -138,7 +136,6 @@ examples =
       first-and-last = (refl, (refl, (refl, (refl, tt))));
       blanks-between = refl;
       nothing = refl;
-      memory = refl;
       label = refl;
       label-target = refl;
       wrong-forms = (refl, (refl, (refl, (refl, (refl, (refl, (refl, (refl, (refl, (refl, (refl, (refl, (refl, tt)))))))))))));

@@ -16,7 +16,7 @@ use Rattle.isa.specs.declared.Opcode.{Opcode}
 use Rattle.isa.specs.declared.Operand.{Operand}
 use Rattle.isa.specs.declared.Row.{Row}
 use Rattle.values.specs.declared.LabelIn.{LabelIn}
-use Rattle.operands.specs.Inner.Walk.{Result, reads, wrong}
+use Rattle.operands.specs.Reading.{Result, reads, wrong}
 use Rattle.operands.specs.Checks.{operandWith, fits, wordOf, labelIn, given, ranged, judged, judgedForm}
 use Rattle.operands.specs.Inner.Peeks.{keep, keepAll, noneListed, listed, fitsListed, judgedListed}
 use Rattle.operands.specs.declared.InstructionRead.{InstructionRead}

@@ -19,7 +19,7 @@ use Rattle.tokens.proofs.Parted.{comma-moves}
 use Rattle.tokens.proofs.Heads.{row-of}
 use Rattle.values.proofs.Walks as Walks
 use Rattle.values.proofs.Walks.{finished}
-use Rattle.operands.specs.Inner.Walk.{operand, done, Result, reads, wrong, cons, finish, step, walk, operandsOf}
+use Rattle.operands.specs.Reading.{operand, done, Result, reads, wrong, cons, finish, step, walk, operandsOf}
 use Rattle.operands.specs.Inner.Peeks.{Goes, keep, keepAll, noneListed, listed}
 use Rattle.operands.specs.declared.ListRead.the-variants as L
 use Rattle.operands.specs.declared.FirstTwo.{FirstTwo}

@@ -22,8 +22,8 @@ use Rattle.values.specs.declared.ValueRead.{ValueRead}
 use Rattle.values.specs.declared.ValueRead.the-variants as V′
 use Rattle.tokens.proofs.Heads.{row-of}
 use Rattle.operands.specs.Operands.{Index}
-use Rattle.operands.specs.Inner.Walk.{Shape, hash, slash, dollar, State, operand, value, afterHash, indexDot, indexName, registerName, indirectName, closing, done, Step, to, emit, halt, wrong, onWord, starts, indexStep, finish, stepped, codeAt, step, walk}
-use Rattle.operands.specs.Inner.Peeks.{registerOf, Onward, Goes}
+use Rattle.operands.specs.Reading.{Shape, hash, slash, dollar, State, operand, value, afterHash, indexDot, indexName, registerName, indirectName, closing, done, Step, to, emit, halt, wrong, onWord, starts, indexStep, finish, codeAt, step, walk}
+use Rattle.operands.specs.Inner.Peeks.{registerOf, stepped, Onward, Goes}
 use Rattle.operands.specs.declared.OperandRead.{OperandRead}
 use Rattle.operands.specs.declared.OperandRead.the-variants as O
 use Rattle.operands.specs.declared.RegisterRead.the-variants as R

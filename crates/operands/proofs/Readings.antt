@@ -24,7 +24,8 @@ use Rattle.values.proofs.Walks.{never, Each}
 use Rattle.values.proofs.Begins.{value-cases, digits-cases, digits-read}
 use Rattle.operands.specs.Operands as G
 use Rattle.operands.specs.Operands.{Index, by-IX, by-IY, by-SP, RegisterName, OperandText, Operands, one, more, OperandField, none, some}
-use Rattle.operands.specs.Inner.Walk.{Shape, hash, slash, dollar, State, operand, value, digits, afterHash, indexDot, indexName, registerName, indirectDot, indirectName, closing, done, put, Step, to, emit, halt, Result, reads, onWord, starts, indexStep, cons, finish, stepped, codeAt, step, walk, operandsOf}
+use Rattle.operands.specs.Reading.{Shape, hash, slash, dollar, State, operand, value, digits, afterHash, indexDot, indexName, registerName, indirectDot, indirectName, closing, done, put, Step, to, emit, halt, Result, reads, onWord, starts, indexStep, cons, finish, codeAt, step, walk, operandsOf}
+use Rattle.operands.specs.Inner.Peeks.{stepped}
 use Rattle.operands.specs.declared.Written.{Written}
 use Rattle.operands.specs.declared.Written.the-variants.{Immediate, Register, Memory, Indirect, IndexedX, IndexedY, IndexedSp, Relative}
 

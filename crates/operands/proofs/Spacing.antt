@@ -2,7 +2,7 @@
 use Prim.Native.Nat.{ℕ, zero, suc}
 use Prim.Native.Char.{code}
 use mathlib.Core.Bool.{Bool, true, false, cond}
-use mathlib.Core.List.{List, []}
+use mathlib.Core.List.{List}
 use mathlib.Core.Path.{_≡_, refl, ap, subst}
 use lib.Dec.{eqb, T}
 use lib.ListN.{length}
@@ -22,8 +22,8 @@ use Rattle.tokens.proofs.Spacing.{isMinus, AsDirectly, SameBytes, AlikeRow, ove
 use Rattle.values.specs.Values.{numeral}
 use Rattle.values.specs.declared.Value.{Value}
 use Rattle.values.proofs.Spacing.{AlikeValue, number, label, AlikeLabel, absent, named, AlikeList, none, some, AlikeResult, reads, wrong, AlikeStep, to, emit, halt, pick-alike, mark-alike, walk-alike}
-use Rattle.operands.specs.Inner.Walk as W
-use Rattle.operands.specs.Inner.Walk.{Shape, hash, slash, dollar, State, put, starts, indexStep, finish, step, walk, operandsOf}
+use Rattle.operands.specs.Reading as W
+use Rattle.operands.specs.Reading.{Shape, hash, slash, dollar, State, put, starts, indexStep, finish, step, walk, operandsOf}
 use Rattle.operands.specs.Checks.{operandWith, operandAt, fits, cellOf, wordOf, labelOf, labelIn, ranged, judged, judgedForm, instructionRead}
 use Rattle.operands.specs.declared.Given.{Given}
 use Rattle.operands.specs.declared.InstructionRead.{InstructionRead}

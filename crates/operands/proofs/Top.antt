@@ -17,7 +17,7 @@ use Rattle.values.specs.declared.LabelIn.the-variants as L
 use Rattle.values.specs.declared.Name.{Name}
 use Rattle.values.proofs.Within.{LabelWithin}
 use Rattle.operands.specs.Operands.{OperandField}
-use Rattle.operands.specs.Inner.Walk.{reads, wrong, operandsOf}
+use Rattle.operands.specs.Reading.{reads, wrong, operandsOf}
 use Rattle.operands.specs.Checks.{operandWith, operandAt, labelIn, given, fits, instructionRead, refusalOf}
 use Rattle.operands.specs.Settling.{settledOperand, settledInstruction}
 use Rattle.operands.specs.declared.Given.{Given}
@@ -48,7 +48,7 @@ one-reading = Readings.once
 
 -- ---- the four answers of `instruction`, which thereby come in the order 3, 5, 6
 
--- "5 opcode's operand count, or kind not allowed": what it is to fit.
+-- 5, "opcode's operand count, or kind not allowed": what it is to fit.
 pub fits-exactly : (op : Opcode) (os : List Written) → (fits op os ≡ true) ↔ Fits op os
 fits-exactly = Exactly.fits-exactly
 
@@ -113,6 +113,6 @@ kind-stays = Settled.kind-stays
 pub examples : Examples
 examples = Examples.examples
 
--- The promises of `instruction`, `settled` and `settled_instruction` are equations with their meanings: two replies that meet one coincide.
+-- The promise of `instruction` is an equation with its meaning: two replies that meet it coincide.
 pub coincide : {A : Type 0} {meaning r r′ : A} → r ≡ meaning → r′ ≡ meaning → r ≡ r′
 coincide p q = p ∙ sym q

@@ -26,8 +26,8 @@ use Rattle.tokens.proofs.Heads.{row-of, ends-of}
 use Rattle.values.proofs.Walks as Walks
 use Rattle.values.proofs.Walks.{turned}
 use Rattle.values.proofs.Begins.{value-cases, digits-cases, digits-read, digits-row}
-use Rattle.operands.specs.Inner.Walk.{Shape, State, operand, value, digits, put, Step, to, halt, Result, wrong, onWord, finish, stepped, codeAt, step, walk}
-use Rattle.operands.specs.Inner.Peeks.{registerBy, registerOf}
+use Rattle.operands.specs.Reading.{Shape, State, operand, value, digits, put, Step, to, halt, Result, wrong, onWord, finish, codeAt, step, walk}
+use Rattle.operands.specs.Inner.Peeks.{registerBy, registerOf, stepped}
 use Rattle.operands.specs.declared.RegisterRead.the-variants as R
 
 -- what the answer for a value says of the walk

@@ -1,4 +1,2 @@
--- The reader as a function, and what the code's inner functions promise one another. Nothing here has to be believed:
--- `proofs/Top.antt` shows that the reader follows the rule.
-pub mod Walk
+-- What the code's inner functions promise one another. Nothing here has to be believed: the promise of `instruction` does not cite it.
 pub mod Peeks

@@ -7,7 +7,6 @@ use values::Value;
 
 pub mod instruction; // the operands that follow an opcode
 mod listed; // what is kept of a list of operands
-pub mod settling; // labels replaced by their values
 mod shapes; // one operand
 mod words; // what an operand's word is
 

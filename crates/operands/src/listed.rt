@@ -1,8 +1,8 @@
 // The list of operands that follows an opcode (specs/Operands.antt): the first two of them, and how many they are.
 ghost use mathlib.Core.Path.{_≡_};
 ghost use Rattle.tokens.specs.Reading.{tokensFrom};
-ghost use Rattle.operands.specs.Inner.Walk.{walk, operandsOf};
-ghost use Rattle.operands.specs.Inner.Walk as W;
+ghost use Rattle.operands.specs.Reading.{walk, operandsOf};
+ghost use Rattle.operands.specs.Reading as W;
 ghost use Rattle.operands.specs.Inner.Peeks.{keep, listed, noneListed};
 use super::FirstTwo;
 use super::ListRead;

@@ -1,12 +1,15 @@
-// One operand (specs/Operands.antt): a function for each state of the walk (specs/Inner/Walk.antt) that the code passes.
+// One operand (specs/Operands.antt): a function for each state of the walk (specs/Reading.antt) that the code passes.
 ghost use mathlib.Core.Path.{_≡_};
 ghost use Rattle.tokens.specs.Reading.{tokenAt};
-ghost use Rattle.operands.specs.Inner.Walk.{hash, slash, dollar};
-ghost use Rattle.operands.specs.Inner.Walk as W;
+ghost use Rattle.operands.specs.Reading.{hash, slash, dollar};
+ghost use Rattle.operands.specs.Reading as W;
 ghost use Rattle.operands.specs.Inner.Peeks.{registerOf, Goes};
 use super::OperandRead;
 use super::RegisterRead;
 use super::Written;
+use codes::registers::IX;
+use codes::registers::IY;
+use codes::registers::SP;
 use names::lookup::register_code;
 use numerals::Cursor;
 use tokens::Kind;
@@ -122,10 +125,10 @@ fn index_name(s: &[u8], v: Value, from: Cursor) -> OperandRead
 {
     let read = register_at(s, from);
     match read {
-        RegisterRead::Named(r, next) => match r {
-            12 => closed(s, Written::IndexedX(v), next),
-            13 => closed(s, Written::IndexedY(v), next),
-            14 => closed(s, Written::IndexedSp(v), next),
+        RegisterRead::Named(r, next) => match r as usize {
+            IX => closed(s, Written::IndexedX(v), next),
+            IY => closed(s, Written::IndexedY(v), next),
+            SP => closed(s, Written::IndexedSp(v), next),
             _ => OperandRead::Wrong,
         },
         RegisterRead::Absent => OperandRead::Wrong,

@@ -13,15 +13,15 @@ use Rattle.tokens.proofs.Respacing.{isStray, NoStray}
 use Rattle.names.specs.Names.{wordOf}
 use Rattle.names.specs.declared.Word.{Word}
 use Rattle.names.specs.declared.Word.the-variants as W
-use Rattle.values.specs.Inner.Walks.{Step, to, emit, halt, Result, reads, wrong, stepped}
-use Rattle.values.specs.Inner.Walks as Walks
+use Rattle.values.specs.Walks.{Step, to, emit, halt, Result, reads, wrong, stepped}
+use Rattle.values.specs.Walks as Walks
 use Rattle.values.proofs.Walks.{un-cons}
 use Rattle.expressions.specs.declared.ExpressionRead.{ExpressionRead}
 use Rattle.expressions.specs.declared.ExpressionRead.the-variants as X
 use Rattle.expressions.specs.Reading.{expressionRead}
 use Rattle.expressions.proofs.Spacing.{expression-whole}
 use Rattle.operands.specs.Operands.{wordAt}
-use Rattle.operands.specs.Inner.Walk as O
+use Rattle.operands.specs.Reading as O
 use Rattle.operands.specs.declared.Written.{Written}
 use Rattle.items.specs.Items.{Item}
 use Rattle.operands.specs.Checks.{judgedForm, instructionRead}

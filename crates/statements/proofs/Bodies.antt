@@ -25,8 +25,8 @@ use Rattle.expressions.specs.declared.ExpressionRead.the-variants as E
 use Rattle.expressions.proofs.Exactly.{Found as TreeFound, tree-is, none-is, found as tree-found}
 use Rattle.expressions.proofs.Top as Trees
 use Rattle.operands.specs.Operands.{wordAt, OperandField}
-use Rattle.operands.specs.Inner.Walk.{operandsOf}
-use Rattle.operands.specs.Inner.Walk as Walk
+use Rattle.operands.specs.Reading.{operandsOf}
+use Rattle.operands.specs.Reading as Walk
 use Rattle.operands.specs.Checks as Operands
 use Rattle.operands.specs.declared.Written.{Written}
 use Rattle.operands.proofs.Top.{reads-exactly}

@@ -15,8 +15,8 @@ use Rattle.values.specs.Ranges.{displacementOf}
 use Rattle.expressions.specs.Trees.{depth}
 use Rattle.expressions.specs.Worths.{within32, ofNumber, operation, operate, worthOf}
 use Rattle.expressions.specs.Reading.{markSymbol, operand, operator, expressionRead}
-use Rattle.operands.specs.Inner.Walk.{starts, indexStep, operandsOf}
-use Rattle.operands.specs.Inner.Walk as Walk
+use Rattle.operands.specs.Reading.{starts, indexStep, operandsOf}
+use Rattle.operands.specs.Reading as Walk
 use Rattle.operands.specs.Checks.{fits, labelIn, instructionRead}
 use Rattle.operands.specs.Checks as Operands
 use Rattle.items.specs.Items.{cellsOf, allInRange}

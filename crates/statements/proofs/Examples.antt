@@ -4,6 +4,7 @@ use Prim.Native.String.{String}
 use mathlib.Core.List.{List, [], _∷_, _++_}
 use mathlib.Core.Path.{_≡_, refl}
 use lib.ListN.{replicate}
+use Rattle.codes.specs.Registers.{A}
 use Rattle.numerals.specs.Bytes.{bytes}
 use Rattle.isa.specs.declared.Opcode.the-variants as Op
 use Rattle.isa.specs.declared.Operand.{Operand}
@@ -104,7 +105,7 @@ pub record Examples : Type 0 where
   pub most-origin : Means "ORG 65535" (Org 65535)
   pub one-string : Means "DATA\"a\"" (Data 2)
   pub one-number : Means "DATA-5" (Data 1)
-  pub no-blanks : Means "MOVE#1,.A" (Instruction Op.MOVE (plain (O.Immediate 1)) (plain (O.Register 10)))
+  pub no-blanks : Means "MOVE#1,.A" (Instruction Op.MOVE (plain (O.Immediate 1)) (plain (O.Register A)))
   pub a-hex-pattern : Means "BR $0x8000" (Instruction Op.BR (plain (O.Relative 32768)) (plain O.Absent))
   -- results
   pub a-difference : Means "EQU 5 -3" (Equ 2)

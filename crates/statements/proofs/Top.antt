@@ -94,11 +94,11 @@ module _ (line : List ℕ) where
   pub never-both : (n : ℕ) → Pass (checks line) → First (checks line) n → ⊥
   never-both = FirstFails.pass-none (checks line)
 
-  -- "4 statement's word unknown"
+  -- 4, "statement's word unknown"
   pub unknown-exactly : (lineRead line .statement ≡ Fails F.UnknownWord) ↔ UnknownWord line
   unknown-exactly = Lines.unknown-exactly line
 
-  -- "3 form": no reading at all. "word 4; form 3": an unknown word is never 3, and all other refusals are of lines with a reading.
+  -- 3, "form": no reading at all. "word 4; form 3": an unknown word is never 3, and all other refusals are of lines with a reading.
   pub form-exactly : (lineRead line .statement ≡ Fails F.WrongForm) ↔ ((UnknownWord line → ⊥) × NoReading line)
   form-exactly = Lines.form-exactly line
 

@@ -11,8 +11,8 @@ use Rattle.tokens.specs.declared.Kind.{Kind}
 use Rattle.tokens.specs.declared.Kind.the-variants as K
 use Rattle.tokens.specs.declared.Token.{Token}
 use Rattle.tokens.proofs.Spacing.{AsDirectly, SameBytes, AlikeRow, over, next}
-use Rattle.values.specs.Inner.Walks.{Step, Result, cons, stepped, walk}
-use Rattle.values.specs.Inner.Walks as W
+use Rattle.values.specs.Walks.{Step, Result, cons, stepped, walk}
+use Rattle.values.specs.Walks as W
 use Rattle.values.specs.declared.LabelIn.{LabelIn}
 use Rattle.values.specs.declared.LabelIn.the-variants.{Absent, Named}
 use Rattle.values.specs.declared.Name.{Name}

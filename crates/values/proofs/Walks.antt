@@ -15,7 +15,7 @@ use Rattle.tokens.specs.declared.Follows.the-variants.{Comma, Over, Neither}
 use Rattle.tokens.specs.declared.Kind.{Kind}
 use Rattle.tokens.specs.declared.Kind.the-variants as K
 use Rattle.tokens.specs.declared.Token.{Token}
-use Rattle.values.specs.Inner.Walks.{Step, to, emit, halt, Result, reads, wrong, cons, stepped, walk}
+use Rattle.values.specs.Walks.{Step, to, emit, halt, Result, reads, wrong, cons, stepped, walk}
 use Rattle.tokens.proofs.Heads.{row-of}
 
 module _ {A : Type 0} where

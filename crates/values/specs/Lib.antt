@@ -2,4 +2,4 @@
 pub mod Values
 pub mod Ranges
 pub mod Reading
-pub mod Inner
+pub mod Walks

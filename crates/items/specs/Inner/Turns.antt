@@ -1,7 +1,7 @@
--- One turn of the reader's loop: the item at a place, and the verdict on what is left.
+-- One turn of the reader's loop: the item at a place, and the verdict on what is left; and what one turn of the writer's loop writes.
 use Prim.Native.Nat.{ℕ, _+_}
-use mathlib.Core.Bool.{Bool, cond, _&&_}
-use mathlib.Core.List.{List}
+use mathlib.Core.Bool.{Bool, false, cond, _&&_}
+use mathlib.Core.List.{List, []}
 use lib.ListN.{length}
 use Rattle.numerals.specs.declared.Cursor.{Cursor}
 use Rattle.tokens.specs.Reading.{tokenAt}
@@ -47,3 +47,15 @@ measured none = Absent
 abbrev pub verdict : ℕ → Bool → Result → ItemsRead
 verdict n fit (reads is) = cond (fit && allInRange is) (Cells (n + length (cellsOf is))) OutOfRange
 verdict n fit wrong = WrongForm
+
+-- ---- what the code of one turn writes
+
+-- the form and every range are right
+abbrev pub accepted : Result → Bool
+accepted (reads is) = allInRange is
+accepted wrong = false
+
+-- the cells of the item at a place; none where there is no item, or its number is out of range
+abbrev pub cellsAt : Standing → List ℕ
+cellsAt (stands i c) = cond (itemInRange i) (itemCells i) []
+cellsAt none = []

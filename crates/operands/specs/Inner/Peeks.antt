@@ -14,7 +14,8 @@ use Rattle.tokens.specs.Reading.{tokensFrom}
 use Rattle.tokens.specs.declared.Kind.{Kind}
 use Rattle.tokens.specs.declared.Kind.the-variants as K
 use Rattle.tokens.specs.declared.Token.{Token}
-use Rattle.operands.specs.Inner.Walk.{State, done, Result, reads, wrong, codeAt, walk}
+use Rattle.values.specs.Walks as Walks
+use Rattle.operands.specs.Reading.{State, operand, done, Step, Result, reads, wrong, codeAt, walk}
 use Rattle.operands.specs.Checks.{operandWith, wordOf, ranged}
 use Rattle.operands.specs.declared.InstructionRead.{InstructionRead}
 use Rattle.operands.specs.declared.InstructionRead.the-variants.{WrongOperands}
@@ -46,6 +47,10 @@ abbrev pub registerOf : List ℕ → Token → RegisterRead
 registerOf line t = registerBy (codeAt line t) (t .kind) (t .next)
 
 -- ---- one operand
+
+-- where a step leads: after a comma, an operand begins
+abbrev pub stepped : Step → (State → Result) → Result
+stepped = Walks.stepped operand
 
 abbrev pub goesOn : List ℕ → OperandRead → Result
 goesOn line (O.Read o next) = walk line (done o) (tokensFrom line (next .at))

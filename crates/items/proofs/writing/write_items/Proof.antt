@@ -10,7 +10,8 @@ use lib.ListN.{length}
 use lib.Seq.{sets}
 use Rattle.tokens.specs.Reading.{tokensFrom}
 use Rattle.items.specs.Reading.{item, walk}
-use Rattle.items.specs.Writing.{cellsFrom, accepted}
+use Rattle.items.specs.Inner.Turns.{accepted}
+use Rattle.items.specs.Writing.{cellsFrom}
 use Rattle.items.proofs.Measures.{found-item}
 use Rattle.tokens.proofs.Parted.{comma-moves}
 use Rattle.items.proofs.Writes.{some-item, some-end, last-written, next-accepted, next-written}

@@ -2,7 +2,7 @@
 use borrow.Author.Needs.{needs}
 use mathlib.Core.Path.{sym, _∙_}
 use Rattle.tokens.specs.Reading.{tokensFrom}
-use Rattle.operands.specs.Inner.Walk.{operandsOf}
+use Rattle.operands.specs.Reading.{operandsOf}
 use Rattle.operands.specs.Checks.{instructionRead}
 use Rattle.operands.proofs.Judged.{read-judged, wrong-judged}
 use Rattle.operands.proofs.instruction.instruction.Statement.{statement}

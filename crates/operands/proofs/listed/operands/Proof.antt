@@ -1,7 +1,7 @@
 -- No operands where the row is over, and else some.
 use borrow.Author.Needs.{needs}
 use mathlib.Core.Path.{sym, ap, _∙_}
-use Rattle.operands.specs.Inner.Walk.{Result}
+use Rattle.operands.specs.Reading.{Result}
 use Rattle.operands.specs.Inner.Peeks.{noneListed, listed}
 use Rattle.operands.proofs.Lists.{none-at, neither-at, comma-at}
 use Rattle.operands.proofs.listed.operands.Statement.{statement}

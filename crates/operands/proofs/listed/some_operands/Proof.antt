@@ -5,7 +5,7 @@ use mathlib.Core.Path.{_≡_, refl, sym, ap, subst, _∙_}
 use native.Mathlib.Omega.{arith}
 use lib.ListN.{length}
 use Rattle.tokens.specs.Reading.{tokensFrom}
-use Rattle.operands.specs.Inner.Walk.{operand, walk}
+use Rattle.operands.specs.Reading.{operand, walk}
 use Rattle.operands.specs.Inner.Peeks.{Goes, listed}
 use Rattle.operands.specs.declared.ListRead.the-variants as L
 use Rattle.operands.specs.declared.OperandRead.{OperandRead}

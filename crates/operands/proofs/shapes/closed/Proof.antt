@@ -1,7 +1,7 @@
 -- `]` ends the operand, and nothing else may stand there (Outcomes).
 use Prim.Native.Char.{code}
 use mathlib.Core.Path.{refl, sym, _∙_}
-use Rattle.operands.specs.Inner.Walk.{closing, done}
+use Rattle.operands.specs.Reading.{closing, done}
 use Rattle.operands.proofs.Outcomes.{expect-is, expect-no, expect-not, read-on}
 use borrow.Author.Needs.{needs}
 use Rattle.operands.proofs.shapes.closed.Statement.{statement}

@@ -1,6 +1,6 @@
 -- A value is a turn of the walk, and what follows it is the callee's (Outcomes).
 use mathlib.Core.Path.{sym, _∙_}
-use Rattle.operands.specs.Inner.Walk.{hash}
+use Rattle.operands.specs.Reading.{hash}
 use Rattle.operands.proofs.Outcomes.{hash-is, value-not}
 use borrow.Author.Needs.{needs}
 use Rattle.operands.proofs.shapes.immediate.Statement.{statement}

@@ -1,7 +1,7 @@
 -- `.`, and what follows it is the callee's (Outcomes).
 use Prim.Native.Char.{code}
 use mathlib.Core.Path.{refl, sym, _∙_}
-use Rattle.operands.specs.Inner.Walk.{indirectDot, indirectName}
+use Rattle.operands.specs.Reading.{indirectDot, indirectName}
 use Rattle.operands.proofs.Outcomes.{expect-is, expect-no, expect-not}
 use borrow.Author.Needs.{needs}
 use Rattle.operands.proofs.shapes.indirect.Statement.{statement}

@@ -1,6 +1,6 @@
 -- A value is a turn of the walk (Outcomes).
 use mathlib.Core.Path.{sym, _∙_}
-use Rattle.operands.specs.Inner.Walk.{slash}
+use Rattle.operands.specs.Reading.{slash}
 use Rattle.operands.proofs.Outcomes.{memory-is, value-not}
 use borrow.Author.Needs.{needs}
 use Rattle.operands.proofs.shapes.memory.Statement.{statement}

@@ -1,7 +1,7 @@
 -- Five marks begin an operand (Outcomes).
 use mathlib.Core.Path.{sym, _∙_}
 use borrow.Author.Tests.{ne-eqb}
-use Rattle.operands.specs.Inner.Walk.{hash, slash, dollar, value, registerName, indirectDot, starts}
+use Rattle.operands.specs.Reading.{hash, slash, dollar, value, registerName, indirectDot, starts}
 use Rattle.operands.proofs.Outcomes.{operand-is, operand-no, operand-not}
 use borrow.Author.Needs.{needs}
 use Rattle.operands.proofs.shapes.operand.Statement.{statement}

@@ -1,4 +1,4 @@
--- The reading of an operand field as a walk over its tokens (values' Walks.antt); `proofs/Top.antt` shows that it finds exactly the rule's
+-- The reading of an operand field as a walk over its tokens (values' specs/Walks.antt); `proofs/Top.antt` shows that it finds exactly the rule's
 -- operands.
 use Prim.Native.Nat.{ℕ}
 use Prim.Native.Char.{code}
@@ -14,8 +14,8 @@ use Rattle.tokens.specs.declared.Kind.the-variants as K
 use Rattle.tokens.specs.declared.Token.{Token}
 use Rattle.values.specs.Values.{nameAt}
 use Rattle.values.specs.Reading.{valueBy, digitsBy}
-use Rattle.values.specs.Inner.Walks as Walks
-pub use Rattle.values.specs.Inner.Walks.{to, emit, halt, reads, wrong, cons}
+use Rattle.values.specs.Walks as Walks
+pub use Rattle.values.specs.Walks.{to, emit, halt, reads, wrong, cons}
 use Rattle.values.specs.declared.Value.{Value}
 use Rattle.values.specs.declared.Value.the-variants.{Number, Label}
 use Rattle.operands.specs.Operands.{wordAt}
@@ -86,10 +86,6 @@ finish indirectDot = wrong
 finish indirectName = wrong
 finish (closing o) = wrong
 finish (done o) = reads (o ∷ [])
-
--- where a step leads: after a comma, an operand begins
-abbrev pub stepped : Step → (State → Result) → Result
-stepped = Walks.stepped operand
 
 module _ (line : List ℕ) where
   -- the code of the register that a word of the line names, or 16
