@@ -1,3 +1,4 @@
--- Which M the programs take, and what putting text promises.
+-- Which M the programs take, what they tell of a refusal, and what putting text promises.
 pub mod Sizes
+pub mod Refusals
 pub mod Putting

@@ -1,11 +1,11 @@
-// Text in a room, and text written out. Each function that puts text answers the place after it; what does not fit is left out.
+// Text in a room, and text written out.
 ghost use mathlib.Core.Path.{_≡_};
-ghost use Rattle.numerals.specs.Writing.{decimal};
 ghost use Rattle.ports.specs.Output.{textPut};
 ghost use Rattle.desk.specs.Putting.{PutSo};
 use ports::Moved;
 use ports::output::put_text;
 
+// Puts a text at a place, and answers the place after it; what does not fit is left out.
 pub fn put(out: &mut [u8], at: usize, text: &[u8]) -> usize
     ensures { λ r. ⌜ PutSo at (textPut (now (out .entry)) at (now (text .entry))) (now (out .exit)) r ⌝ }
 {
@@ -13,15 +13,6 @@ pub fn put(out: &mut [u8], at: usize, text: &[u8]) -> usize
         Moved::To(next) => next,
         Moved::Short(_) => at,
     }
-}
-
-pub fn number(out: &mut [u8], at: usize, n: u32) -> usize
-    ensures { λ r. ⌜ PutSo at (textPut (now (out .entry)) at (decimal n)) (now (out .exit)) r ⌝ }
-{
-    let written = numerals::writing::unsigned_decimal(n);
-    let bytes = written.bytes;
-    let start = written.start;
-    put(out, at, &bytes[start..])
 }
 
 // Writes what was put, and answers whether all of it was taken. Output that cannot be written is told. What becomes of it is the

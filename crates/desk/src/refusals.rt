@@ -1,73 +1,97 @@
-// A refusal on standard output, and on standard error a sentence on it.
-use super::printing::number;
+// A refusal told: two lines on standard output, and on standard error a sentence (specs/Refusals.antt).
+ghost use mathlib.Core.Path.{_≡_};
+ghost use Prim.Native.Nat.{_≤_};
+ghost use lib.ListN.{length};
+ghost use Rattle.ports.specs.Output.{textPut};
+ghost use Rattle.texts.specs.Inner.Wrote.{Wrote};
+ghost use Rattle.desk.specs.Putting.{PutSo};
+ghost use Rattle.desk.specs.Refusals.{lineTold, refusalText, reasonOf, nameTold, sentenceText, AtHead};
 use super::printing::put;
 use super::printing::write;
 use super::rooms;
 use sources::Line;
+use texts::writing::field;
 
-// "A refusal prints `refused=` and `line=`, one line each."
-fn lines(refusal: u8, line: u32) -> bool {
-    let mut out = rooms::sentence();
-    let refused = put(&mut out, 0, b"refused=");
-    let first = number(&mut out, refused, refusal as u32);
-    let second = put(&mut out, first, b"\nline=");
-    let last = number(&mut out, second, line);
-    let end = put(&mut out, last, b"\n");
-    write(1, &out, end)
+// A source has fewer lines than 32 bits count.
+fn narrow(line: Line) -> u32
+    ensures { λ r. ⌜ r ≡ lineTold line ⌝ }
+{
+    (line.0 % 4294967296) as u32
+}
+
+// "A refusal prints `refused=` and `line=`, one line each": 36 bytes at most.
+fn lines(room: &mut [u8], refusal: u8, line: Line) -> usize
+    requires { ⌜ 36 ≤ length (now room) ⌝ }
+    ensures { λ r. ⌜ AtHead (refusalText refusal (lineTold line)) (now (room .entry)) (now (room .exit)) r ⌝ }
+{
+    let at = narrow(line);
+    let second = field(room, 0, b"refused=", refusal as u32);
+    let last = field(room, second, b"\nline=", at);
+    put(room, last, b"\n")
 }
 
 // Why a source is refused, in document 01's words.
-fn why(out: &mut [u8], at: usize, refusal: u8) -> usize {
+fn why(room: &mut [u8], at: usize, refusal: u8) -> usize
+    ensures { λ r. ⌜ PutSo at (textPut (now (room .entry)) at (reasonOf refusal)) (now (room .exit)) r ⌝ }
+{
     match refusal {
-        1 => put(out, at, b"M is no decimal number from 1 to 16384"),
-        2 => put(out, at, b"a source of more than 32768 bytes"),
-        3 => put(out, at, b"wrong form, or an unknown register"),
-        4 => put(out, at, b"the statement's word is unknown"),
+        1 => put(room, at, b"M is no decimal number from 1 to 16384"),
+        2 => put(room, at, b"a source of more than 32768 bytes"),
+        3 => put(room, at, b"wrong form, or an unknown register"),
+        4 => put(room, at, b"the statement's word is unknown"),
         5 => put(
-            out,
+            room,
             at,
             b"the opcode takes another number or other kinds of operands",
         ),
         6 => put(
-            out,
+            room,
             at,
             b"a number, an expression or a label's address is out of range",
         ),
-        7 => put(out, at, b"an expression divides by zero"),
-        8 => put(out, at, b"parentheses more than 32 deep"),
-        9 => put(out, at, b"a label that was given before"),
-        10 => put(out, at, b"a label of more than 64 bytes, or the 513th"),
-        11 => put(out, at, b"past the last cell"),
-        12 => put(out, at, b"a cell claimed twice"),
-        13 => put(out, at, b"an unknown label"),
-        14 => put(out, at, b"a $label outside -32768..32767"),
-        _ => put(out, at, b"an unknown refusal"),
+        7 => put(room, at, b"an expression divides by zero"),
+        8 => put(room, at, b"parentheses more than 32 deep"),
+        9 => put(room, at, b"a label that was given before"),
+        10 => put(room, at, b"a label of more than 64 bytes, or the 513th"),
+        11 => put(room, at, b"past the last cell"),
+        12 => put(room, at, b"a cell claimed twice"),
+        13 => put(room, at, b"an unknown label"),
+        14 => put(room, at, b"a $label outside -32768..32767"),
+        _ => put(room, at, b"an unknown refusal"),
     }
 }
 
-// `FILE:LINE: refused 12: a cell claimed twice`.
-fn sentence(path: &[u8], refusal: u8, line: u32) {
-    let mut out = rooms::sentence();
-    let name = put(&mut out, 0, path);
-    let colon = put(&mut out, name, b":");
-    let at = number(&mut out, colon, line);
-    let refused = put(&mut out, at, b": refused ");
-    let told = number(&mut out, refused, refusal as u32);
-    let reason = put(&mut out, told, b": ");
-    let last = why(&mut out, reason, refusal);
-    let end = put(&mut out, last, b"\n");
-    write(2, &out, end);
+// The file's name, at the head of a room. No path that the system hands over is too long.
+fn name(room: &mut [u8], path: &[u8]) -> usize
+    requires { ⌜ 4096 ≤ length (now room) ⌝ }
+    ensures { λ r. ⌜ Wrote (now (room .entry)) 0 (nameTold (now (path .entry))) (now (room .exit)) r × (r ≤ 4096) ⌝ }
+{
+    if 4096 < path.len() {
+        return 0;
+    }
+    put(room, 0, path)
 }
 
-// A source has fewer lines than 32 bits count.
-fn narrow(line: Line) -> u32 {
-    (line.0 % 4294967296) as u32
-}
-
-// What is told of a refusal; the sentence only where the lines could be written.
-pub fn print_refusal(path: &[u8], refusal: u8, line: Line) {
+// `FILE:LINE: refused 12: a cell claimed twice`: 94 bytes at most behind the name.
+fn sentence(room: &mut [u8], path: &[u8], refusal: u8, line: Line) -> usize
+    requires { ⌜ 4190 ≤ length (now room) ⌝ }
+    ensures { λ r. ⌜ AtHead (sentenceText (now (path .entry)) refusal (lineTold line)) (now (room .entry)) (now (room .exit)) r ⌝ }
+{
     let at = narrow(line);
-    if lines(refusal, at) {
-        sentence(path, refusal, at);
+    let colon = name(room, path);
+    let refused = field(room, colon, b":", at);
+    let told = field(room, refused, b": refused ", refusal as u32);
+    let reason = put(room, told, b": ");
+    let last = why(room, reason, refusal);
+    put(room, last, b"\n")
+}
+
+// What is told of a refusal; the sentence only where the lines could be written. What becomes of them is the operating system's.
+pub fn print_refusal(path: &[u8], refusal: u8, line: Line) {
+    let mut room = rooms::sentence();
+    let end = lines(&mut room, refusal, line);
+    if write(1, &room, end) {
+        let told = sentence(&mut room, path, refusal, line);
+        write(2, &room, told);
     }
 }

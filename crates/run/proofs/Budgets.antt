@@ -1,16 +1,16 @@
--- One law for each way out of reading BUDGET, and for each turn.
+-- One law for each way out of reading BUDGET, for each turn, and for each way to call the program.
 use mathlib.Core.Path.{_≡_, refl}
 use mathlib.Core.Bool.{Bool, true, false, cond, _&&_}
 use mathlib.Core.List.{List, [], _∷_}
 use Prim.Native.Nat.{ℕ, _+_, _*_, _≤_, _<_}
 use native.Mathlib.Numerals.{add-one}
 use native.Mathlib.Omega.{arith}
-use borrow.Author.Tests.{lt-ltb, le-ltb, le-leb, lt-leb}
+use borrow.Author.Tests.{eq-eqb, ne-eqb, lt-ltb, le-ltb, le-leb, lt-leb}
 use lib.ListN.{length, getD, drop, drop-of-length-le}
 use lib.Seq.{drop-cons}
 use Rattle.numerals.specs.Bytes.{rank}
 use Rattle.numerals.specs.Digits.{allBelow, worthAfter}
-use Rattle.run.specs.Budgets.{budgetAfter, budgetOf}
+use Rattle.run.specs.Budgets.{budgetAfter, budgetOf, usualBudget, budgetAsked}
 use Rattle.run.specs.declared.Budget.{Budget}
 use Rattle.run.specs.declared.Budget.the-variants.{Steps, Wrong}
 
@@ -53,3 +53,16 @@ budget-large steps digits h =
 pub budget-end : (word : List ℕ) (i steps : ℕ) → length word ≤ i → steps ≤ 1000000 → budgetAfter steps (drop i word) ≡ Steps steps
 unfolding budgetAfter worthAfter
 budget-end word i steps h l = rw (drop-of-length-le word h, le-leb steps 1000000 l)
+
+module _ (words : ℕ) (third : List ℕ) where
+  pub asked-usual : words ≡ 3 → Steps usualBudget ≡ budgetAsked words third
+  unfolding budgetAsked
+  asked-usual e = rw (eq-eqb words 3 e)
+
+  pub asked-named : (words ≡ 3 → ⊥) → words ≡ 4 → budgetOf third ≡ budgetAsked words third
+  unfolding budgetAsked
+  asked-named d e = rw (ne-eqb words 3 d, eq-eqb words 4 e)
+
+  pub asked-other : (words ≡ 3 → ⊥) → (words ≡ 4 → ⊥) → Wrong ≡ budgetAsked words third
+  unfolding budgetAsked
+  asked-other d e = rw (ne-eqb words 3 d, ne-eqb words 4 e)

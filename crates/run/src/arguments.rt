@@ -1,6 +1,6 @@
 // BUDGET, and how the program is called.
 ghost use mathlib.Core.Path.{_≡_};
-ghost use Rattle.run.specs.Budgets.{budgetOf};
+ghost use Rattle.run.specs.Budgets.{budgetOf, budgetAsked};
 use super::Budget;
 use codes::limits::LARGEST_BUDGET;
 use numerals::bytes::rank_of;
@@ -31,23 +31,24 @@ pub(crate) fn budget_of(word: &[u8]) -> Budget
     Budget::Steps(steps)
 }
 
-// The third word's; the program's own name counts too. No word that the system hands over is longer than its room.
-fn named() -> Budget {
-    let mut word = desk::rooms::word();
-    let n = os::arg(3, &mut word);
-    budget_of(&word[..n])
-}
-
-// The budget that the words ask for: FILE and M, or FILE, M and BUDGET.
-pub(crate) fn budget() -> Budget {
-    let words = os::arg_count();
+// The budget that a call of so many words asks for: FILE and M, or FILE, M and BUDGET. The program's own name counts too.
+fn asked(words: usize, third: &[u8]) -> Budget
+    ensures { λ r. ⌜ r ≡ budgetAsked words (now (third .entry)) ⌝ }
+{
     if words == 3 {
         return Budget::Steps(USUAL);
     }
     if words == 4 {
-        return named();
+        return budget_of(third);
     }
     Budget::Wrong
+}
+
+// The budget that this call asks for. No word that the system hands over is longer than its room; one that is missing is empty.
+pub(crate) fn budget() -> Budget {
+    let mut word = desk::rooms::word();
+    let n = os::arg(3, &mut word);
+    asked(os::arg_count(), &word[..n])
 }
 
 pub(crate) fn usage() {

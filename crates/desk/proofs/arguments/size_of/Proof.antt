@@ -1,5 +1,6 @@
 -- One law for each way out.
 use mathlib.Core.Path.{sym, _∙_}
+use native.Mathlib.Omega.{arith}
 use Rattle.desk.proofs.Words.{size-absent, size-rest, size-large, size-decimal, size-hexadecimal}
 use borrow.Author.Needs.{needs}
 use Rattle.desk.proofs.arguments.size_of.Statement.{statement}
@@ -21,7 +22,7 @@ returns-2 c =
     let p = c .before .before .before .before .before in
     size-large (p .before .before .before .before .args .word .now) (sym (p .before .before .unsigned .ensures) ∙ p .n .given .1)
     (c .before .before .if1 .left)
-    (c .if2 .taken)
+    (omega arith)
 
 enum-told : tie.Need-enum-told
 enum-told c = search needs
