@@ -9,6 +9,7 @@ use super::RegisterRead;
 use super::Written;
 use codes::registers::IX;
 use codes::registers::IY;
+use codes::registers::REGISTER_COUNT;
 use codes::registers::SP;
 use names::lookup::register_code;
 use numerals::Cursor;
@@ -32,7 +33,7 @@ fn register_at(s: &[u8], from: Cursor) -> RegisterRead
         Kind::Stray => RegisterRead::Absent,
         Kind::Word => {
             let code = register_code(s, start, next.at);
-            if code < 16 {
+            if code < REGISTER_COUNT {
                 return RegisterRead::Named(code, next);
             }
             RegisterRead::Absent
