@@ -3,10 +3,8 @@
 use Prim.Native.Nat.{ℕ}
 use mathlib.Core.Bool.{true, false}
 use mathlib.Core.List.{List, [], _∷_}
-use mathlib.Core.Path.{_≡_, refl, ap}
-use lib.Dec.{ltb}
-use lib.ListN.{length, replicate, length-replicate}
-use Rattle.codes.specs.Limits.{longestSource}
+use mathlib.Core.Path.{_≡_, refl}
+use lib.ListN.{replicate}
 use Rattle.sources.specs.Placing.{Place, names, act}
 use Rattle.sources.specs.Uses.{known, plainly, from, countedWord}
 use Rattle.sources.specs.Order.{_on_}
@@ -15,16 +13,16 @@ use Rattle.sources.specs.Inner.Assembling.{passes, refused, firstOf, loa
 use Rattle.sources.specs.declared.Gives.the-variants.{Waits, Number, Start}
 use Rattle.sources.specs.declared.Moves.the-variants.{On, Reserving}
 
--- a place with so many labels, all waiting
-abbrev labels : ℕ → Place
-labels n = record { at = 0; bound = []; waiting = replicate n (97 ∷ []); marks = [] }
+abbrev a : List ℕ
+a = 97 ∷ []
+
+-- a place with so many labels bound, and so many waiting
+abbrev labels : ℕ → ℕ → Place
+labels n k = record { at = 0; bound = replicate n (record { name = a; value = 0 }); waiting = replicate k a; marks = [] }
 
 -- a place at an address of a memory of two cells, the first of which is code
 abbrev near : ℕ → List (List ℕ) → Place
 near at waiting = record { at = at; bound = []; waiting = waiting; marks = 1 ∷ 0 ∷ [] }
-
-abbrev a : List ℕ
-a = 97 ∷ []
 
 pub record Edges : Type 0 where
   -- 1
@@ -34,17 +32,21 @@ pub record Edges : Type 0 where
   pub a-cell-more : loanVerdict 65537 65537 [] ≡ refused (1 on 0)
   pub map-short : loanVerdict 2 1 [] ≡ refused (1 on 0)
   pub map-long : loanVerdict 1 2 [] ≡ refused (1 on 0)
-  -- 2
-  pub longest : ltb longestSource (length {A = ℕ} (replicate 32768 0)) ≡ false
-  pub a-byte-more : ltb longestSource (length {A = ℕ} (replicate 32769 0)) ≡ true
+  -- 2, after 1
+  pub longest : loanVerdict 1 1 (replicate 32768 0) ≡ passes
+  pub a-byte-more : loanVerdict 1 1 (replicate 32769 0) ≡ refused (2 on 0)
+  pub map-before-length : loanVerdict 2 1 (replicate 32769 0) ≡ refused (1 on 0)
   -- 10, before 9
-  pub label-64 : nameVerdict 3 (labels 0) (replicate 64 97) ≡ passes
-  pub label-65 : nameVerdict 3 (labels 0) (replicate 65 97) ≡ refused (10 on 3)
-  pub the-512th : nameVerdict 3 (labels 511) (98 ∷ []) ≡ passes
-  pub the-513th : nameVerdict 3 (labels 512) (98 ∷ []) ≡ refused (10 on 3)
-  pub the-513th-again : nameVerdict 3 (labels 512) a ≡ refused (10 on 3)
-  pub again : nameVerdict 3 (labels 1) a ≡ refused (9 on 3)
-  pub case-kept : nameVerdict 3 (labels 1) (65 ∷ []) ≡ passes
+  pub label-64 : nameVerdict 3 (labels 0 0) (replicate 64 97) ≡ passes
+  pub label-65 : nameVerdict 3 (labels 0 0) (replicate 65 97) ≡ refused (10 on 3)
+  pub the-512th : nameVerdict 3 (labels 0 511) (98 ∷ []) ≡ passes
+  pub the-513th : nameVerdict 3 (labels 0 512) (98 ∷ []) ≡ refused (10 on 3)
+  pub the-512th-mixed : nameVerdict 3 (labels 500 11) (98 ∷ []) ≡ passes
+  pub the-513th-mixed : nameVerdict 3 (labels 500 12) (98 ∷ []) ≡ refused (10 on 3)
+  pub the-513th-again : nameVerdict 3 (labels 0 512) a ≡ refused (10 on 3)
+  pub again : nameVerdict 3 (labels 0 1) a ≡ refused (9 on 3)
+  pub again-bound : nameVerdict 3 (labels 1 0) a ≡ refused (9 on 3)
+  pub case-kept : nameVerdict 3 (labels 1 1) (65 ∷ []) ≡ passes
   -- 6: a label that would get 65,536, or RES past it
   pub last-address : actVerdict 2 3 (near 65535 (a ∷ [])) (act Start (On 0) 0 0) ≡ passes
   pub no-address : actVerdict 2 3 (near 65536 (a ∷ [])) (act Start (On 0) 0 0) ≡ refused (6 on 3)
@@ -87,14 +89,18 @@ edges =
       a-cell-more = refl;
       map-short = refl;
       map-long = refl;
-      longest = ap (ltb longestSource) (length-replicate {A = ℕ} 32768 0);
-      a-byte-more = ap (ltb longestSource) (length-replicate {A = ℕ} 32769 0);
+      longest = refl;
+      a-byte-more = refl;
+      map-before-length = refl;
       label-64 = refl;
       label-65 = refl;
       the-512th = refl;
       the-513th = refl;
+      the-512th-mixed = refl;
+      the-513th-mixed = refl;
       the-513th-again = refl;
       again = refl;
+      again-bound = refl;
       case-kept = refl;
       last-address = refl;
       no-address = refl;

@@ -20,7 +20,8 @@ use Rattle.sources.specs.Sources.{Said, SourceText}
 use Rattle.sources.specs.Placing.{Judged, judgedLine}
 use Rattle.sources.specs.Order.{Refusal, loanChecks, FirstFailing, Passing}
 use Rattle.sources.specs.Image.{blocks, Apart, Image, Accepted, cellsMarked}
-use Rattle.sources.specs.Inner.Assembling.{Verdict, passes, refused, startWork, workAfter, linesRead, verdictOf, memoryOf, Assembled, accepted, refuses, assembledBy, assembleOf}
+use Rattle.sources.specs.Inner.Assembling.{Verdict, passes, refused, startWork, workAfter, linesRead, verdictOf, memoryOf}
+use Rattle.sources.specs.Inner.Assembling.{Assembled, accepted, refuses, assembledBy, assembleOf}
 use Rattle.sources.proofs.Verdicts.{tells-pass}
 use Rattle.sources.proofs.LateDecided.{loans-tell}
 use Rattle.sources.proofs.Whole as Whole
@@ -40,7 +41,7 @@ use Rattle.sources.proofs.Edges.{Edges}
 use Rattle.sources.proofs.Examples as Examples
 use Rattle.sources.proofs.Examples.{Examples}
 
--- "No source has two readings."
+-- demand 3: no source has two readings
 pub one-reading : {source : List ℕ} {xs ys : List Said} → SourceText source xs → SourceText source ys → xs ≡ ys
 one-reading = Whole.one-source-text
 
@@ -70,7 +71,7 @@ module _ (M N : ℕ) (source : List ℕ) where
 
   -- ---- refused
 
-  -- "the number and line are those of the first check that fails, in document 01's order"
+  -- demand 3: number and line are those of the first check that fails, in document 01's order
   pub refused-exactly : (why : Refusal) → (assembleOf M N source ≡ refuses why) ↔ FirstFailing M N source why
   refused-exactly why = (λ e. fails-sound M N source (out (verdictOf M N source) refl e), λ f. reply-by (fails-complete M N source f))
     where
@@ -80,7 +81,7 @@ module _ (M N : ℕ) (source : List ℕ) where
 
   -- ---- accepted
 
-  -- "accepted exactly when the rules of writing .. give it a reading that passes every listed check"; with memory and map that this
+  -- demand 3: accepted exactly when the rules of writing give it a reading that passes every listed check; with memory and map that this
   -- reading defines
   pub accepted-exactly : (memory marks : List ℕ) → (assembleOf M N source ≡ accepted memory marks) ↔ Accepted M N source memory marks
   accepted-exactly memory marks = (λ e. sound (verdictOf M N source) refl e, complete)
@@ -169,6 +170,25 @@ source-and-M-alone {M} {N} {N′} {source} {m} {k} {m′} {k′} a b =
     let e : N′ ≡ N = map-length M N′ source (b .passing .loans) ∙ sym (map-length M N source (a .passing .loans)) in
     one-image-only M N source a (subst (λ (n : ℕ). Accepted M n source m′ k′) e b)
 
+-- Two sources are accepted with the same image, or refused with the same number and line.
+abbrev pub Alike : ℕ → ℕ → List ℕ → List ℕ → Type 0
+Alike M N source source′ =
+    ((memory marks : List ℕ) → Accepted M N source memory marks ↔ Accepted M N source′ memory marks)
+    × ((why : Refusal) → FirstFailing M N source why ↔ FirstFailing M N source′ why)
+
+-- they are, where the assembler as a function answers both in one way
+answered-alike : (M N : ℕ) (source source′ : List ℕ) → assembleOf M N source ≡ assembleOf M N source′ → Alike M N source source′
+answered-alike M N source source′ e = (
+  λ memory marks. (accepted-from source source′ memory marks e, accepted-from source′ source memory marks (sym e)),
+  λ why. (refused-from source source′ why e, refused-from source′ source why (sym e)),
+)
+  where
+    accepted-from : (s t : List ℕ) (memory marks : List ℕ) → assembleOf M N s ≡ assembleOf M N t → Accepted M N s memory marks → Accepted M N t memory marks
+    accepted-from s t memory marks e a = accepted-exactly M N t memory marks .0 (sym e ∙ accepted-exactly M N s memory marks .1 a)
+
+    refused-from : (s t : List ℕ) (why : Refusal) → assembleOf M N s ≡ assembleOf M N t → FirstFailing M N s why → FirstFailing M N t why
+    refused-from s t why e f = refused-exactly M N t why .0 (sym e ∙ refused-exactly M N s why .1 f)
+
 -- What stands below END changes nothing: two sources whose lines are the same up to END, and neither of which fails 1 or 2, are
 -- accepted with the same image or refused with the same number and line.
 pub below-end : (M N : ℕ) (source source′ : List ℕ) (above : List (List ℕ)) (e : List ℕ) (rest rest′ : List (List ℕ))
@@ -177,9 +197,11 @@ pub below-end : (M N : ℕ) (source source′ : List ℕ) (above : List (List �
     → HasWord e W.End
     → Pass (loanChecks M N source)
     → Pass (loanChecks M N source′)
-    → assembleOf M N source ≡ assembleOf M N source′
+    → Alike M N source source′
 below-end M N source source′ above e rest rest′ l l′ w h h′ =
-    Below.below-end M N source source′ above e rest rest′ l l′ w (tells-pass _ _ (loans-tell M N source) h) (tells-pass _ _ (loans-tell M N source′) h′)
+    answered-alike M N source source′
+    (Below.below-end M N source source′ above e rest rest′ l l′ w (tells-pass _ _ (loans-tell M N source) h)
+    (tells-pass _ _ (loans-tell M N source′) h′))
 
 -- Adding a comment, or blanks, at the end of any line of an accepted source changes no image, while the source stays as short as sources
 -- must be. Spacing.antt has the same for blanks between tokens, refusals included, and says what is not true.
@@ -206,14 +228,14 @@ comment-line-added M N {source} {source′} above below line {memory} {marks} l 
     accepted-exactly M N source′ memory marks .0
     (Comments.comment-line-accepted M N above below line l l′ o n (accepted-exactly M N source memory marks .1 a))
 
--- Sources whose lines up to END have the same tokens, blanks between them apart, are assembled alike: to the same image, or to the same
--- refusal on the same line. A blank counts only where the rules ask for directness: before a label's `:`, and between `-` and its number.
+-- Sources whose lines up to END have the same tokens, blanks between them apart, are accepted with the same image or refused with the same
+-- number and line. A blank counts only where the rules ask for directness: before a label's `:`, and between `-` and its number.
 pub blanks-changed : (M N : ℕ) {source source′ : List ℕ} {lines lines′ : List (List ℕ)} → Lines source lines → Lines source′ lines′
     → SameLines lines lines′
     → length source ≤ longestSource
     → length source′ ≤ longestSource
-    → assembleOf M N source ≡ assembleOf M N source′
-blanks-changed M N l l′ same n n′ = Spacing.spacing-same M N l l′ same n n′
+    → Alike M N source source′
+blanks-changed M N {source} {source′} l l′ same n n′ = answered-alike M N source source′ (Spacing.spacing-same M N l l′ same n n′)
 
 -- Sources that are easily misread, with the paper's numbers.
 pub examples : Examples
