@@ -1,5 +1,5 @@
 -- A refusal, told: "A refusal prints `refused=` and `line=`, one line each" (01, "The printed image"); and, on standard error, one sentence
--- with the reason from 01's table, "Refusing a source".
+-- with the reason: the number's row of 01's table "Refusing a source", in our words.
 use Prim.Native.Nat.{ℕ, zero, suc, _%_}
 use mathlib.Core.Path.{_≡_}
 use mathlib.Core.Bool.{cond}

@@ -30,7 +30,7 @@ fn lines(room: &mut [u8], refusal: u8, line: Line) -> usize
     put(room, last, b"\n")
 }
 
-// Why a source is refused, in document 01's words.
+// Why a source is refused: document 01's table has the number, the words are ours.
 fn why(room: &mut [u8], at: usize, refusal: u8) -> usize
     ensures { λ r. ⌜ PutSo at (textPut (now (room .entry)) at (reasonOf refusal)) (now (room .exit)) r ⌝ }
 {

@@ -1,5 +1,5 @@
 -- An operand, found: a register by its code, a cell by its address, and past the modes the seventh. Assumes nothing.
-use mathlib.Core.Path.{_≡_}
+use mathlib.Core.Path.{_≡_, ap}
 use mathlib.Core.Bool.{true, false}
 use mathlib.Core.List.{List}
 use Prim.Native.Nat.{ℕ, _%_, _≤_, _<_}
@@ -13,7 +13,7 @@ use Rattle.isa.specs.declared.Kinds.{Kinds}
 use Rattle.isa.specs.declared.Operand.the-variants.{Register, Indirect, IndexedSp, Relative}
 use Rattle.isa.proofs.Modes.{seventh-target, seventh-other}
 use Rattle.effects.specs.Seen.{see}
-use Rattle.effects.specs.Places.{placeOf, valueAt, thereIn}
+use Rattle.effects.specs.Places.{plus, placeOf, valueAt, thereIn}
 use Rattle.effects.specs.Inner.Located.{locatedAt, unregistered, locate}
 use Rattle.effects.specs.declared.Place.the-variants.{InRegister, InCell}
 use Rattle.effects.specs.declared.Located.{Located}
@@ -30,6 +30,10 @@ module _ (m : List ℕ) (a : ℕ) where
   pub cell-outside : length m ≤ a → cellOf m a ≡ record { place = InCell a; value = 0; fault = memoryEnd }
   unfolding thereIn
   cell-outside h = rw (le-ltb a (length m) h, List·getD-eq-default m 0 h)
+
+-- a cell counted from a register
+pub counted : (m r : List ℕ) (k d : ℕ) {a : ℕ} → a ≡ plus (getD r k 0) d → cellOf m a ≡ cellOf m (plus (getD r k 0) d)
+counted m r k d e = ap (cellOf m) e
 
 module _ (r m : List ℕ) (next : ℕ) where
   pub register-below : (k : ℕ) → k < PC → locate r m next (Register k) ≡ record { place = InRegister k; value = getD r k 0; fault = none }

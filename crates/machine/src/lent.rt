@@ -261,7 +261,7 @@ fn index(pc: u16) -> usize
 }
 
 // A step of a machine that runs, on a good loan. Operands are found from the words at once, in place of an instruction made by `decode`
-// and taken apart again: a third of a step's time.
+// and taken apart again: a quarter of a step's instructions.
 pub(crate) fn inner(
     r: &mut [u16; 16],
     m: &mut [u16],

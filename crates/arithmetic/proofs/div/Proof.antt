@@ -1,8 +1,13 @@
 -- The quotient of the readings, cut toward zero, fits an `i32`; it leaves 16 bits at -32768/-1 alone.
+use Prim.Native.Nat.{ℕ}
+use mathlib.Core.Bool.{Bool, false}
+use mathlib.Core.Path.{sym, ap, ap₂, _∙_}
 use lib.Signed.{quotZ}
 use borrow.Author.Needs.{needs}
 use borrow.Author.Tests.{eq-eqb, ne-eqb}
-use Rattle.arithmetic.specs.Operations.{DIV}
+use Rattle.arithmetic.specs.Cells.{cell, leaves16}
+use Rattle.arithmetic.specs.Operations.{outcome, DIV}
+use Rattle.arithmetic.specs.declared.Division.the-variants.{Done}
 use Rattle.arithmetic.proofs.Laws.{quotient-leaves}
 use Rattle.arithmetic.proofs.Readings.{Computed, computed, divides, quotient-small, quotient-within}
 use Rattle.arithmetic.proofs.div.Statement.{statement}
@@ -43,14 +48,11 @@ unfolding DIV
 returns-2 c =
     let q = c .before .before .before in
     let s = q .before .before .before in
-    rw (
-      ne-eqb (s .args .y) 0 (q .before .before .if1 .left),
-      quotient-leaves (s .args .x) (s .args .y) (s .fits .x .fits) (s .fits .y .fits),
-      ← quotient q .right,
-      ← c .before .leaves .ensures,
-      ← c .before .before .cell-of .ensures,
-      c .outcome-of .ensures,
-    )
+    let x = s .args .x in
+    let y = s .args .y in
+    let value = c .before .before .cell-of .ensures ∙ ap cell (quotient q .right) in
+    let leaving = c .before .leaves .ensures ∙ ap leaves16 (quotient q .right) ∙ sym (quotient-leaves x y (s .fits .x .fits) (s .fits .y .fits)) in
+    rw (ne-eqb y 0 (q .before .before .if1 .left)) (ap Done (c .outcome-of .ensures ∙ ap₂ (λ (v : ℕ) (o : Bool). outcome v false o) value leaving))
 
 pub div-spec : {M : Type 1} → statement M
 div-spec =

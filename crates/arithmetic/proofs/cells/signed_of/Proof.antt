@@ -21,7 +21,8 @@ sub-result c =
 
 returns : tie.Need-returns
 returns c =
-    let x = c .before .args .x in toZ-pos w32 x (omega arith) ∙ sym (toZ-pos w16 x (c .if1 .taken))
+    let x = c .before .args .x in
+    toZ-pos w32 x (omega arith) ∙ sym (toZ-pos w16 x (omega (arith, c .if1 .taken)))
 
 returns-2 : tie.Need-returns-2
 returns-2 c =

@@ -6,11 +6,11 @@ use Rattle.isa.proofs.opcodes.opcode.Tie as tie
 
 returns : tie.Need-returns
 unfolding foundOf
-returns c = rw (lt-ltb _ _ (c .before .if1 .taken), ← c .numbered .ensures)
+returns c = rw (lt-ltb _ 39 (c .before .if1 .taken), ← c .numbered .ensures)
 
 returns-2 : tie.Need-returns-2
 unfolding foundOf
-returns-2 c = rw (le-ltb _ _ (c .if1 .left))
+returns-2 c = rw (le-ltb _ 39 (c .if1 .left))
 
 pub opcode-spec : {M : Type 1} → statement M
 opcode-spec = tie.close (tie.spec (λ c κs. tt) returns returns-2)

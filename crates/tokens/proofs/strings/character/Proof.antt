@@ -1,8 +1,10 @@
 -- Each way tests the bytes as the definition does; past the end a byte is 0, which is no quote, no backslash and no character.
 use native.Mathlib.Omega.{arith}
 use Prim.Native.Nat.{_+_, _≤_}
+use Prim.Native.Char.{code}
 use lib.ListN.{length, List·getD-eq-default}
 use borrow.Author.Tests.{eq-eqb, ne-eqb}
+use Rattle.tokens.specs.Strings.{backslash}
 use Rattle.tokens.specs.Reading.{characterAt}
 use Rattle.tokens.proofs.Classes.{is-inside, below, above}
 use borrow.Author.Needs.{needs}
@@ -21,7 +23,7 @@ add-t9 c = search needs
 
 returns-2 : tie.Need-returns-2
 unfolding characterAt
-returns-2 c = rw (eq-eqb _ _ (c .if2 .taken))
+returns-2 c = rw (eq-eqb _ (code "\"") (c .if2 .taken))
 
 sub-if4 : tie.Need-sub-if4
 sub-if4 c = search needs
@@ -32,7 +34,7 @@ returns-3 c =
     let p = c .before .before in
     let a = p .before .before .before .args in
     let l : length (a .s .now) ≤ a .from .at + 1 = omega arith in
-    rw (ne-eqb _ _ (p .if2 .left), eq-eqb _ _ (c .before .if3 .taken), List·getD-eq-default (a .s .now) 0 l)
+    rw (ne-eqb _ (code "\"") (p .if2 .left), eq-eqb _ backslash (c .before .if3 .taken), List·getD-eq-default (a .s .now) 0 l)
 
 add-if5 : tie.Need-add-if5
 add-if5 c = search needs
@@ -44,7 +46,7 @@ returns-4 : tie.Need-returns-4
 unfolding characterAt
 returns-4 c =
     let p = c .before .before .before in
-    rw (ne-eqb _ _ (p .before .if2 .left), eq-eqb _ _ (p .if3 .taken), ne-eqb _ _ (c .if5 .taken))
+    rw (ne-eqb _ (code "\"") (p .before .if2 .left), eq-eqb _ backslash (p .if3 .taken), ne-eqb _ (code "n") (c .if5 .taken))
 
 add-t12 : tie.Need-add-t12
 add-t12 c = search needs
@@ -53,19 +55,19 @@ returns-5 : tie.Need-returns-5
 unfolding characterAt
 returns-5 c =
     let p = c .before .before .before in
-    rw (ne-eqb _ _ (p .before .if2 .left), eq-eqb _ _ (p .if3 .taken), eq-eqb _ _ (c .if5 .left))
+    rw (ne-eqb _ (code "\"") (p .before .if2 .left), eq-eqb _ backslash (p .if3 .taken), eq-eqb _ (code "n") (c .if5 .left))
 
 returns-6 : tie.Need-returns-6
 unfolding characterAt
 returns-6 c =
     let p = c .before in
-    rw (ne-eqb _ _ (p .before .if2 .left), ne-eqb _ _ (p .if3 .left), below 32 126 _ (c .if6 .taken))
+    rw (ne-eqb _ (code "\"") (p .before .if2 .left), ne-eqb _ backslash (p .if3 .left), below 32 126 _ (c .if6 .taken))
 
 returns-7 : tie.Need-returns-7
 unfolding characterAt
 returns-7 c =
     let p = c .before .before in
-    rw (ne-eqb _ _ (p .before .if2 .left), ne-eqb _ _ (p .if3 .left), above 32 126 _ (c .if7 .taken))
+    rw (ne-eqb _ (code "\"") (p .before .if2 .left), ne-eqb _ backslash (p .if3 .left), above 32 126 _ (c .if7 .taken))
 
 add-t5 : tie.Need-add-t5
 add-t5 c = search needs
@@ -74,7 +76,7 @@ returns-8 : tie.Need-returns-8
 unfolding characterAt
 returns-8 c =
     let p = c .before .before in
-    rw (ne-eqb _ _ (p .before .if2 .left), ne-eqb _ _ (p .if3 .left), is-inside 32 126 _ (c .before .if6 .left) (c .if7 .left))
+    rw (ne-eqb _ (code "\"") (p .before .if2 .left), ne-eqb _ backslash (p .if3 .left), is-inside 32 126 _ (c .before .if6 .left) (c .if7 .left))
 
 pub character-spec : {M : Type 1} → statement M
 character-spec =
