@@ -1,0 +1,2 @@
+-- Laws of the runs, of a code run's instructions and of the walk; Top restates what the crate promises.
+pub mod Covered
