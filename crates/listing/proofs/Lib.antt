@@ -1,2 +1,4 @@
 -- Laws of the runs, of a code run's instructions and of the walk; Top restates what the crate promises.
 pub mod Covered
+pub mod Decoded
+pub mod Exactly
