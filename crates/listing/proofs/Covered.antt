@@ -1,18 +1,34 @@
 -- The runs cover exactly the claimed cells, in the order of addresses.
 use Prim.Native.Nat.{ℕ, zero, suc, _+_, _-_, _≤_, _<_}
 use mathlib.Core.Bool.{Bool, true, false, cond, _&&_, false≢true}
-use mathlib.Core.List.{List, [], _∷_}
+use mathlib.Core.List.{List, [], _∷_, _++_}
 use mathlib.Core.Path.{_≡_, refl, sym, ap, ap₂, subst, _∙_}
 use native.Mathlib.Decide.{decLt}
 use native.Mathlib.Omega.{arith}
 use lib.Dec.{eqb}
-use lib.ListN.{length, getD, drop, length-drop}
-use lib.Seq.{ext-getD, getD-drop}
+use lib.ListN.{length, getD, drop, length-drop, length-append, List·getD-append}
+use lib.Seq.{ext-getD, getD-drop, getD-append-add}
 use borrow.Author.Tests.{eqb-true, eqb-false, eq-eqb}
 use Rattle.codes.specs.Marks.{free}
 use Rattle.image.proofs.Texts.{both-true}
 use Rattle.listing.specs.Runs.{Run, run, HoldCells, Free, FirstRun, Runs, over, next}
 use Rattle.listing.specs.Inner.Walk.{joined, runsFrom}
+
+-- ---- a part of a run's cells
+
+module _ (memory marks : List ℕ) (at k : ℕ) (xs ys : List ℕ) (h : HoldCells memory marks at (xs ++ ys) k) where
+  pub first-part : HoldCells memory marks at xs k
+  first-part i l =
+      let p = h i (omega (arith, length-append xs ys)) in
+      (p .0 ∙ List·getD-append xs ys 0 i l, p .1)
+
+  pub second-part : HoldCells memory marks (at + length xs) ys k
+  second-part i l =
+      let p = h (length xs + i) (omega (arith, length-append xs ys)) in
+      let z : at + length xs + i ≡ at + (length xs + i) = omega arith in
+      (ap (λ (a : ℕ). getD memory a 0) z ∙ p .0 ∙ getD-append-add xs ys i 0, ap (λ (a : ℕ). getD marks a free) z ∙ p .1)
+
+-- ---- the walk finds runs
 
 module _ (memory marks : List ℕ) where
   -- a free cell before

@@ -2,3 +2,5 @@
 pub mod Covered
 pub mod Decoded
 pub mod Exactly
+pub mod Walking
+pub mod Cleared
