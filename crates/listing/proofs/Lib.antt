@@ -2,5 +2,6 @@
 pub mod Covered
 pub mod Decoded
 pub mod Exactly
-pub mod Walking
+pub mod Walks
+pub mod Loops
 pub mod Cleared
