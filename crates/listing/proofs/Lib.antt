@@ -4,4 +4,5 @@ pub mod Decoded
 pub mod Exactly
 pub mod Walks
 pub mod Loops
+pub mod Outcomes
 pub mod Cleared
