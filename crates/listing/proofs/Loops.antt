@@ -90,15 +90,18 @@ module _ (memory marks : List ℕ) (good : goodLoan memory marks ≡ true) where
   pub most : length marks ≤ mostCells
   most = let g = loan-good memory marks good in omega (arith, g .0, g .1)
 
+  ended : (behind at : ℕ) → length marks ≤ at → rest memory marks behind at ≡ found (Finish ∷ [])
+  ended behind at over = rest-end memory marks alike behind at (omega (arith, alike))
+
   -- what begins at an address that is there
   module _ (behind at : ℕ) (there : at < length marks) {b : Begins} (is : b ≡ beginsAt memory marks at) where
     begun : {c : Begins} → b ≡ c → Goes memory marks alike behind at c
     begun e = subst (Goes memory marks alike behind at) (sym is ∙ e) (goes memory marks alike behind at (omega (arith, alike)))
 
-    pub skipped : b ≡ B.Nothing → rest memory marks behind at ≡ rest memory marks behind (at + 1)
+    skipped : b ≡ B.Nothing → rest memory marks behind at ≡ rest memory marks behind (at + 1)
     skipped e = begun e
 
-    pub failed : b ≡ B.Fails → rest memory marks behind at ≡ failing at
+    failed : b ≡ B.Fails → rest memory marks behind at ≡ failing at
     failed e = begun e
 
     module _ {e : Entry} {n : Address} (line : b ≡ B.Line e n) where
@@ -112,94 +115,96 @@ module _ (memory marks : List ℕ) (good : goodLoan memory marks ≡ true) where
       pub line-good : (at < mostCells) × Addressed e
       line-good = (omega (arith, most), begun line .3)
 
-    -- ---- measuring
+-- ---- measuring
 
-    module _ {k : ℕ} (inv : Measuring memory marks k behind at) where
-      pub measuring-skip : b ≡ B.Nothing → Measuring memory marks k behind (at + 1)
-      measuring-skip e =
+module _ {memory marks : List ℕ} {k behind at : ℕ} (inv : Measuring memory marks k behind at) (good : goodLoan memory marks ≡ true) where
+  module _ (there : at < length marks) {b : Begins} (is : b ≡ beginsAt memory marks at) where
+    pub measuring-skip : b ≡ B.Nothing → Measuring memory marks k behind (at + 1)
+    measuring-skip e = record {
+      within = omega arith;
+      bounded = omega (arith, inv .bounded);
+      measures = ap (λ (f : Found). plus k (measureOf f)) (sym (skipped memory marks good behind at there is e)) ∙ inv .measures;
+    }
+
+    pub measuring-line : {e : Entry} {n : Address} {r : ℕ} → b ≡ B.Line e n → (r ≡ length (lineText behind at e)) × (r ≤ longestLines)
+        → Measuring memory marks (k + r) (n .0) (n .0)
+    measuring-line {e} {n} {r} line long =
+        let o = onward memory marks good behind at there is line in
+        let f = rest memory marks (n .0) (n .0) in
+        let z : plus k (measureOf (rest memory marks behind at)) ≡ plus (k + r) (measureOf f) =
+        ap (λ (g : Found). plus k (measureOf g)) (lined memory marks good behind at there is line)
+        ∙ ap (plus k) (measure-line behind at e f)
+        ∙ plus-plus k (length (lineText behind at e)) (measureOf f)
+        ∙ ap (λ (m : ℕ). plus (k + m) (measureOf f)) (sym (long .0)) in
+        record { within = o .1; bounded = omega (arith, o .0, long .1, inv .bounded); measures = sym z ∙ inv .measures }
+
+    pub measuring-fails : b ≡ B.Fails → M.Fails (record { 0 = at }) ≡ measureOf (linesOf memory marks)
+    measuring-fails e = sym (ap (λ (f : Found). plus k (measureOf f)) (failed memory marks good behind at there is e)) ∙ inv .measures
+
+  pub measuring-end : length marks ≤ at → M.Long (k + 4) ≡ measureOf (linesOf memory marks)
+  measuring-end over =
+      ap (λ (n : ℕ). M.Long (k + n)) (sym last-length)
+      ∙ sym (ap (λ (f : Found). plus k (measureOf f)) (ended memory marks good behind at over)) ∙ inv .measures
+
+-- ---- writing
+
+module _ {xs memory marks room : List ℕ} {put behind at : ℕ} (inv : Writing xs memory marks room put behind at)
+    (good : goodLoan memory marks ≡ true) where
+  module _ (there : at < length marks) {b : Begins} (is : b ≡ beginsAt memory marks at) where
+    pub writing-skip : b ≡ B.Nothing → Writing xs memory marks room put behind (at + 1)
+    writing-skip e =
+        let s = skipped memory marks good behind at there is e in
+        record {
+          as-long = inv .as-long;
+          within = omega arith;
+          decodes = ap wasFound (sym s) ∙ inv .decodes;
+          lengths = ap (λ (f : Found). put + length (foundText f)) (sym s) ∙ inv .lengths;
+          writes = ap (λ (f : Found). overwrite room put (foundText f)) (sym s) ∙ inv .writes;
+        }
+
+    pub writing-fails : b ≡ B.Fails → ⊥
+    writing-fails e = false≢true (sym (ap wasFound (failed memory marks good behind at there is e)) ∙ inv .decodes)
+
+    module _ {e : Entry} {n : Address} (line : b ≡ B.Line e n) where
+      left : (wasFound (rest memory marks (n .0) (n .0)) ≡ true)
+          × (foundText (rest memory marks behind at) ≡ lineText behind at e ++ foundText (rest memory marks (n .0) (n .0)))
+      left =
+          let s = lined memory marks good behind at there is line in
+          let t = found-line behind at e (rest memory marks (n .0) (n .0)) (sym (ap wasFound s) ∙ inv .decodes) in
+          (t .0, ap foundText s ∙ t .1)
+
+      text-length : length (foundText (rest memory marks behind at))
+          ≡ length (lineText behind at e) + length (foundText (rest memory marks (n .0) (n .0)))
+      text-length = ap length (left .1) ∙ length-append (lineText behind at e) (foundText (rest memory marks (n .0) (n .0)))
+
+      pub writing-fits : length (foundText (linesOf memory marks)) ≤ length xs → put + length (lineText behind at e) ≤ length room
+      writing-fits h = omega (arith, text-length, inv .as-long, inv .lengths)
+
+      pub writing-line : {after : List ℕ} {to : ℕ} → length (foundText (linesOf memory marks)) ≤ length xs
+          → Wrote room put (lineText behind at e) after to → length after ≡ length room
+          → Writing xs memory marks after to (n .0) (n .0)
+      writing-line {after} {to} h w l =
+          let t = foundText (rest memory marks (n .0) (n .0)) in
+          let on = overwrite-on room put (lineText behind at e) t (omega (arith, writing-fits h)) in
           record {
-            within = omega arith;
-            bounded = omega (arith, inv .bounded);
-            measures = ap (λ (f : Found). plus k (measureOf f)) (sym (skipped e)) ∙ inv .measures;
+            as-long = l ∙ inv .as-long;
+            within = onward memory marks good behind at there is line .1;
+            decodes = left .0;
+            lengths = omega (arith, text-length, inv .lengths, w .0);
+            writes =
+                ap (λ (k : ℕ). overwrite after k t) (w .0)
+                ∙ ap (λ (ys : List ℕ). overwrite ys (put + length (lineText behind at e)) t) (w .1) ∙ on
+                ∙ ap (overwrite room put) (sym (left .1)) ∙ inv .writes;
           }
 
-      pub measuring-line : {e : Entry} {n : Address} {r : ℕ} → b ≡ B.Line e n → (r ≡ length (lineText behind at e)) × (r ≤ longestLines)
-          → Measuring memory marks (k + r) (n .0) (n .0)
-      measuring-line {e} {n} {r} line long =
-          let o = onward line in
-          let f = rest memory marks (n .0) (n .0) in
-          let z : plus k (measureOf (rest memory marks behind at)) ≡ plus (k + r) (measureOf f) =
-          ap (λ (g : Found). plus k (measureOf g)) (lined line) ∙ ap (plus k) (measure-line behind at e f) ∙ plus-plus k (length (lineText behind at e)) (measureOf f)
-          ∙ ap (λ (m : ℕ). plus (k + m) (measureOf f)) (sym (long .0)) in
-          record { within = o .1; bounded = omega (arith, o .0, long .1, inv .bounded); measures = sym z ∙ inv .measures }
+  -- at the end
+  module _ (over : length marks ≤ at) where
+    end-text : foundText (rest memory marks behind at) ≡ lineOf Finish ++ (LF ∷ [])
+    end-text = ap foundText (ended memory marks good behind at over) ∙ last-text
 
-      pub measuring-fails : b ≡ B.Fails → M.Fails (record { 0 = at }) ≡ measureOf (linesOf memory marks)
-      measuring-fails e = sym (ap (λ (f : Found). plus k (measureOf f)) (failed e)) ∙ inv .measures
+    pub end-fits : length (foundText (linesOf memory marks)) ≤ length xs → put + length (lineOf Finish ++ (LF ∷ [])) ≤ length room
+    end-fits h = omega (arith, ap length end-text, inv .as-long, inv .lengths)
 
-    -- ---- writing
-
-    module _ {xs room : List ℕ} {put : ℕ} (inv : Writing xs memory marks room put behind at) where
-      pub writing-skip : b ≡ B.Nothing → Writing xs memory marks room put behind (at + 1)
-      writing-skip e =
-          let s = skipped e in
-          record {
-            as-long = inv .as-long;
-            within = omega arith;
-            decodes = ap wasFound (sym s) ∙ inv .decodes;
-            lengths = ap (λ (f : Found). put + length (foundText f)) (sym s) ∙ inv .lengths;
-            writes = ap (λ (f : Found). overwrite room put (foundText f)) (sym s) ∙ inv .writes;
-          }
-
-      pub writing-fails : b ≡ B.Fails → ⊥
-      writing-fails e = false≢true (sym (ap wasFound (failed e)) ∙ inv .decodes)
-
-      module _ {e : Entry} {n : Address} (line : b ≡ B.Line e n) where
-        left : (wasFound (rest memory marks (n .0) (n .0)) ≡ true)
-            × (foundText (rest memory marks behind at) ≡ lineText behind at e ++ foundText (rest memory marks (n .0) (n .0)))
-        left =
-            let s = lined line in
-            let t = found-line behind at e (rest memory marks (n .0) (n .0)) (sym (ap wasFound s) ∙ inv .decodes) in
-            (t .0, ap foundText s ∙ t .1)
-
-        text-length : length (foundText (rest memory marks behind at))
-            ≡ length (lineText behind at e) + length (foundText (rest memory marks (n .0) (n .0)))
-        text-length = ap length (left .1) ∙ length-append (lineText behind at e) (foundText (rest memory marks (n .0) (n .0)))
-
-        pub writing-fits : length (foundText (linesOf memory marks)) ≤ length xs → put + length (lineText behind at e) ≤ length room
-        writing-fits h = omega (arith, text-length, inv .as-long, inv .lengths)
-
-        pub writing-line : {after : List ℕ} {to : ℕ} → length (foundText (linesOf memory marks)) ≤ length xs
-            → Wrote room put (lineText behind at e) after to → length after ≡ length room
-            → Writing xs memory marks after to (n .0) (n .0)
-        writing-line {after} {to} h w l =
-            let t = foundText (rest memory marks (n .0) (n .0)) in
-            let on = overwrite-on room put (lineText behind at e) t (omega (arith, writing-fits h)) in
-            record {
-              as-long = l ∙ inv .as-long;
-              within = onward line .1;
-              decodes = left .0;
-              lengths = omega (arith, text-length, inv .lengths, w .0);
-              writes = ap (λ (k : ℕ). overwrite after k t) (w .0) ∙ ap (λ (ys : List ℕ). overwrite ys (put + length (lineText behind at e)) t) (w .1) ∙ on
-                  ∙ ap (overwrite room put) (sym (left .1)) ∙ inv .writes;
-            }
-
-  -- ---- at the end
-
-  module _ (behind at : ℕ) (over : length marks ≤ at) where
-    ended : rest memory marks behind at ≡ found (Finish ∷ [])
-    ended = rest-end memory marks alike behind at (omega (arith, alike))
-
-    pub measuring-end : {k : ℕ} → Measuring memory marks k behind at → M.Long (k + 4) ≡ measureOf (linesOf memory marks)
-    measuring-end {k} inv =
-        ap (λ (n : ℕ). M.Long (k + n)) (sym last-length) ∙ sym (ap (λ (f : Found). plus k (measureOf f)) ended) ∙ inv .measures
-
-    module _ {xs room : List ℕ} {put : ℕ} (inv : Writing xs memory marks room put behind at) where
-      end-text : foundText (rest memory marks behind at) ≡ lineOf Finish ++ (LF ∷ [])
-      end-text = ap foundText ended ∙ last-text
-
-      pub end-fits : length (foundText (linesOf memory marks)) ≤ length xs → put + length (lineOf Finish ++ (LF ∷ [])) ≤ length room
-      end-fits h = omega (arith, ap length end-text, inv .as-long, inv .lengths)
-
-      pub writing-end : {after : List ℕ} {to : ℕ} → Wrote room put (lineOf Finish ++ (LF ∷ [])) after to
-          → after ≡ overwrite xs 0 (foundText (linesOf memory marks))
-      writing-end w = w .1 ∙ ap (overwrite room put) (sym end-text) ∙ inv .writes
+    pub writing-end : {after : List ℕ} {to : ℕ} → Wrote room put (lineOf Finish ++ (LF ∷ [])) after to
+        → after ≡ overwrite xs 0 (foundText (linesOf memory marks))
+    writing-end w = w .1 ∙ ap (overwrite room put) (sym end-text) ∙ inv .writes

@@ -10,7 +10,9 @@ good-loan-requires : tie.Need-good-loan-requires
 good-loan-requires c κs = search needs
 
 returns : tie.Need-returns
-returns c = lists-bad (c .before .before .before .before .before .args .memory .now) (c .before .before .before .before .before .args .map .now) (c .before .before .before .before .before .args .room .now) (sym (c .before .good-loan .ensures) ∙ not-true _ (c .if1 .taken))
+returns c =
+    let a = c .before .before .before .before .before .args in
+    lists-bad (a .memory .now) (a .map .now) (a .room .now) (sym (c .before .good-loan .ensures) ∙ not-true _ (c .if1 .taken))
 
 measured-requires : tie.Need-measured-requires
 measured-requires c κs = sym (c .before .good-loan .ensures) ∙ not-false _ (c .if1 .left)
@@ -22,16 +24,26 @@ enum-known-n : tie.Need-enum-known-n
 enum-known-n c = search needs
 
 given-requires : tie.Need-given-requires
-given-requires c κs = (sym (c .before .before .before .before .before .before .good-loan .ensures) ∙ not-false _ (c .before .before .before .before .before .if1 .left), sym (c .before .before .before .before .measured .ensures) ∙ (c .before .before .n .given .1))
+given-requires c κs =
+    let m = c .before .before .before .before in
+    (sym (m .before .before .good-loan .ensures) ∙ not-false _ (m .before .if1 .left), sym (m .measured .ensures) ∙ c .before .before .n .given .1)
 
 returns-2 : tie.Need-returns-2
-returns-2 c = lists-undecoded (c .before .before .before .before .before .before .before .before .before .args .memory .now) (c .before .before .before .before .before .before .before .before .before .args .map .now) (c .before .before .before .before .before .before .before .before .before .args .room .now) (sym (c .before .before .before .before .before .good-loan .ensures) ∙ not-false _ (c .before .before .before .before .if1 .left)) (sym (c .before .a .given .1) ∙ (c .before .before .before .measured .ensures))
+returns-2 c =
+    let p = c .before .before .before .before in
+    let a = p .before .before .before .before .before .args in
+    lists-undecoded (a .memory .now) (a .map .now) (a .room .now) (sym (p .before .good-loan .ensures) ∙ not-false _ (p .if1 .left))
+    (sym (c .before .a .given .1) ∙ c .before .before .before .measured .ensures)
 
 same-length : tie.Need-same-length
 same-length c = search needs
 
 returns-3 : tie.Need-returns-3
-returns-3 c = lists-good (c .before .before .before .before .before .before .before .before .before .before .before .before .before .args .memory .now) (c .before .before .before .before .before .before .before .before .before .before .before .before .before .args .map .now) (c .before .before .before .before .before .before .before .before .before .before .before .before .before .args .room .now) (sym (c .before .before .before .before .before .before .before .before .before .good-loan .ensures) ∙ not-false _ (c .before .before .before .before .before .before .before .before .if1 .left)) (c .before .before .given .ensures)
+returns-3 c =
+    let p = c .before .before .before .before .before .before .before .before in
+    let a = p .before .before .before .before .before .args in
+    lists-good (a .memory .now) (a .map .now) (a .room .now) (sym (p .before .good-loan .ensures) ∙ not-false _ (p .if1 .left))
+    (c .before .before .given .ensures)
 
 pub list-spec : {M : Type 1} → statement M
 list-spec =

@@ -22,7 +22,10 @@ shared-slice-read-if1 : tie.Need-shared-slice-read-if1 Inv-loop μ-loop
 shared-slice-read-if1 c = omega arith
 
 returns : tie.Need-returns Inv-loop μ-loop
-returns c = sym (sym (c .before .before .before .loop .inv) ∙ every-stop (c .before .before .before .before .args .map .now) (c .before .before .before .loop .i) (c .before .before .before .before .args .to) (omega arith) (omega arith) (c .if1 .taken))
+returns c =
+    let p = c .before .before .before in
+    let a = p .before .args in
+    sym (sym (p .loop .inv) ∙ every-stop (a .map .now) (p .loop .i) (a .to) (omega arith) (omega arith) (c .if1 .taken))
 
 add-i : tie.Need-add-i Inv-loop μ-loop
 add-i c = search needs
@@ -31,10 +34,16 @@ loop-less : tie.Need-loop-less Inv-loop μ-loop
 loop-less c = search needs
 
 loop-again : tie.Need-loop-again Inv-loop μ-loop
-loop-again c = sym (every-more (c .before .before .before .before .args .map .now) (c .before .before .before .loop .i) (c .before .before .before .before .args .to) (omega arith) (omega arith) (c .if1 .left)) ∙ (c .before .before .before .loop .inv)
+loop-again c =
+    let p = c .before .before .before in
+    let a = p .before .args in
+    sym (every-more (a .map .now) (p .loop .i) (a .to) (omega arith) (omega arith) (c .if1 .left)) ∙ p .loop .inv
 
 returns-2 : tie.Need-returns-2 Inv-loop μ-loop
-returns-2 c = sym (sym (c .before .loop .inv) ∙ every-none (c .before .before .args .map .now) (c .before .loop .i) (c .before .before .args .to) (omega arith))
+returns-2 c =
+    let p = c .before in
+    let a = p .before .args in
+    sym (sym (p .loop .inv) ∙ every-none (a .map .now) (p .loop .i) (a .to) (omega arith))
 
 pub all-code-spec : {M : Type 1} → statement M
 all-code-spec =

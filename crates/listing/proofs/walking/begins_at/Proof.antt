@@ -1,6 +1,4 @@
 -- The mark decides.
-use native.Mathlib.Omega.{arith}
-use mathlib.Core.Path.{sym, _∙_}
 use borrow.Author.Tests.{eq-eqb, ne-eqb}
 use Rattle.listing.specs.Inner.Begins.{beginsAt}
 use borrow.Author.Needs.{needs}

@@ -14,11 +14,15 @@ enum-known-i c = search needs
 
 all-code-requires : tie.Need-all-code-requires
 all-code-requires c κs =
-    let r = encode-decode (c .before .before .before .before .before .before .args .memory .now) (c .before .before .before .before .before .before .args .at) _ _ (sym (c .before .before .before .decode .ensures) ∙ (c .before .i .given .1)) in
+    let d = c .before .before .before in
+    let a = d .before .before .before .args in
+    let r = encode-decode (a .memory .now) (a .at) _ _ (sym (d .decode .ensures) ∙ c .before .i .given .1) in
     omega (arith, r .within)
 
 returns : tie.Need-returns
-returns c = rw (← (c .before .before .before .before .before .decode .ensures), (c .before .before .before .i .given .1), ← (c .before .all-code .ensures), c .if1 .taken)
+returns c =
+    let p = c .before .before .before in
+    rw (← p .before .before .decode .ensures, p .i .given .1, ← c .before .all-code .ensures, c .if1 .taken)
 
 enum-told : tie.Need-enum-told
 enum-told c = search needs
@@ -33,19 +37,21 @@ enum-told-4 : tie.Need-enum-told-4
 enum-told-4 c = search needs
 
 returns-2 : tie.Need-returns-2
-returns-2 c = rw (← (c .before .before .before .before .before .decode .ensures), (c .before .before .before .i .given .1), ← (c .before .all-code .ensures), c .if1 .left)
+returns-2 c =
+    let p = c .before .before .before in
+    rw (← p .before .before .decode .ensures, p .i .given .1, ← c .before .all-code .ensures, c .if1 .left)
 
 returns-3 : tie.Need-returns-3
-returns-3 c = rw (← (c .before .before .decode .ensures), c .enum-told .given .1)
+returns-3 c = rw (← c .before .before .decode .ensures, c .enum-told .given .1)
 
 returns-4 : tie.Need-returns-4
-returns-4 c = rw (← (c .before .before .decode .ensures), c .enum-told2 .given .1)
+returns-4 c = rw (← c .before .before .decode .ensures, c .enum-told2 .given .1)
 
 returns-5 : tie.Need-returns-5
-returns-5 c = rw (← (c .before .before .decode .ensures), c .enum-told3 .given .1)
+returns-5 c = rw (← c .before .before .decode .ensures, c .enum-told3 .given .1)
 
 returns-6 : tie.Need-returns-6
-returns-6 c = rw (← (c .before .before .decode .ensures), c .enum-told4 .given .1)
+returns-6 c = rw (← c .before .before .decode .ensures, c .enum-told4 .given .1)
 
 pub code-at-spec : {M : Type 1} → statement M
 code-at-spec =
