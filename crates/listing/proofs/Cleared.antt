@@ -9,7 +9,7 @@ use lib.ListN.{length, getD}
 use borrow.Author.Tests.{eqb-false}
 use Rattle.codes.specs.Marks.{free}
 use Rattle.image.specs.Printing.{goodLoan}
-use Rattle.listing.specs.Inner.Walk.{joined, runsFrom, linesOf, listOf}
+use Rattle.listing.specs.Inner.Walk.{joined, runsFrom, listOf}
 
 -- 0 in every free cell
 unfoldable pub cleared : List ℕ → List ℕ → List ℕ

@@ -17,7 +17,8 @@ use Rattle.listing.specs.Runs.{Run, Runs}
 use Rattle.listing.specs.Decodes.{FirstUndecoded}
 use Rattle.listing.specs.Listing.{RunLines, code-run, data-run, originAt, LinesOf, ends, one-run, FirstBadRun, here, later}
 use Rattle.listing.specs.Listing.{Leaves, refused, given, Replies, bad-loan, undecoded, too-long, gives}
-use Rattle.listing.specs.Inner.Walk.{runsFrom, Parts, whole, fails, partsFrom, Found, found, failing, codeLines, runLines, joinedBy, linesFrom, linesOf, replyBy, listOf}
+use Rattle.listing.specs.Inner.Walk.{runsFrom, Parts, whole, fails, partsFrom, Found, found, failing, codeLines, runLines, joinedBy, linesFrom}
+use Rattle.listing.specs.Inner.Walk.{linesOf, replyBy, listOf}
 use Rattle.listing.specs.declared.Entry.{Entry}
 use Rattle.listing.specs.declared.Entry.the-variants.{Instructs, Holds, Finish}
 use Rattle.listing.proofs.Covered.{all-covered, one-list}

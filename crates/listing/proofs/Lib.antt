@@ -6,3 +6,5 @@ pub mod Walks
 pub mod Loops
 pub mod Outcomes
 pub mod Cleared
+pub mod Examples
+pub mod Top

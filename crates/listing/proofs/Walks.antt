@@ -24,7 +24,8 @@ use Rattle.isa.proofs.RoundTrip.{Returns, encode-decode, decode-there, size-rea
 use Rattle.listing.specs.Lines.{lineOf, textOfLines}
 use Rattle.listing.specs.Runs.{Run, run, HoldCells, FirstRun, Runs, over, next}
 use Rattle.listing.specs.Listing.{originAt}
-use Rattle.listing.specs.Inner.Walk.{joined, runsFrom, Parts, whole, fails, before, partsBy, partsFrom, Found, found, failing, codeLines, runLines, joinedBy, linesFrom}
+use Rattle.listing.specs.Inner.Walk.{joined, runsFrom, Parts, whole, fails, before, partsBy, partsFrom}
+use Rattle.listing.specs.Inner.Walk.{Found, found, failing, codeLines, runLines, joinedBy, linesFrom}
 use Rattle.listing.specs.Inner.Begins.{everyCode, codeBy, beginsAt, rest, lineText, Addressed}
 use Rattle.listing.specs.declared.Begins.{Begins}
 use Rattle.listing.specs.declared.Begins.the-variants as B
@@ -304,7 +305,8 @@ module _ (memory marks : List ℕ) (alike : length marks ≡ length memory) wher
         let z : at + length (t .first .cells) ≡ n .0 + length more = omega (arith, length-more, behind-it) in
         ap (λ (a : ℕ). linesFrom a (t .others)) z
 
-    left : (ws : List ℕ) → more ≡ ws → rest memory marks (n .0) (n .0) ≡ joinedBy [] (codeLines (partsFrom ws 0 (n .0))) (linesFrom (n .0 + length ws) (t .others))
+    left : (ws : List ℕ) → more ≡ ws
+        → rest memory marks (n .0) (n .0) ≡ joinedBy [] (codeLines (partsFrom ws 0 (n .0))) (linesFrom (n .0 + length ws) (t .others))
     unfolding linesFrom partsFrom
     left [] e =
         let z : t .first .from + length (t .first .cells) ≡ n .0 = omega (arith, ends-at, ap length e) in
