@@ -10,7 +10,7 @@ use std::process::ExitCode;
 const USAGE: &str = "usage:
   second answer < cases > replies
   second make KIND COUNT SEED > cases
-      KIND: assemble encode decode step run print machine all line
+      KIND: assemble encode decode step run print list machine all line
   second assemble M FILE
   second run M FILE [BUDGET] < input > output 2> record
   second count < cases
