@@ -8,6 +8,7 @@
 pub mod answer;
 pub mod arithmetic;
 pub mod assembler;
+pub mod back;
 pub mod case;
 pub mod count;
 pub mod image;

@@ -3,7 +3,7 @@
 #![forbid(unsafe_code)]
 
 use second::case::{self, Case};
-use second::{answer, count, make, program, show, speed};
+use second::{answer, back, count, make, program, show, speed};
 use std::io::{self, BufRead, BufWriter, Read, Write};
 use std::process::ExitCode;
 
@@ -15,6 +15,7 @@ const USAGE: &str = "usage:
   second run M FILE [BUDGET] < input > output 2> record
   second count < cases
   second show < cases
+  second back COUNT SEED
   second bench LABELS > source
       LABELS: 20 500
   second speed [WORK]
@@ -35,6 +36,7 @@ fn main() -> ExitCode {
         },
         ["count"] => count_all(),
         ["show"] => for_each_case(|case, out| write!(out, "{}", show::show(case))),
+        ["back", count, seed] => back_all(count, seed),
         ["bench", labels @ ("20" | "500")] => {
             put(&make::bench::source(labels.parse().unwrap_or(0)), ExitCode::SUCCESS)
         }
@@ -122,8 +124,32 @@ fn put(bytes: impl AsRef<[u8]>, code: ExitCode) -> Done {
     Ok(code)
 }
 
+/// A count or a seed.
+fn number(text: &str) -> Result<u64, String> {
+    text.parse::<u64>().map_err(|_| USAGE.to_string())
+}
+
+/// Lists the images of so many sources, and so many images, and assembles them again. 1 is for a
+/// difference; each is told with its case.
+fn back_all(count: &str, seed: &str) -> Done {
+    let (count, seed) = (number(count)?, number(seed)?);
+    let mut all_back = true;
+    for (name, kind) in [("sources", make::Kind::Assemble), ("images", make::Kind::List)] {
+        let mut maker = make::Maker::new(kind, seed);
+        let mut tally = back::Tally::default();
+        for _ in 0..count {
+            let case = maker.next_case();
+            if let Err(why) = tally.add(&case) {
+                eprintln!("{}: {}", why, case);
+            }
+        }
+        all_back &= tally.differ == 0;
+        put(format!("{}: {}\n", name, tally), ExitCode::SUCCESS)?;
+    }
+    Ok(if all_back { ExitCode::SUCCESS } else { ExitCode::FAILURE })
+}
+
 fn make_all(kind: &str, count: &str, seed: &str) -> Done {
-    let number = |text: &str| text.parse::<u64>().map_err(|_| USAGE.to_string());
     let kind = make::Kind::of_name(kind).ok_or_else(|| USAGE.to_string())?;
     let (count, seed) = (number(count)?, number(seed)?);
     let mut out = BufWriter::new(io::stdout().lock());

@@ -39,6 +39,13 @@ impl Claims {
         self.claimed.keys().next_back().map_or(0, |last| last + 1)
     }
 
+    /// The same in the largest memory, moved up so far that the last cell of all is claimed.
+    pub fn at_the_top(&self) -> Claims {
+        let up = 65_536 - self.top();
+        let claimed = self.claimed.iter().map(|(at, cell)| (at + up, *cell));
+        Claims { cells: 65_536, claimed: claimed.collect() }
+    }
+
     /// As a loan without room yet. Free cells hold anything.
     pub fn lent(&self, random: &mut Random) -> LentImage {
         let mut memory = draw::memory(random, self.cells);

@@ -283,18 +283,15 @@ fn written(random: &mut Random, cases: &mut Vec<Case>) {
 }
 
 /// All kinds of operands of an opcode, with words at the ends of their ranges: each kind meets all
-/// of them.
+/// of them. The word of one operand goes by the kind of the other, and two have kinds enough.
 fn all_words(opcode: Opcode) -> Vec<u16> {
-    let kinds: Vec<Instruction> =
-        all_kinds().into_iter().filter(|each| each.opcode == opcode).collect();
-    // two operands have kinds enough to meet all words in one round
     let rounds = if opcode.places().1 == Place::Empty { EXTREMES.len() } else { 1 };
     let mut words = Vec::new();
-    for round in 0..rounds {
-        for (at, kind) in kinds.iter().enumerate() {
-            let first = extreme(kind.first, at + round);
-            let second = extreme(kind.second, at / EXTREMES.len());
-            words.extend(with_operands(opcode, first, second));
+    for Instruction { first, second, .. } in all_kinds().iter().filter(|of| of.opcode == opcode) {
+        for round in 0..rounds {
+            let by_second = extreme(*first, usize::from(second.kind()) + round);
+            let by_first = extreme(*second, usize::from(first.kind()));
+            words.extend(with_operands(opcode, by_second, by_first));
         }
     }
     words
@@ -330,6 +327,11 @@ fn texts(random: &mut Random, cases: &mut Vec<Case>) {
         (Some(65_535), 32_770, 32_770),
     ] {
         cases.push(with(random, &long::of_length(data, length), room));
+    }
+    // at the end of the largest memory, with an ORG of ten bytes in front
+    for length in [32_768, 32_769] {
+        let claims = long::of_length(Some(65_535), length - 10).at_the_top();
+        cases.push(with(random, &claims, 32_769));
     }
     // all of the largest memory
     for (value, mark) in [(0, CODE), (65_535, DATA)] {
