@@ -83,7 +83,7 @@ fn with_free_0(memory: &[u16], map: &[u8]) -> Vec<u16> {
     cells.map(|(cell, mark)| if *mark == FREE { 0 } else { *cell }).collect()
 }
 
-/// How many of each there were. An image that was made as such counts as accepted.
+/// How many of each there were.
 #[derive(Debug, Default, PartialEq, Eq)]
 pub struct Tally {
     pub made: u64,
@@ -96,6 +96,11 @@ pub struct Tally {
 }
 
 impl Tally {
+    /// How many sources gave an image.
+    pub fn accepted(&self) -> u64 {
+        self.made - self.not_accepted
+    }
+
     /// Tries a case that has a source or an image to list, and gives the difference if it has one.
     pub fn add(&mut self, case: &Case) -> Result<(), Difference> {
         let came = match case {
@@ -118,11 +123,12 @@ fn lent_image(lent: &LentImage) -> Result<Came, Difference> {
     image(&lent.memory.row(), &lent.map())
 }
 
+/// What became of the images.
 impl Display for Tally {
     fn fmt(&self, out: &mut Formatter) -> fmt::Result {
-        let Tally { made, not_accepted, back, refused, differ } = self;
-        write!(out, "{} made, {} accepted, {} listed, ", made, made - not_accepted, back)?;
-        write!(out, "{} too long, {} not decoded, ", refused[3], refused[2])?;
-        write!(out, "{} badly lent, {} differ", refused[1], differ)
+        let [_, badly_lent, not_decoded, too_long] = self.refused;
+        write!(out, "{} listed, {} too long, ", self.back, too_long)?;
+        write!(out, "{} not decoded, {} badly lent, ", not_decoded, badly_lent)?;
+        write!(out, "{} differ", self.differ)
     }
 }

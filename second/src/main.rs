@@ -134,7 +134,7 @@ fn number(text: &str) -> Result<u64, String> {
 fn back_all(count: &str, seed: &str) -> Done {
     let (count, seed) = (number(count)?, number(seed)?);
     let mut all_back = true;
-    for (name, kind) in [("sources", make::Kind::Assemble), ("images", make::Kind::List)] {
+    for kind in [make::Kind::Assemble, make::Kind::List] {
         let mut maker = make::Maker::new(kind, seed);
         let mut tally = back::Tally::default();
         for _ in 0..count {
@@ -144,7 +144,13 @@ fn back_all(count: &str, seed: &str) -> Done {
             }
         }
         all_back &= tally.differ == 0;
-        put(format!("{}: {}\n", name, tally), ExitCode::SUCCESS)?;
+        let made = match kind {
+            make::Kind::Assemble => {
+                format!("sources: {} made, {} accepted", tally.made, tally.accepted())
+            }
+            _ => format!("images: {} made", tally.made),
+        };
+        put(format!("{}, {}\n", made, tally), ExitCode::SUCCESS)?;
     }
     Ok(if all_back { ExitCode::SUCCESS } else { ExitCode::FAILURE })
 }
