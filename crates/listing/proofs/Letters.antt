@@ -1,7 +1,7 @@
 -- The letters of a number, one by one; those of a name's number are the name.
 use Prim.Native.Nat.{ℕ, zero, suc, _+_, _*_, _/_, _%_, _≤_, _<_}
 use Prim.Native.String.{String}
-use mathlib.Core.Bool.{Bool, true, false, _&&_}
+use mathlib.Core.Bool.{Bool, true, _&&_}
 use mathlib.Core.List.{List, [], _∷_}
 use mathlib.Core.Path.{_≡_, refl, sym, ap, _∙_}
 use native.Mathlib.Decide.{decLt}
@@ -58,13 +58,12 @@ module _ (xs : List ℕ) (at n : ℕ) (room : List ℕ) (put left : ℕ) (inv : 
     pub spelling-more : at + length (lettersOf n) ≤ length xs → Spelling xs at n (set room put (left % 256)) (put + 1) (left / 256)
     spelling-more fits =
         let rest = lettersOf (left / 256) in
-        let long = spelling-length in
-        (
+        let long = spelling-length in (
           length-set room put (left % 256) ∙ inv .0,
           omega arith,
           omega arith,
           rw (overwrite-one room put (left % 256) (omega arith))
-          (overwrite-on room put (left % 256 ∷ []) rest (omega arith) ∙ (rw (letters-more left (inv .1) some) at (inv .3))),
+              (overwrite-on room put (left % 256 ∷ []) rest (omega arith) ∙ (rw (letters-more left (inv .1) some) at (inv .3))),
         )
 
   pub spelling-end : left ≡ 0 → Wrote xs at (lettersOf n) room put

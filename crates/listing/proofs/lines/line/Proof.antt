@@ -1,29 +1,28 @@
+-- A line, and one byte more (`wrote-byte`).
+-- Assumes nothing.
+use native.Mathlib.Omega.{arith}
+use Rattle.texts.proofs.Rooms.{wrote-byte}
+use Rattle.listing.proofs.Texts.{ended-length}
 use borrow.Author.Needs.{needs}
 use Rattle.listing.proofs.lines.line.Statement.{statement}
 use Rattle.listing.proofs.lines.line.Tie as tie
-use Rattle.listing.proofs.lines.line.Reads as reads
-use Rattle.listing.proofs.lines.line.Lts as lts
-use Rattle.listing.proofs.lines.entry.Reads as entry-reads
 
--- src/lines.rt:52:9
 entry-requires : tie.Need-entry-requires
-entry-requires c κs = ?
+entry-requires c κs = (omega (arith, ended-length (c .before .before .args .e)), (c .before .before .pre .1))
 
--- src/lines.rt:53:5
 slice-write-room : tie.Need-slice-write-room
-slice-write-room c = ?
+slice-write-room c = omega (arith, ended-length (c .before .before .before .before .before .args .e))
 
--- src/lines.rt:54:5
 add-result : tie.Need-add-result
-add-result c = ?
+add-result c = omega (arith, ended-length (c .before .before .before .before .before .args .e))
 
--- src/lines.rt:48:1
 same-length : tie.Need-same-length
 same-length c = search needs
 
--- src/lines.rt:48:1
 returns : tie.Need-returns
-returns c = ?
+returns c =
+    let a = c .before .before .before .before .before .args in
+    wrote-byte (a .room .now) (a .at) _ 10 (omega (arith, ended-length (a .e))) (c .before .before .entry .ensures)
 
 pub line-spec : {M : Type 1} → statement M
 line-spec = tie.close (tie.spec entry-requires slice-write-room add-result same-length returns)

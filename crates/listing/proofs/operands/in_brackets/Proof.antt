@@ -1,43 +1,51 @@
+-- Three texts, one behind the other, the second a register's name by its letters (`brackets-text`).
+-- Assumes nothing.
+use Prim.Native.Nat.{_≤_}
+use native.Mathlib.Omega.{arith}
+use mathlib.Core.Path.{ap}
+use lib.ListN.{length}
+use Rattle.texts.proofs.Rooms.{wrote-on, wrote-as}
+use Rattle.listing.proofs.Letters.{register-letters}
+use Rattle.listing.proofs.Texts.{brackets-text, brackets-length}
 use borrow.Author.Needs.{needs}
 use Rattle.listing.proofs.operands.in_brackets.Statement.{statement}
 use Rattle.listing.proofs.operands.in_brackets.Tie as tie
-use Rattle.listing.proofs.operands.in_brackets.Reads as reads
-use Rattle.listing.proofs.operands.in_brackets.Lts as lts
-use Rattle.listing.proofs.spelling.letters.Reads as letters-reads
-use Rattle.names.proofs.spelling.register_name.Reads as register-name-reads
-use Rattle.texts.proofs.writing.piece.Reads as piece-reads
 
--- src/operands.rt:23:32
 slice-aggregate-piece : tie.Need-slice-aggregate-piece
 slice-aggregate-piece c = search needs
 
--- src/operands.rt:23:9
 piece-requires : tie.Need-piece-requires
-piece-requires c κs = ?
+piece-requires c κs = omega (arith, brackets-length (c .before .before .before .args .r))
 
--- src/operands.rt:24:37
 register-name-requires : tie.Need-register-name-requires
 register-name-requires c κs = search needs
 
--- src/operands.rt:24:9
 letters-requires : tie.Need-letters-requires
-letters-requires c κs = ?
+letters-requires c κs =
+    let r = c .before .before .before .before .before .before .before .before .args .r in
+    omega (arith, brackets-length r, ap length (register-letters r (c .register-name .ensures)))
 
--- src/operands.rt:25:24
 slice-aggregate-piece-2 : tie.Need-slice-aggregate-piece-2
 slice-aggregate-piece-2 c = search needs
 
--- src/operands.rt:25:5
 piece-requires-2 : tie.Need-piece-requires-2
-piece-requires-2 c κs = ?
+piece-requires-2 c κs =
+    let r = c .before .before .before .before .before .before .before .before .before .before .before .before .before .args .r in
+    omega (arith, brackets-length r, ap length (register-letters r (c .before .before .before .before .before .register-name .ensures)))
 
--- src/operands.rt:19:1
 same-length : tie.Need-same-length
 same-length c = search needs
 
--- src/operands.rt:19:1
 returns : tie.Need-returns
-returns c = ?
+returns c =
+    let a = c .before .before .before .before .before .before .before .before .before .before .before .before .before .before .before .before .args in
+    let fits : a .at ≤ length (a .room .now) = omega arith in
+    let name = wrote-as _ _ _ _ (register-letters (a .r) (c .before .before .before .before .before .before .before .before .register-name .ensures))
+    (c .before .before .before .before .before .before .before .letters .ensures) in
+    wrote-as (a .room .now) (a .at) _ _ (brackets-text (a .r))
+    (wrote-on (a .room .now) (a .at) _ _ fits
+    (wrote-on (a .room .now) (a .at) _ _ fits (c .before .before .before .before .before .before .before .before .before .before .before .before .piece .ensures) name)
+    (c .before .before .piece2 .ensures))
 
 pub in-brackets-spec : {M : Type 1} → statement M
 in-brackets-spec =

@@ -1,30 +1,29 @@
+-- A displacement, and a register in brackets behind it (`indexed-text`).
+-- Assumes nothing.
+use native.Mathlib.Omega.{arith}
+use Rattle.texts.proofs.Rooms.{wrote-on, wrote-as}
+use Rattle.listing.proofs.Texts.{indexed-text, indexed-length}
 use borrow.Author.Needs.{needs}
 use Rattle.listing.proofs.operands.indexed.Statement.{statement}
 use Rattle.listing.proofs.operands.indexed.Tie as tie
-use Rattle.listing.proofs.operands.indexed.Reads as reads
-use Rattle.listing.proofs.operands.indexed.Lts as lts
-use Rattle.listing.proofs.operands.in_brackets.Reads as in-brackets-reads
-use Rattle.texts.proofs.writing.signed_field.Reads as signed-field-reads
 
--- src/operands.rt:33:42
 slice-aggregate-signed-field : tie.Need-slice-aggregate-signed-field
 slice-aggregate-signed-field c = search needs
 
--- src/operands.rt:33:9
 signed-field-requires : tie.Need-signed-field-requires
-signed-field-requires c κs = ?
+signed-field-requires c κs = omega (arith, indexed-length (c .before .before .before .args .r) (c .before .before .before .args .d))
 
--- src/operands.rt:34:5
 in-brackets-requires : tie.Need-in-brackets-requires
-in-brackets-requires c κs = ?
+in-brackets-requires c κs = omega (arith, indexed-length (c .before .before .before .before .before .before .before .args .r) (c .before .before .before .before .before .before .before .args .d))
 
--- src/operands.rt:29:1
 same-length : tie.Need-same-length
 same-length c = search needs
 
--- src/operands.rt:29:1
 returns : tie.Need-returns
-returns c = ?
+returns c =
+    let a = c .before .before .before .before .before .before .before .before .before .before .args in
+    wrote-as (a .room .now) (a .at) _ _ (indexed-text (a .r) (a .d))
+    (wrote-on (a .room .now) (a .at) _ _ (omega arith) (c .before .before .before .before .before .before .signed-field .ensures) (c .before .before .in-brackets .ensures))
 
 pub indexed-spec : {M : Type 1} → statement M
 indexed-spec =

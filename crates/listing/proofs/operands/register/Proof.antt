@@ -1,35 +1,38 @@
+-- A mark, and a register's name by its letters behind it (`register-text`).
+-- Assumes nothing.
+use native.Mathlib.Omega.{arith}
+use mathlib.Core.Path.{ap}
+use lib.ListN.{length}
+use Rattle.texts.proofs.Rooms.{wrote-on, wrote-as}
+use Rattle.listing.proofs.Letters.{register-letters}
+use Rattle.listing.proofs.Texts.{register-text}
 use borrow.Author.Needs.{needs}
 use Rattle.listing.proofs.operands.register.Statement.{statement}
 use Rattle.listing.proofs.operands.register.Tie as tie
-use Rattle.listing.proofs.operands.register.Reads as reads
-use Rattle.listing.proofs.operands.register.Lts as lts
-use Rattle.listing.proofs.spelling.letters.Reads as letters-reads
-use Rattle.names.proofs.spelling.register_name.Reads as register-name-reads
-use Rattle.texts.proofs.writing.piece.Reads as piece-reads
 
--- src/operands.rt:42:32
 slice-aggregate-piece : tie.Need-slice-aggregate-piece
 slice-aggregate-piece c = search needs
 
--- src/operands.rt:42:9
 piece-requires : tie.Need-piece-requires
-piece-requires c κs = ?
+piece-requires c κs = omega (arith, ap length (register-text (c .before .before .before .args .r)))
 
--- src/operands.rt:43:25
 register-name-requires : tie.Need-register-name-requires
 register-name-requires c κs = search needs
 
--- src/operands.rt:43:5
 letters-requires : tie.Need-letters-requires
-letters-requires c κs = ?
+letters-requires c κs =
+    let r = c .before .before .before .before .before .before .before .before .args .r in
+    omega (arith, ap length (register-text r), ap length (register-letters r (c .register-name .ensures)))
 
--- src/operands.rt:38:1
 same-length : tie.Need-same-length
 same-length c = search needs
 
--- src/operands.rt:38:1
 returns : tie.Need-returns
-returns c = ?
+returns c =
+    let a = c .before .before .before .before .before .before .before .before .before .before .before .args in
+    let name = wrote-as _ _ _ _ (register-letters (a .r) (c .before .before .before .register-name .ensures)) (c .before .before .letters .ensures) in
+    wrote-as (a .room .now) (a .at) _ _ (register-text (a .r))
+    (wrote-on (a .room .now) (a .at) _ _ (omega arith) (c .before .before .before .before .before .before .before .piece .ensures) name)
 
 pub register-spec : {M : Type 1} → statement M
 register-spec =

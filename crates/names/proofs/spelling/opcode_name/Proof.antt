@@ -1,7 +1,6 @@
 -- The table holds the names' numbers, by computing, at the opcodes' own numbers.
 -- Assumes nothing.
 use mathlib.Core.Path.{ap, _∙_}
-use Prim.Native.Nat.{ℕ}
 use native.Mathlib.Omega.{arith}
 use lib.ListN.{getD}
 use Rattle.isa.specs.Opcodes.{table, opcodes}
