@@ -1,0 +1,3 @@
+-- Laws of the lines' text and of writing it.
+pub mod Letters
+pub mod Texts
