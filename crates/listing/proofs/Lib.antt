@@ -1,10 +1,12 @@
--- Laws of the runs, of a code run's instructions and of the walk; Top restates what the crate promises.
+-- Laws of listings. The text of a line; the runs and their instructions; the walk from address to address; the reply.
+pub mod Letters
+pub mod Texts
 pub mod Covered
 pub mod Decoded
 pub mod Exactly
+pub mod Cleared
 pub mod Walks
 pub mod Loops
 pub mod Outcomes
-pub mod Cleared
 pub mod Examples
 pub mod Top
