@@ -73,20 +73,20 @@ given-back (O.IndexedSp d) = refl
 given-back (O.Relative d) = refl
 
 -- and its kind
+reworded-back : (o : Operand) → operandWith (writtenOf o) 0 ≡ reworded o 0
+unfolding writtenOf
+reworded-back O.Absent = refl
+reworded-back (O.Immediate v) = refl
+reworded-back (O.Register r) = refl
+reworded-back (O.Memory a) = refl
+reworded-back (O.Indirect r) = refl
+reworded-back (O.IndexedX d) = refl
+reworded-back (O.IndexedY d) = refl
+reworded-back (O.IndexedSp d) = refl
+reworded-back (O.Relative d) = refl
+
 kind-back : (k : Kinds) (o : Operand) → allows k (operandWith (writtenOf o) 0) ≡ allows k o
 kind-back k o = ap (allows k) (reworded-back o) ∙ same-kind k o 0
-  where
-    reworded-back : (o : Operand) → operandWith (writtenOf o) 0 ≡ reworded o 0
-    unfolding writtenOf
-    reworded-back O.Absent = refl
-    reworded-back (O.Immediate v) = refl
-    reworded-back (O.Register r) = refl
-    reworded-back (O.Memory a) = refl
-    reworded-back (O.Indirect r) = refl
-    reworded-back (O.IndexedX d) = refl
-    reworded-back (O.IndexedY d) = refl
-    reworded-back (O.IndexedSp d) = refl
-    reworded-back (O.Relative d) = refl
 
 -- an operand of mode 0 is absent
 absent-back : (o : Operand) → ltb 0 (modeOf o) ≡ false → Absent ≡ writtenOf o
