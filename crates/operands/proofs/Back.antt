@@ -1,5 +1,5 @@
 -- An allowed instruction, each operand written with decimals, is judged to be that instruction, without a label: what is listed comes back.
-use Prim.Native.Nat.{ℕ, _+_, _≤_, _<_}
+use Prim.Native.Nat.{_+_, _≤_, _<_}
 use mathlib.Core.Bool.{Bool, true, false, cond, false≢true}
 use mathlib.Core.List.{List, [], _∷_}
 use mathlib.Core.Path.{_≡_, refl, sym, ap, ap₂, _∙_}
@@ -16,7 +16,7 @@ use Rattle.isa.specs.declared.Kinds.{Kinds}
 use Rattle.isa.specs.declared.Operand.{Operand}
 use Rattle.isa.specs.declared.Operand.the-variants as O
 use Rattle.isa.proofs.Modes.{mode-present}
-use Rattle.isa.proofs.Words.{Parts, parts, second-after-first}
+use Rattle.isa.proofs.Words.{parts, second-after-first}
 use Rattle.values.specs.declared.LabelIn.the-variants as L
 use Rattle.values.specs.declared.Value.the-variants.{Number}
 use Rattle.values.proofs.Displaced.{unsignedOf, signedOf, kept-number, kept-displacement}

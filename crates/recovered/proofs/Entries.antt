@@ -1,7 +1,7 @@
 -- A listing's lines as the assembler takes them, each by its entry: what it says, does and gives; and the lines of the whole text.
 use Prim.Native.Nat.{ℕ, _+_, _<_}
-use mathlib.Core.List.{List, [], _∷_, _++_, map}
-use mathlib.Core.Path.{_≡_, refl, sym, ap, _∙_}
+use mathlib.Core.List.{List, [], _∷_, map}
+use mathlib.Core.Path.{_≡_, refl, sym, ap}
 use native.Mathlib.Omega.{arith}
 use lib.Dec.{T}
 use lib.ListN.{length}
@@ -38,6 +38,7 @@ Writable (Instructs i) = Sound i
 Writable (Holds x) = x < 65536
 Writable Finish = Unit {0}
 
+-- what its line says, and the statement that this passes as
 abbrev pub readingIn : Entry → Reading
 readingIn (Origin a) = org (literal (a .0))
 readingIn (Instructs i) = readingOf i
@@ -73,12 +74,14 @@ nextIn at (Instructs i) = at + length (wordsOf i)
 nextIn at (Holds x) = at + 1
 nextIn at Finish = at
 
+-- its line says so
 pub entry-says : (e : Entry) → Writable e → Says (lineOf e) Absent (readingIn e)
 entry-says (Origin a) h = org-says (a .0) h
 entry-says (Instructs i) h = instruction-says i h
 entry-says (Holds x) h = data-says x h
 entry-says Finish h = end-says
 
+-- and passes every check of a line by itself
 pub entry-judged : (e : Entry) → Writable e → judged (readingIn e) ≡ Passes (statementIn e)
 unfolding judged
 entry-judged (Origin a) h = org-judged (a .0) h
@@ -86,6 +89,7 @@ entry-judged (Instructs i) h = instruction-judged i h
 entry-judged (Holds x) h = data-judged x h .0
 entry-judged Finish h = refl
 
+-- it gives the cells that it lists
 pub entry-gives : (bs : List Bound) (next : ℕ) (e : Entry) → Writable e → givenBy bs (lineOf e) next (readingIn e) ≡ cellsIn e
 entry-gives bs next (Origin a) h = refl
 entry-gives bs next (Instructs i) h = instruction-gives i h bs (lineOf (Instructs i)) next
@@ -107,6 +111,7 @@ entry-mark (Instructs i) = refl
 entry-mark (Holds x) = refl
 entry-mark Finish = refl
 
+-- and the next line begins behind it
 pub entry-moves : (at : ℕ) (e : Entry) → Writable e → movedBy (does (statementIn e) .moves) at ≡ nextIn at e
 unfolding does
 entry-moves at (Origin a) h = refl
@@ -131,13 +136,14 @@ abbrev pub AllWritable : List Entry → Type 0
 AllWritable [] = Unit {0}
 AllWritable (e ∷ es) = Writable e × AllWritable es
 
-entry-fine-in : (e : Entry) → Writable e → Fine (entryPieces e)
-entry-fine-in (Origin a) h = org-fine (a .0) h
-entry-fine-in (Instructs i) h = instruction-fine i h
-entry-fine-in (Holds x) h = data-fine x h
-entry-fine-in Finish h = end-fine
+entry-fine : (e : Entry) → Writable e → Fine (entryPieces e)
+entry-fine (Origin a) h = org-fine (a .0) h
+entry-fine (Instructs i) h = instruction-fine i h
+entry-fine (Holds x) h = data-fine x h
+entry-fine Finish h = end-fine
 
+-- the lines of a listing's text are those of its entries
 pub text-lines : (es : List Entry) → AllWritable es → Lines (textOfLines es) (map lineOf es)
 unfolding textOfLines
 text-lines [] h = L.none
-text-lines (e ∷ es) h = L.more (fine-noLF (entryPieces e) (entry-fine-in e (h .0))) (text-lines es (h .1))
+text-lines (e ∷ es) h = L.more (fine-noLF (entryPieces e) (entry-fine e (h .0))) (text-lines es (h .1))

@@ -15,6 +15,7 @@ use Rattle.tokens.specs.Words.{beginsWord}
 use Rattle.names.specs.Names.{registers}
 use Rattle.recovered.proofs.Pieces.{T-of}
 
+-- "Word: longest run of letters, digits, `_`, not begun by a digit" (01)
 abbrev isWord : String → Bool
 isWord name = beginsWord (bytes name) && allBelow anyWordByte (bytes name)
 

@@ -1,7 +1,7 @@
 -- Each operand as a listing writes it is an operand of the rules of writing.
 use Prim.Native.Nat.{ℕ, _+_, _<_}
 use Prim.Native.Char.{code}
-use mathlib.Core.Bool.{Bool, true, false, false≢true}
+use mathlib.Core.Bool.{Bool, true, false≢true}
 use mathlib.Core.List.{List, _∷_, _++_, append-assoc}
 use mathlib.Core.Path.{_≡_, refl, sym, ap, subst, _∙_}
 use native.Mathlib.Decide.{decLt}
@@ -35,6 +35,7 @@ use Rattle.recovered.proofs.Names.{register-is-word}
 
 -- ---- the pieces are fine
 
+-- a displacement, a register, a register in brackets, a displacement before it
 fine-signed : (d : ℕ) (qs : List Piece) → d < 65536 → T (parted qs) → Fine qs → Fine (signed d ++ qs)
 unfolding Fine isMark isBlank
 fine-signed d qs h t f =
@@ -55,6 +56,7 @@ fine-indexed : (r d : ℕ) (qs : List Piece) → T (isRegister r) → d < 65536 
 fine-indexed r d qs k h f =
     subst Fine (sym (append-assoc (signed d) (inBrackets r) qs)) (fine-signed d (inBrackets r ++ qs) h tt (fine-brackets r qs k f))
 
+-- an operand of an allowed instruction whose word is a cell
 pub fine-operand : (o : Operand) (qs : List Piece) → registerThere o ≡ true → isa.wordOf o < 65536 → T (parted qs) → Fine qs
     → Fine (operandPieces o ++ qs)
 unfolding Fine isMark isBlank
@@ -70,6 +72,7 @@ fine-operand (O.Relative d) qs k h t f = (tt, fine-signed d qs h t f)
 
 -- ---- the tokens are the operand
 
+-- a displacement is a number of the rules
 value-signed : (d at : ℕ) (dir : Bool) → ValueText (rowFrom at dir (signed d)) (Number (signedOf d))
 unfolding rowFrom signedOf
 value-signed d at dir =
@@ -79,12 +82,15 @@ value-signed d at dir =
     ]
 
 module _ (line : List ℕ) where
+  -- a register's name names it
   names-register : {at : ℕ} {rest : List ℕ} {qs : List Piece} (r : ℕ) (dir : Bool) → T (isRegister r)
       → Stand line at (word (registerName r) ∷ qs) rest
       → RegisterName line (token K.Word at dir (at + length (registerName r))) r
   names-register r dir k s =
-      record { word = refl; names = ap registerCode (word-there s) ∙ register-is-found r (ltb→lt r 16 k); known = k }
+      let h = ltb→lt r 16 k in
+      record { word = refl; names = ap registerCode (word-there (register-is-word r h .begins) s) ∙ register-is-found r h; known = k }
 
+  -- `#v[.IX]`, `#v[.IY]`, `#v[.SP]`
   indexed-text : {at : ℕ} {rest : List ℕ} {o : Written} (r d : ℕ) (dir : Bool) → T (isRegister r) → Index r (Number (signedOf d)) o
       → Stand line at (mark (code "#") ∷ signed d ++ inBrackets r) rest
       → OperandText line (rowFrom at dir (mark (code "#") ∷ signed d ++ inBrackets r)) o
@@ -100,6 +106,7 @@ module _ (line : List ℕ) where
       (token K.Word (b + 1 + 1) true (b + 1 + 1 + n)) (token (K.Mark (code "]")) (b + 1 + 1 + n) true (b + 1 + 1 + n + 1))
       refl (value-signed d (at + 1) true) refl refl (names-register r true k (next-piece (next-piece s₁))) i refl)
 
+  -- each shape that is written is that operand's
   pub operand-text : {at : ℕ} {rest : List ℕ} (o : Operand) (dir : Bool) → present o ≡ true → registerThere o ≡ true
       → Stand line at (operandPieces o) rest
       → OperandText line (rowFrom at dir (operandPieces o)) (writtenOf o)

@@ -1,5 +1,5 @@
 -- What is written piece by piece is read token by token: the row of a line's text.
-use Prim.Native.Nat.{ℕ, zero, suc, _+_, _≤_}
+use Prim.Native.Nat.{ℕ, suc, _+_, _≤_}
 use Prim.Native.Char.{code}
 use mathlib.Core.Bool.{Bool, true, false, not}
 use mathlib.Core.List.{List, [], _∷_, _++_, append-assoc}
@@ -7,8 +7,8 @@ use mathlib.Core.Path.{_≡_, refl, sym, ap, subst, _∙_}
 use native.Mathlib.Omega.{arith}
 use lib.Dec.{T}
 use lib.Ieee.Bits.{is-true}
-use lib.ListN.{length, take, drop, length-append}
-use lib.Seq.{slice, drop-drop, drop-append-seam, take-append-seam, take-nil}
+use lib.ListN.{length, drop, length-append}
+use lib.Seq.{slice}
 use Rattle.numerals.specs.Bytes.{rank, anyWordByte}
 use Rattle.numerals.specs.Digits.{allBelow, endsWord}
 use Rattle.numerals.specs.Writing.{decimal}
@@ -22,7 +22,9 @@ use Rattle.tokens.specs.Words.{beginsWord}
 use Rattle.tokens.specs.declared.Kind.the-variants as K
 use Rattle.tokens.specs.declared.Token.{Token}
 use Rattle.tokens.proofs.Classes.{word-ranks, mark-alone}
+use Rattle.tokens.proofs.Spacing.{sliced, follows, begins-some}
 use Rattle.listing.specs.Pieces.{Piece, word, number, mark, space, pieceText, textOf}
+use Rattle.listing.proofs.Texts.{text-append}
 
 -- the tokens of pieces from a place on
 unfoldable pub rowFrom : ℕ → Bool → List Piece → List Token
@@ -48,6 +50,7 @@ Fine (number n ∷ ps) = (n ≤ 65536) × T (parted ps) × Fine ps
 Fine (mark b ∷ ps) = T (isMark b) × Fine ps
 Fine (space ∷ ps) = Fine ps
 
+-- a test that passes, as a fact
 pub T-of : {b : Bool} → b ≡ true → T b
 T-of e = subst T (sym e) tt
 
@@ -77,11 +80,6 @@ row-of (mark b ∷ ps) at d (m, f) = Rows.mark m (row-of ps (at + 1) true f)
 row-of (space ∷ ps) at d f = blank {b = code " "} (T-of refl) (row-of ps (at + 1) false f)
 
 -- ---- pieces side by side
-
-pub text-append : (ps qs : List Piece) → textOf (ps ++ qs) ≡ textOf ps ++ textOf qs
-unfolding textOf
-text-append [] qs = refl
-text-append (p ∷ ps) qs = ap (λ (l : List ℕ). pieceText p ++ l) (text-append ps qs) ∙ sym (append-assoc (pieceText p) (textOf ps) (textOf qs))
 
 -- whether a token after pieces follows directly
 unfoldable pub behind : Bool → List Piece → Bool
@@ -114,35 +112,23 @@ row-append (space ∷ ps) qs at d =
     let e : at + 1 + length (textOf ps) ≡ at + suc (length (textOf ps)) = omega arith in
     row-append ps qs (at + 1) false ∙ ap (λ (n : ℕ). rowFrom (at + 1) false ps ++ rowFrom n (behind false ps) qs) e
 
--- ---- words where they stand
-
-drop-take : (a n : ℕ) (l : List ℕ) → drop a (take (a + n) l) ≡ take n (drop a l)
-drop-take zero n l = let e : 0 + n ≡ n = omega arith in ap (λ (m : ℕ). take m l) e
-drop-take (suc a) n [] = ap (drop (suc a)) (take-nil (suc a + n)) ∙ sym (take-nil n)
-drop-take (suc a) n (x ∷ xs) =
-    let e : suc a + n ≡ suc (a + n) = omega arith in
-    ap (λ (m : ℕ). drop (suc a) (take m (x ∷ xs))) e ∙ drop-take a n xs
-
-pub stands-word : (line : List ℕ) (at : ℕ) (w rest : List ℕ) → drop at line ≡ w ++ rest → slice at (at + length w) line ≡ w
-stands-word line at w rest e = drop-take at (length w) line ∙ ap (take (length w)) e ∙ take-append-seam w rest
-
-pub stands-on : (line : List ℕ) (at : ℕ) (w rest : List ℕ) → drop at line ≡ w ++ rest → drop (at + length w) line ≡ rest
-stands-on line at w rest e = sym (drop-drop (length w) at line) ∙ ap (drop (length w)) e ∙ drop-append-seam w rest
+-- ---- pieces where they stand
 
 -- pieces stand at a place of the line, and the rest of the line behind them
 pub record Stand (line : List ℕ) (at : ℕ) (ps : List Piece) (rest : List ℕ) : Type 0 where
   pub there : drop at line ≡ textOf ps ++ rest
 
+-- behind the first of them, behind some of them, and the first some
 pub next-piece : {line rest : List ℕ} {at : ℕ} {p : Piece} {ps : List Piece} → Stand line at (p ∷ ps) rest
     → Stand line (at + length (pieceText p)) ps rest
 unfolding textOf
 next-piece {line} {rest} {at} {p} {ps} s =
-    record { there = stands-on line at (pieceText p) (textOf ps ++ rest) (s .there ∙ append-assoc (pieceText p) (textOf ps) rest) }
+    record { there = follows line (pieceText p) (textOf ps ++ rest) at (s .there ∙ append-assoc (pieceText p) (textOf ps) rest) }
 
 pub next-pieces : {line rest : List ℕ} {at : ℕ} (ps qs : List Piece) → Stand line at (ps ++ qs) rest → Stand line (at + length (textOf ps)) qs rest
 next-pieces {line} {rest} {at} ps qs s = record {
   there =
-      stands-on line at (textOf ps) (textOf qs ++ rest)
+      follows line (textOf ps) (textOf qs ++ rest) at
       (s .there ∙ ap (λ (l : List ℕ). l ++ rest) (text-append ps qs) ∙ append-assoc (textOf ps) (textOf qs) rest);
 }
 
@@ -150,6 +136,8 @@ pub first-pieces : {line rest : List ℕ} {at : ℕ} (ps qs : List Piece) → St
 first-pieces {line} {rest} {at} ps qs s =
     record { there = s .there ∙ ap (λ (l : List ℕ). l ++ rest) (text-append ps qs) ∙ append-assoc (textOf ps) (textOf qs) rest }
 
-pub word-there : {line rest : List ℕ} {at : ℕ} {w : List ℕ} {ps : List Piece} → Stand line at (word w ∷ ps) rest → slice at (at + length w) line ≡ w
+-- the bytes of a word that stands there are its own
+pub word-there : {line rest : List ℕ} {at : ℕ} {w : List ℕ} {ps : List Piece} → T (beginsWord w) → Stand line at (word w ∷ ps) rest
+    → slice at (at + length w) line ≡ w
 unfolding textOf
-word-there {line} {rest} {at} {w} {ps} s = stands-word line at w (textOf ps ++ rest) (s .there ∙ append-assoc w (textOf ps) rest)
+word-there {line} {rest} {at} {w} {ps} b s = sliced line w (textOf ps ++ rest) at (begins-some w b) (s .there ∙ append-assoc w (textOf ps) rest)

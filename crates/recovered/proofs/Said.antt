@@ -1,6 +1,7 @@
 -- Each line of a listing says what it lists: its tokens, its reading, what is judged of it and the cells it gives.
 use Prim.Native.Nat.{ℕ, _+_, _<_}
 use Prim.Native.Char.{code}
+use Prim.Native.String.{String}
 use mathlib.Core.Bool.{Bool, true, false, cond, false≢true}
 use mathlib.Core.List.{List, [], _∷_, _++_, append-nil}
 use mathlib.Core.Path.{_≡_, refl, sym, ap, ap₂, subst, _∙_}
@@ -38,7 +39,6 @@ use Rattle.expressions.specs.Worths.{worthOf, ofNumber}
 use Rattle.operands.specs.Operands.{one, more, OperandField, none, some}
 use Rattle.operands.specs.Checks as Checks
 use Rattle.operands.specs.declared.InstructionRead.the-variants as I
-use Rattle.operands.specs.declared.Written.{Written}
 use Rattle.operands.proofs.Back.{writtenOf, plainly, listBy, writtenIn, judged-back}
 use Rattle.items.specs.Items as Items
 use Rattle.items.specs.Items.{cellsOf, allInRange}
@@ -53,7 +53,7 @@ use Rattle.listing.specs.Pieces.{Piece, word, number, mark, space, textOf}
 use Rattle.listing.specs.Lines.{operandPieces, present, fieldPieces, entryPieces, lineOf}
 use Rattle.listing.specs.declared.Entry.the-variants.{Origin, Instructs, Holds, Finish}
 use Rattle.recovered.proofs.Pieces.{rowFrom, parted, Fine, row-of, row-append, behind, Stand, next-piece, next-pieces, first-pieces, word-there}
-use Rattle.recovered.proofs.Names.{opcode-is-word, org-is-word, data-is-word, end-is-word}
+use Rattle.recovered.proofs.Names.{IsWord, opcode-is-word, org-is-word, data-is-word, end-is-word}
 use Rattle.recovered.proofs.Operands.{fine-operand, operand-text}
 
 -- ---- no label: the second token follows a blank
@@ -72,13 +72,16 @@ no-label e n us l = false≢true (sym e ∙ label-directly l)
 
 -- ---- a line that begins with a word
 
+-- all its pieces stand at its start
 whole : (ps : List Piece) → Stand (textOf ps) 0 ps []
 whole ps = record { there = sym (append-nil (textOf ps)) }
 
-statement-word : (w : List ℕ) (ps : List Piece) {m : Word} → wordOf w ≡ m
-    → StatementWord (textOf (word w ∷ ps)) (token K.Word 0 true (0 + length w)) m
-statement-word w ps e = record { word = refl; means = ap wordOf (word-there (whole (word w ∷ ps))) ∙ e }
+-- its first word is the statement's
+statement-word : (name : String) (ps : List Piece) {m : Word} → IsWord name → wordOf (bytes name) ≡ m
+    → StatementWord (textOf (word (bytes name) ∷ ps)) (token K.Word 0 true (0 + length (bytes name))) m
+statement-word name ps n e = record { word = refl; means = ap wordOf (word-there (n .begins) (whole (word (bytes name) ∷ ps))) ∙ e }
 
+-- a line without a label, by the tokens of its pieces
 says : (ps : List Piece) (r : Reading) → Fine ps → secondDirectly (rowFrom 0 true ps) ≡ false → Body (textOf ps) (rowFrom 0 true ps) r
     → Says (textOf ps) Absent r
 says ps r f s b = record { tokens = rowFrom 0 true ps; row = row-of ps 0 true f; text = unlabelled (no-label s) b }
@@ -96,7 +99,7 @@ pub data-says : (x : ℕ) → x < 65536 → Says (lineOf (Holds x)) Absent (data
 unfolding rowFrom Fine secondDirectly
 data-says x h =
     says (entryPieces (Holds x)) (dataReading x) (data-fine x h) refl
-    (Rule.items (statement-word (bytes "DATA") (space ∷ number x ∷ []) data-is-found) (Items.one (Items.is-number (plain refl))))
+    (Rule.items (statement-word "DATA" (space ∷ number x ∷ []) data-is-word data-is-found) (Items.one (Items.is-number (plain refl))))
 
 -- ---- `ORG n`
 
@@ -108,7 +111,7 @@ pub org-says : (n : ℕ) → n < 65536 → Says (lineOf (Origin (record { 0 = n 
 unfolding rowFrom Fine secondDirectly
 org-says n h =
     says (entryPieces (Origin (record { 0 = n }))) (org (literal n)) (org-fine n h) refl
-    (Rule.origin (statement-word (bytes "ORG") (space ∷ number n ∷ []) org-is-found) (Grammar.one-product (Grammar.one-factor (Grammar.literal refl))))
+    (Rule.origin (statement-word "ORG" (space ∷ number n ∷ []) org-is-word org-is-found) (Grammar.one-product (Grammar.one-factor (Grammar.literal refl))))
 
 -- ---- `END`
 
@@ -119,10 +122,11 @@ end-fine = (end-is-word .begins, end-is-word .all, tt, tt)
 pub end-says : Says (lineOf Finish) Absent end
 unfolding rowFrom Fine secondDirectly
 end-says =
-    says (entryPieces Finish) end end-fine refl (Rule.ends (statement-word (bytes "END") [] end-is-found))
+    says (entryPieces Finish) end end-fine refl (Rule.ends (statement-word "END" [] end-is-word end-is-found))
 
 -- ---- what is judged
 
+-- a cell is kept as itself
 cell-number : (n : ℕ) → n < 65536 → ofZ w16 (pos n) ≡ n
 cell-number n h = refl
 
@@ -136,10 +140,12 @@ org-judged n h = rw (le-leb n 65535 (omega arith)) (rw (le-leb 0 n (omega arith)
 
 -- ---- an instruction
 
+-- what is written behind the opcode's word, by which operands are there
 abbrev fieldBy : Bool → Bool → Operand → Operand → List Piece
 fieldBy pa pb a b = cond pa (space ∷ operandPieces a ++ cond pb (mark (code ",") ∷ operandPieces b) []) []
 
 module _ (a b : Operand) (ra : registerThere a ≡ true) (rb : registerThere b ≡ true) where
+  -- it is an operand field of the rules
   field-text : (line : List ℕ) (at : ℕ) (pa pb : Bool) → (pa ≡ true → present a ≡ true) → (pb ≡ true → present b ≡ true)
       → Stand line at (fieldBy pa pb a b) [] → OperandField line (rowFrom at true (fieldBy pa pb a b)) (listBy pa pb a b)
   unfolding rowFrom listBy
@@ -171,6 +177,7 @@ parted-field : (pa pb : Bool) (a b : Operand) → T (parted (fieldBy pa pb a b))
 parted-field false pb a b = tt
 parted-field true pb a b = tt
 
+-- the second token of the line, if there is one, follows the space
 second-operand : (a : Operand) (t : Token) (at : ℕ) (qs : List Piece) → present a ≡ true
     → secondDirectly (t ∷ rowFrom at false (operandPieces a ++ qs)) ≡ false
 unfolding secondDirectly rowFrom
@@ -212,6 +219,7 @@ instruction-fine i s =
       fine-field a b (g .first-register) (g .second-register) (s .first-below) (s .second-below) (present a) (present b),
     )
 
+-- an operand is there where its mode is not 0
 present-mode : (o : Operand) → present o ≡ ltb 0 (modeOf o)
 present-mode O.Absent = refl
 present-mode (O.Immediate v) = refl
@@ -239,7 +247,7 @@ instruction-says i s =
     says (entryPieces (Instructs i)) (readingOf i)
     (instruction-fine i s)
     (second-field (token K.Word 0 true (0 + length w)) (0 + length w) a b (present a) (present b) (λ e. e))
-    (Rule.opcode (statement-word w ps (opcode-is-found (i .op)))
+    (Rule.opcode (statement-word (table (i .op) .name) ps n (opcode-is-found (i .op)))
     (subst (OperandField (textOf (word w ∷ ps)) (rowFrom (0 + length w) true ps)) (those-there i)
     (field-text a b (g .first-register) (g .second-register) (textOf (word w ∷ ps)) (0 + length w) (present a) (present b) (λ e. e) (λ e. e)
     (next-piece (whole (word w ∷ ps))))))
