@@ -1,29 +1,36 @@
+-- The table holds the names' numbers, by computing, at the opcodes' own numbers.
+-- Assumes nothing.
+use mathlib.Core.Path.{ap, _∙_}
+use native.Mathlib.Omega.{arith}
+use lib.ListN.{getD}
+use Rattle.isa.specs.Opcodes.{table, opcodes}
+use Rattle.isa.specs.declared.Row.{Row}
+use Rattle.isa.proofs.Numbers.{number-below}
+use Rattle.names.specs.Names.{statementWords}
+use Rattle.names.specs.Inner.Packing.{pack}
+use Rattle.names.proofs.Packs.{numbers}
+use Rattle.names.proofs.Places.{statementNames, opcode-number}
 use borrow.Author.Needs.{needs}
 use Rattle.names.proofs.spelling.opcode_name.Statement.{statement}
 use Rattle.names.proofs.spelling.opcode_name.Tie as tie
-use Rattle.names.proofs.spelling.opcode_name.Reads as reads
-use Rattle.names.proofs.spelling.opcode_name.Lts as lts
-use Rattle.isa.proofs.opcodes.row.Reads as row-reads
 
--- src/spelling.rt:19:17
 row-requires : tie.Need-row-requires
 row-requires c κs = search needs
 
--- src/spelling.rt:19:17
 cast-place : tie.Need-cast-place
 cast-place c = search needs
 
--- src/spelling.rt:20:5
 mul-result : tie.Need-mul-result
 mul-result c = search needs
 
--- src/spelling.rt:20:5
 array-read-result : tie.Need-array-read-result
-array-read-result c = ?
+array-read-result c =
+    omega (arith, ap (λ (l : Row). l .number) (c .before .row .ensures), number-below (c .before .before .args .op))
 
--- src/spelling.rt:15:1
 returns : tie.Need-returns
-returns c = ?
+unfolding statementNames statementWords opcodes table pack
+returns c =
+    ap (λ (l : Row). getD (numbers statementNames) (l .number) 0) (c .before .row .ensures) ∙ opcode-number (c .before .before .args .op)
 
 pub opcode-name-spec : {M : Type 1} → statement M
 opcode-name-spec =
