@@ -8,11 +8,9 @@ use native.Mathlib.Decide.{decLt}
 use native.Mathlib.Omega.{arith}
 use lib.ListN.{length, getD, take, drop, take-append-drop, length-append}
 use lib.Seq.{ext-getD, getD-take, length-take-le}
-use Rattle.codes.specs.Marks.{free, codeMark, dataMark}
+use Rattle.codes.specs.Marks.{free, codeMark}
 use Rattle.isa.specs.Encoding.{wordsOf, allowed}
 use Rattle.isa.specs.Decoding.{decodeOf, stopOf}
-use Rattle.isa.specs.declared.Address.{Address}
-use Rattle.isa.specs.declared.Decoded.{Decoded}
 use Rattle.isa.specs.declared.Decoded.the-variants as D
 use Rattle.isa.specs.declared.Instruction.{Instruction}
 use Rattle.isa.specs.declared.Opcode.{Opcode}
@@ -23,7 +21,6 @@ use Rattle.operands.specs.Settling.{settledInstruction}
 use Rattle.operands.specs.declared.InstructionRead.{InstructionRead}
 use Rattle.operands.specs.declared.InstructionRead.the-variants as I
 use Rattle.operands.specs.declared.Written.{Written}
-use Rattle.operands.proofs.Top as operands
 use Rattle.statements.specs.Judging.{judged, instructionResult}
 use Rattle.statements.specs.Statements.{Reading, nothing, instruction, org, equ, res, cells, end, Says}
 use Rattle.statements.specs.declared.Failure.the-variants as F
@@ -31,7 +28,6 @@ use Rattle.statements.specs.declared.Statement.{Statement}
 use Rattle.statements.specs.declared.Statement.the-variants as S
 use Rattle.statements.specs.declared.StatementRead.{StatementRead}
 use Rattle.statements.specs.declared.StatementRead.the-variants.{Passes, Fails}
-use Rattle.statements.proofs.Passing.{instruction-from}
 use Rattle.values.specs.declared.LabelIn.{LabelIn}
 use Rattle.sources.specs.Sources.{Said}
 use Rattle.sources.specs.Placing.{does, doesRead, Bound, judgedLine, nextFrom}
@@ -39,10 +35,11 @@ use Rattle.sources.specs.Image.{wordIn, codeRead, givenBy, Block, blocksOf, Has
 use Rattle.sources.proofs.Contents.{statement-read}
 use Rattle.sources.proofs.Filling.{Read}
 use Rattle.sources.proofs.Images.{Somewhere, Nowhere, somewhere}
+use Rattle.sources.proofs.Small.{settled-allowed}
 use Rattle.listing.specs.Decodes.{FirstUndecoded, here, further}
 use Rattle.listing.specs.Listing.{FirstBadRun}
 use Rattle.listing.specs.Listing as L
-use Rattle.listing.specs.Runs.{Run, HoldCells, FirstRun, Runs, over, next}
+use Rattle.listing.specs.Runs.{Run, HoldCells, FirstRun, Runs, next}
 use Rattle.recovered.proofs.Listed.{second-part}
 
 -- ---- blocks of code are instructions
@@ -50,20 +47,15 @@ use Rattle.recovered.proofs.Listed.{second-part}
 abbrev pub IsCode : List ℕ → Type 0
 IsCode ws = (length ws ≡ 0) ⊎ ((i : Instruction) × (allowed i ≡ true) × (ws ≡ wordsOf i))
 
-allowed-then : (b : Bool) → _≡_ {A = ℕ} (cond b 0 5) 0 → b ≡ true
-allowed-then true e = refl
-allowed-then false e = absurd (omega arith)
-
 module _ (bs : List Bound) (bytes : List ℕ) (next : ℕ) where
   code-read : (op : Opcode) (os : List Written) {l : LabelIn} → Says bytes l (instruction op os) → (i : InstructionRead) → Operands.judged op os ≡ i
       → IsCode (codeRead bs bytes next op i)
   unfolding judged
   code-read op os x (I.Read a b) e =
-      let f = instruction-from bytes (statement-read bytes (instruction op os) x (ap (instructionResult op) e)) in
+      let f = statement-read bytes (instruction op os) x (ap (instructionResult op) e) in
       let v = wordIn bs bytes next a in
       let w = wordIn bs bytes next b in
-      let i = settledInstruction op a b v w in
-      inr (i, allowed-then (allowed i) (sym (isa.encoder i) ∙ operands.encodes bytes _ op (f .1) v w), refl)
+      inr (settledInstruction op a b v w, settled-allowed bytes f v w, refl)
   code-read op os x I.WrongForm e = inl refl
   code-read op os x I.WrongOperands e = inl refl
   code-read op os x I.OutOfRange e = inl refl

@@ -5,10 +5,13 @@ use mathlib.Core.List.{List, [], _∷_, _++_, map, append-nil}
 use mathlib.Core.Path.{_≡_, refl, sym, ap, subst, _∙_}
 use native.Mathlib.Omega.{arith}
 use lib.Dec.{eqb}
-use lib.ListN.{length, getD, length-append, List·getD-append}
-use lib.Seq.{getD-append-add}
+use lib.ListN.{length, getD, take, drop, length-append, List·getD-append}
+use lib.Seq.{getD-append-add, take-append-seam}
 use borrow.Author.Tests.{eqb-true}
+use Rattle.codes.specs.Limits.{longestSource}
 use Rattle.codes.specs.Marks.{free, codeMark, dataMark}
+use Rattle.image.proofs.Top as image
+use Rattle.image.proofs.Top.{Loan}
 use Rattle.isa.specs.Encoding.{wordsOf, allowed}
 use Rattle.isa.specs.Inner.Words.{wordOf}
 use Rattle.isa.specs.Operands.{operandWords}
@@ -16,7 +19,9 @@ use Rattle.isa.specs.declared.Instruction.{Instruction}
 use Rattle.isa.specs.declared.Operand.{Operand}
 use Rattle.isa.specs.declared.Operand.the-variants as O
 use Rattle.listing.specs.Decodes.{Instructions, none, then}
-use Rattle.listing.specs.Listing.{RunLines, code-run, data-run, originAt, LinesOf, ends, one-run}
+use Rattle.listing.specs.Lines.{textOfLines}
+use Rattle.listing.specs.Listing.{RunLines, code-run, data-run, originAt, LinesOf, ends, one-run, Leaves, given, Replies, bad-loan, undecoded, too-long}
+use Rattle.listing.specs.Listing as L
 use Rattle.listing.specs.Runs.{Run, HoldCells, FirstRun, Runs, over, next}
 use Rattle.listing.specs.declared.Entry.{Entry}
 use Rattle.listing.specs.declared.Entry.the-variants.{Origin, Instructs, Holds}
@@ -109,3 +114,39 @@ module _ (memory marks : List ℕ) (cells : (a : ℕ) → getD memory a 0 < 6553
   pub lines-good : {at : ℕ} {rs : List Run} {es : List Entry} → Runs memory marks at rs → LinesOf at rs es → Good memory marks at es
   lines-good (over f) ends = ends-here f
   lines-good (next {r = r} c d) (one-run x y) = origin-good r c (run-good r c x (lines-good d y))
+
+-- ---- where a listing is given
+
+pub record Lists (memory marks text : List ℕ) : Type 0 where
+  pub runs : List Run
+  pub lines : List Entry
+  pub loan : Loan memory marks
+  pub has-runs : Runs memory marks 0 runs
+  pub has-lines : LinesOf 0 runs lines
+  pub its-text : textOfLines lines ≡ text
+  pub short : length (textOfLines lines) ≤ longestSource
+
+-- a text at the head of a room is known by its length
+same-text : (room s t : List ℕ) → length s ≡ length t → s ++ drop (length s) room ≡ t ++ drop (length t) room → s ≡ t
+same-text room s t n e =
+    sym (take-append-seam s (drop (length s) room))
+    ∙ ap (take (length s)) e
+    ∙ ap (λ (k : ℕ). take k (t ++ drop (length t) room)) n
+    ∙ take-append-seam t (drop (length t) room)
+
+pub lists : {memory marks room text : List ℕ} → Replies memory marks room (given text room) → Lists memory marks text
+lists {memory} {marks} {room} {text} h = out h refl
+  where
+    out : {l : Leaves} → Replies memory marks room l → l ≡ given text room → Lists memory marks text
+    out (bad-loan n) e = absurd (omega (arith, ap (λ (l : Leaves). l .refusal) e))
+    out (undecoded g r b) e = absurd (omega (arith, ap (λ (l : Leaves). l .refusal) e))
+    out (too-long g r x t) e = absurd (omega (arith, ap (λ (l : Leaves). l .refusal) e))
+    out (L.gives {rs} {es} g r x t u) e = record {
+      runs = rs;
+      lines = es;
+      loan = image.good-exactly memory marks .0 g;
+      has-runs = r;
+      has-lines = x;
+      its-text = same-text room (textOfLines es) text (ap (λ (l : Leaves). l .text) e) (ap (λ (l : Leaves). l .room) e);
+      short = u;
+    }

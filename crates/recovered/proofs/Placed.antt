@@ -15,7 +15,6 @@ use Rattle.values.specs.declared.LabelIn.the-variants.{Absent}
 use Rattle.statements.specs.FirstFailing.{Pass}
 use Rattle.statements.specs.Judging.{judged}
 use Rattle.statements.specs.Statements.{end}
-use Rattle.statements.specs.declared.Statement.{Statement}
 use Rattle.statements.specs.declared.StatementRead.{StatementRead}
 use Rattle.statements.specs.declared.StatementRead.the-variants.{Passes}
 use Rattle.statements.proofs.Labelling.{never}
