@@ -13,6 +13,8 @@ use Rattle.assembler.specs.declared.Reply.{Reply}
 use Rattle.listing.specs.Listing.{Leaves, refused, given, Replies}
 use Rattle.listing.proofs.Cleared.{cleared}
 use Rattle.recovered.proofs.Back as Back
+use Rattle.recovered.proofs.Examples.{printed, printedMap, printedText, room, unclean, uncleanMap, uncleanText}
+use Rattle.recovered.proofs.Examples as Examples
 
 -- `list` gives this text
 abbrev pub Gives : List ℕ → List ℕ → List ℕ → List ℕ → Type 0
@@ -97,21 +99,17 @@ module _ {M N : ℕ} {source memory marks : List ℕ} (image : Accepted M N sour
       → ((text : List ℕ) × (l ≡ given text room)) ⊎ (l ≡ refused 3 0 room)
   only-too-long h = Back.given-or-long image h
 
+  number-of : {room : List ℕ} {l : Leaves} → Replies memory marks room l → (l .refusal ≡ 0) ⊎ (l .refusal ≡ 3)
+  number-of h =
+      elim (only-too-long h) [ inl x ↦ inl (ap (λ (y : Leaves). y .refusal) (x .1)) | inr e ↦ inr (ap (λ (y : Leaves). y .refusal) e) ]
+
   -- Its code runs decode within themselves: never 2;
   pub always-can : {room : List ℕ} {l : Leaves} → Replies memory marks room l → l .refusal ≡ 2 → ⊥
-  always-can {room} {l} h e = go (only-too-long h)
-    where
-      go : ((text : List ℕ) × (l ≡ given text room)) ⊎ (l ≡ refused 3 0 room) → ⊥
-      go (inl (t, q)) = omega (arith, e, ap (λ (x : Leaves). x .refusal) q)
-      go (inr q) = omega (arith, e, ap (λ (x : Leaves). x .refusal) q)
+  always-can h e = elim (number-of h) [ inl z ↦ omega arith | inr z ↦ omega arith ]
 
   -- and it is lent right: never 1.
   pub lent-right : {room : List ℕ} {l : Leaves} → Replies memory marks room l → l .refusal ≡ 1 → ⊥
-  lent-right {room} {l} h e = go (only-too-long h)
-    where
-      go : ((text : List ℕ) × (l ≡ given text room)) ⊎ (l ≡ refused 3 0 room) → ⊥
-      go (inl (t, q)) = omega (arith, e, ap (λ (x : Leaves). x .refusal) q)
-      go (inr q) = omega (arith, e, ap (λ (x : Leaves). x .refusal) q)
+  lent-right h e = elim (number-of h) [ inl z ↦ omega arith | inr z ↦ omega arith ]
 
   -- ---- a filed image comes back, with no proviso
 
@@ -125,7 +123,7 @@ module _ {M N : ℕ} {source memory marks : List ℕ} (image : Accepted M N sour
   pub filed-comes-back : {room text : List ℕ} → Gives memory marks room text → Accepted (length memory) (length marks) text memory marks
   filed-comes-back h = comes-back h filed-cells filed-free
 
--- A source is assembled, its image listed, the listing assembled at the same M: the same memory and map, and the same reply.
+-- "the same counts": a source is assembled, its image listed, the listing assembled at the same M: the same memory and map, and the same reply.
 pub same-reply : {source text memory marks memory₀ map₀ memory₁ map₁ memory′ map′ room : List ℕ} {r r′ : Reply}
     → assembler.Replies source memory₀ map₀ r memory marks
     → r .refusal ≡ 0
@@ -136,3 +134,13 @@ pub same-reply : {source text memory marks memory₀ map₀ memory₁ map₁ mem
 same-reply h z g s h′ =
     let a = Back.acceptance-of h z in
     Back.replied (Back.lent (s .memory-length) (s .map-length) (filed-comes-back (a .0) g)) (a .1) h′
+
+-- ---- worked
+
+-- Document 01's image gives its listing, and that comes back.
+pub printed-comes-back : Gives printed printedMap room printedText × Accepted 16 16 printedText printed printedMap
+printed-comes-back = (Examples.printed-gives, Examples.printed-back)
+
+-- The proviso is not idle: `64,9` with marks `1,0` is listed, and does not come back.
+pub unclean-stays-away : Gives unclean uncleanMap room uncleanText × (Accepted 2 2 uncleanText unclean uncleanMap → ⊥)
+unclean-stays-away = (Examples.unclean-gives, Examples.unclean-stays-away)
