@@ -59,18 +59,18 @@ module _ (memory marks room : List ℕ) where
   refused-unchanged (too-long g h t b) n = refl
   refused-unchanged (gives g h t b d) n = absurd (n refl)
 
-  -- "32,768 bytes are given", where there is room for them
+  -- "3 text above .. 32,768 bytes": so many are given, where there is room for them,
   module _ {rs : List Run} {es : List Entry} (lent : goodLoan memory marks ≡ true) (runs : Runs memory marks 0 rs) (lines : LinesOf 0 rs es) where
     pub at-the-limit : length (textOfLines es) ≡ 32768 → 32768 ≤ length room → listOf memory marks room ≡ given (textOfLines es) room
     at-the-limit e h = Exactly.replied memory marks room (gives lent runs lines (omega (arith, e)) (omega (arith, e)))
 
-    -- "32,769 are 3", whatever the room
+    -- and one more is 3, whatever the room
     pub above-the-limit : length (textOfLines es) ≡ 32769 → listOf memory marks room ≡ refused 3 0 room
     above-the-limit e = Exactly.replied memory marks room (too-long lent runs lines (inr (omega (arith, e))))
 
 -- ---- the runs
 
--- "each run of claimed cells", "a longest row of cells with one mark": memory and map have one list of runs
+-- "each run of claimed cells": memory and map have one list of runs
 pub one-list-of-runs : {memory marks : List ℕ} {at : ℕ} {rs ss : List Run} → Runs memory marks at rs → Runs memory marks at ss → rs ≡ ss
 one-list-of-runs {memory} {marks} = one-list memory marks
 

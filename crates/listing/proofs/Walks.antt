@@ -428,3 +428,20 @@ text-join (e ∷ es) fs =
 pub line-text : (behind at : ℕ) (e : Entry) (es : List Entry) → textOfLines (originAt behind at ++ ((e ∷ []) ++ es)) ≡ lineText behind at e ++ textOfLines es
 line-text behind at e es =
     ap textOfLines (sym (append-assoc (originAt behind at) (e ∷ []) es)) ∙ text-join (originAt behind at ++ (e ∷ [])) es
+
+-- ---- what begins at an address, by its mark
+
+module _ (memory marks : List ℕ) (at : ℕ) where
+  pub begins-free : getD marks at free ≡ free → B.Nothing ≡ beginsAt memory marks at
+  unfolding beginsAt
+  begins-free e = rw (eq-eqb (getD marks at free) free e)
+
+  pub begins-code : (getD marks at free ≡ free → ⊥) → getD marks at free ≡ codeMark → {b : Begins} → b ≡ codeBy marks at (decodeOf memory at)
+      → b ≡ beginsAt memory marks at
+  unfolding beginsAt
+  begins-code n e h = rw (ne-eqb (getD marks at free) free n, eq-eqb (getD marks at free) codeMark e) h
+
+  pub begins-data : (getD marks at free ≡ free → ⊥) → (getD marks at free ≡ codeMark → ⊥)
+      → B.Line (Holds (getD memory at 0)) (record { 0 = at + 1 }) ≡ beginsAt memory marks at
+  unfolding beginsAt
+  begins-data n m = rw (ne-eqb (getD marks at free) free n, ne-eqb (getD marks at free) codeMark m)
