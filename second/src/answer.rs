@@ -4,6 +4,7 @@ use crate::assembler::assemble;
 use crate::case::{Case, LentImage, LentMachine, LentSource};
 use crate::image;
 use crate::isa::{self, Instruction, Opcode, Operand};
+use crate::listing;
 use crate::machine::{self, Machine, Registers};
 use crate::reply::{changed_runs, differing, Left, LineSays, Name, Reply};
 use crate::text::{read_line, Statement};
@@ -25,6 +26,7 @@ pub fn answer(case: &Case) -> Reply {
             Reply::Run(ran.stop.number(), ran.count, left)
         }
         Case::Print(lent) => answer_print(lent),
+        Case::List(lent) => answer_list(lent),
         Case::Line(line) => answer_line(line),
     }
 }
@@ -102,6 +104,15 @@ fn answer_print(lent: &LentImage) -> Reply {
         Err(refused) => (refused as u8, 0),
     };
     Reply::Print { code, length, changed: changed_runs(lent.room_fill, &room) }
+}
+
+fn answer_list(lent: &LentImage) -> Reply {
+    let mut room = vec![lent.room_fill; lent.room];
+    let (code, address, length) = match listing::list(&lent.memory.row(), &lent.map(), &mut room) {
+        Ok(length) => (0, 0, length),
+        Err(refused) => (refused.number(), refused.address(), 0),
+    };
+    Reply::List { code, address, length, changed: changed_runs(lent.room_fill, &room) }
 }
 
 /// What the line by itself says: nothing of other lines or of addresses.

@@ -3,18 +3,19 @@
 #![forbid(unsafe_code)]
 
 use second::case::{self, Case};
-use second::{answer, count, make, program, show, speed};
+use second::{answer, back, count, make, program, show, speed};
 use std::io::{self, BufRead, BufWriter, Read, Write};
 use std::process::ExitCode;
 
 const USAGE: &str = "usage:
   second answer < cases > replies
   second make KIND COUNT SEED > cases
-      KIND: assemble encode decode step run print machine all line
+      KIND: assemble encode decode step run print list machine all line
   second assemble M FILE
   second run M FILE [BUDGET] < input > output 2> record
   second count < cases
   second show < cases
+  second back COUNT SEED
   second bench LABELS > source
       LABELS: 20 500
   second speed [WORK]
@@ -35,6 +36,7 @@ fn main() -> ExitCode {
         },
         ["count"] => count_all(),
         ["show"] => for_each_case(|case, out| write!(out, "{}", show::show(case))),
+        ["back", count, seed] => back_all(count, seed),
         ["bench", labels @ ("20" | "500")] => {
             put(&make::bench::source(labels.parse().unwrap_or(0)), ExitCode::SUCCESS)
         }
@@ -122,8 +124,38 @@ fn put(bytes: impl AsRef<[u8]>, code: ExitCode) -> Done {
     Ok(code)
 }
 
+/// A count or a seed.
+fn number(text: &str) -> Result<u64, String> {
+    text.parse::<u64>().map_err(|_| USAGE.to_string())
+}
+
+/// Lists the images of so many sources, and so many images, and assembles them again. 1 is for a
+/// difference; each is told with its case.
+fn back_all(count: &str, seed: &str) -> Done {
+    let (count, seed) = (number(count)?, number(seed)?);
+    let mut all_back = true;
+    for kind in [make::Kind::Assemble, make::Kind::List] {
+        let mut maker = make::Maker::new(kind, seed);
+        let mut tally = back::Tally::default();
+        for _ in 0..count {
+            let case = maker.next_case();
+            if let Err(why) = tally.add(&case) {
+                eprintln!("{}: {}", why, case);
+            }
+        }
+        all_back &= tally.differ == 0;
+        let made = match kind {
+            make::Kind::Assemble => {
+                format!("sources: {} made, {} accepted", tally.made, tally.accepted())
+            }
+            _ => format!("images: {} made", tally.made),
+        };
+        put(format!("{}, {}\n", made, tally), ExitCode::SUCCESS)?;
+    }
+    Ok(if all_back { ExitCode::SUCCESS } else { ExitCode::FAILURE })
+}
+
 fn make_all(kind: &str, count: &str, seed: &str) -> Done {
-    let number = |text: &str| text.parse::<u64>().map_err(|_| USAGE.to_string());
     let kind = make::Kind::of_name(kind).ok_or_else(|| USAGE.to_string())?;
     let (count, seed) = (number(count)?, number(seed)?);
     let mut out = BufWriter::new(io::stdout().lock());

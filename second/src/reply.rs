@@ -39,6 +39,12 @@ pub enum Reply {
         length: usize,
         changed: Listed<Vec<u8>>,
     },
+    List {
+        code: u8,
+        address: u32,
+        length: usize,
+        changed: Listed<Vec<u8>>,
+    },
     /// A line's label and what it says, or the number of the first of its own checks that fails.
     Line(Name, Result<LineSays, u8>),
 }
@@ -161,6 +167,9 @@ impl Display for Reply {
             Reply::Run(stop, count, left) => write!(out, "{} {} {}", stop, count, left),
             Reply::Print { code, length, changed } => {
                 write!(out, "{} {} {}", code, length, Runs(changed))
+            }
+            Reply::List { code, address, length, changed } => {
+                write!(out, "{} {} {} {}", code, address, length, Runs(changed))
             }
             Reply::Line(label, Ok(says)) => write!(out, "0 {} {}", label, says),
             Reply::Line(label, Err(refusal)) => write!(out, "{} {}", refusal, label),

@@ -2,8 +2,9 @@
 //! instructions.
 
 use crate::answer::answer;
-use crate::case::{Case, LentMachine};
+use crate::case::{Case, LentImage, LentMachine};
 use crate::isa::decode;
+use crate::listing;
 use crate::machine::{PC, REGISTER_NAMES};
 use crate::text::lines;
 use std::fmt::Write;
@@ -23,12 +24,26 @@ pub fn show(case: &Case) -> String {
         }
         Case::Step(lent) => show_machine("step", lent, &mut text),
         Case::Run(budget, lent) => show_machine(&format!("run of {}", budget), lent, &mut text),
+        Case::List(lent) => show_listing(lent, &mut text),
         Case::Encode { .. } | Case::Decode(_) | Case::Print(_) => {
             let _ = writeln!(text, "{}", case);
         }
     }
     let _ = writeln!(text, "  reply: {}", answer(case));
     text
+}
+
+/// The listing's text, whatever room was lent for it.
+fn show_listing(lent: &LentImage, text: &mut String) {
+    let (cells, map) = (lent.memory.cells, lent.map_length);
+    let _ = writeln!(text, "list at M {} (map {}) into {} bytes", cells, map, lent.room);
+    if let Ok(listed) = listing::text(&lent.memory.row(), &lent.map()) {
+        listed.lines().for_each(|line| {
+            let _ = writeln!(text, "  | {}", line);
+        });
+    }
+    let _ = writeln!(text, "  overwritten {:?}", lent.memory.overwritten);
+    let _ = writeln!(text, "  marks {} and {:?}", lent.map_fill, lent.marks);
 }
 
 fn show_machine(what: &str, lent: &LentMachine, text: &mut String) {

@@ -22,7 +22,7 @@ fn known_marks(map: &[u8]) -> bool
 }
 
 // From 1 to 65,536 cells, and a map of as many known marks.
-fn good_loan(memory: &[u16], map: &[u8]) -> bool
+pub fn good_loan(memory: &[u16], map: &[u8]) -> bool
     ensures { λ r. ⌜ r ≡ goodLoan (now (memory .entry)) (now (map .entry)) ⌝ }
 {
     if memory.len() < 1 {

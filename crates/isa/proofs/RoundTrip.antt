@@ -264,3 +264,10 @@ encode-decode m at i next e =
       within = omega (arith, d .after);
       short = omega (arith, d .after);
     }
+
+-- an instruction that was read ends behind its words
+pub size-read : (m : List ℕ) (at : ℕ) (i : Instruction) (next : Address) → decodeOf m at ≡ Read i next → at + length (wordsOf i) ≡ next .0
+size-read m at i next e =
+    let r = encode-decode m at i next e in
+    let l = length-take-le (next .0 - at) (drop at m) (omega (arith, r .within, length-drop at m)) in
+    omega (arith, r .onward, ap length (r .its-words), l)

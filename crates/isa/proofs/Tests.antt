@@ -32,3 +32,7 @@ every-at f zero t k h = absurd (omega arith)
 every-at f (suc n) t k h =
     let both = both-true (f n) (every f n) t in
     last-or-before f n k (eqb k n) refl (both .0) (every-at f n (both .1) k) h
+
+-- of two constructors that are not equal, where `cc` shows that they would be
+pub never : {X : Type 0} → _≡_ {A = ℕ} 0 1 → X
+never e = absurd (omega (arith, e))

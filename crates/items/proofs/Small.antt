@@ -25,14 +25,14 @@ use Rattle.items.proofs.Writes.{first}
 abbrev pub Small : List ℕ → Type 0
 Small xs = (k : ℕ) → getD xs k 0 < 65536
 
-none-small : Small []
+pub none-small : Small []
 none-small k = omega arith
 
-cons-small : {x : ℕ} (xs : List ℕ) → x < 65536 → Small xs → Small (x ∷ xs)
+pub cons-small : {x : ℕ} (xs : List ℕ) → x < 65536 → Small xs → Small (x ∷ xs)
 cons-small xs h g zero = h
 cons-small xs h g (suc k) = g k
 
-append-small : (xs ys : List ℕ) → Small xs → Small ys → Small (xs ++ ys)
+pub append-small : (xs ys : List ℕ) → Small xs → Small ys → Small (xs ++ ys)
 append-small [] ys h g = g
 append-small (x ∷ xs) ys h g = cons-small (xs ++ ys) (h zero) (append-small xs ys (λ k. h (suc k)) g)
 
@@ -42,7 +42,7 @@ characters-small (plain {b} {cs = cs} t r) =
     cons-small cs (omega (arith, inside 32 126 b (plain-is b (is-true (isPlain b) t) .printable))) (characters-small r)
 characters-small (newline {cs = cs} r) = cons-small cs (omega arith) (characters-small r)
 
-number-small : (z : ℤ) → inRange z ≡ true → ofZ w16 z < 65536
+pub number-small : (z : ℤ) → inRange z ≡ true → ofZ w16 z < 65536
 number-small (pos n) e = omega (arith, leb-true n 65535 e)
 number-small (negsuc n) e = omega arith
 

@@ -160,7 +160,7 @@ opcode-is-named : (o : Opcode) → isNamed (bytes (table o .name)) (table o .nam
 unfolding isNamed capital opcodeOf opcodes table
 opcode-is-named = each (λ (o : Opcode). isNamed (bytes (table o .name)) (table o .name)) refl
 
-opcode-is-found : (o : Opcode) → wordOf (bytes (table o .name)) ≡ Instructs o
+pub opcode-is-found : (o : Opcode) → wordOf (bytes (table o .name)) ≡ Instructs o
 unfolding wordOf wordIn statementWords isNamed capital opcodeOf opcodes table
 opcode-is-found o =
     instructs-is o (wordOf (bytes (table o .name))) (each (λ (o : Opcode). instructs o (wordOf (bytes (table o .name)))) refl o)

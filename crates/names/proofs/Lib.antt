@@ -3,5 +3,6 @@ pub mod Same
 pub mod Packs
 pub mod Places
 pub mod Exactly
+pub mod Own
 pub mod Examples
 pub mod Top

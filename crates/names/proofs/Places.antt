@@ -5,14 +5,18 @@ use mathlib.Core.List.{List, [], _∷_, _++_, map}
 use mathlib.Core.Path.{_≡_, refl, ap, _∙_}
 use Prim.Native.String.{String}
 use native.Mathlib.Omega.{arith}
-use lib.ListN.{length, getD, List·getD-append}
+use borrow.Author.Tests.{eqb-true}
+use lib.Dec.{eqb}
+use lib.ListN.{length, getD, List·getD-append, List·getD-map}
 use lib.Seq.{getD-append-add}
+use Rattle.numerals.specs.Bytes.{bytes}
 use Rattle.isa.specs.Opcodes.{table, opcodes, opcodeOf}
 use Rattle.isa.specs.declared.Opcode.{Opcode}
 use Rattle.isa.specs.declared.Opcode.the-variants.{NOP}
+use Rattle.isa.proofs.Numbers.{each}
 use Rattle.names.specs.declared.Word.the-variants.{Instructs, Unknown}
 use Rattle.names.specs.Names.{isNamed, Entry, statementWords, wordIn, wordOf, registers, placeIn, registerCode}
-use Rattle.names.specs.Inner.Packing.{numberOf, placeOf, wordAt, directives, directiveAt}
+use Rattle.names.specs.Inner.Packing.{pack, numberOf, placeOf, wordAt, directives, directiveAt}
 use Rattle.names.proofs.Packs.{numbers, place-number}
 
 -- the names of the 44 words
@@ -64,3 +68,16 @@ unfolding wordAt directiveAt opcodes
 word-directive k h =
     let q : k ≡ 39 + (k - 39) = omega arith in
     rw words-parted (ap (λ (n : ℕ). getD (map Instructs opcodes ++ directives) n Unknown) q ∙ getD-append-add (map Instructs opcodes) directives (k - 39) Unknown)
+
+-- ---- the numbers asked the other way: at an opcode's or a register's place stands the number of its name
+
+pub opcode-number : (o : Opcode) → getD (numbers statementNames) (table o .number) 0 ≡ pack (bytes (table o .name))
+unfolding statementNames statementWords opcodeOf opcodes table pack
+opcode-number o =
+    eqb-true (getD (numbers statementNames) (table o .number) 0) (pack (bytes (table o .name)))
+    (each (λ (p : Opcode). eqb (getD (numbers statementNames) (table p .number) 0) (pack (bytes (table p .name)))) refl o)
+
+-- and 0 where there is no such register
+pub register-number : (r : ℕ) → getD (numbers registers) r 0 ≡ pack (bytes (getD registers r ""))
+unfolding pack
+register-number r = List·getD-map (λ (name : String). pack (bytes name)) registers r ""

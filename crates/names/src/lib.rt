@@ -3,6 +3,7 @@
 use isa::Opcode;
 
 pub mod lookup; // a word of the line among the names
+pub mod spelling; // a name, to be written
 
 // What a statement's word is.
 pub enum Word {

@@ -11,7 +11,7 @@ use isa::FoundOpcode;
 use isa::opcodes::opcode;
 
 // The numbers of the 39 opcodes' names in the order of the opcodes, then of ORG, EQU, RES, DATA and END.
-const STATEMENT_WORDS: [u64; 44] = [
+pub(crate) const STATEMENT_WORDS: [u64; 44] = [
     5263182, // NOP
     1414283592, // HALT
     1163284301, // MOVE
@@ -59,7 +59,7 @@ const STATEMENT_WORDS: [u64; 44] = [
 ];
 
 // The numbers of R0 to R9, A, SR, IX, IY, SP and PC.
-const REGISTERS: [u64; 16] = [
+pub(crate) const REGISTERS: [u64; 16] = [
     12370, // R0
     12626, // R1
     12882, // R2

@@ -44,7 +44,7 @@ line-other s h = go (numberAt s 0) refl
     go Absent e = line-none s e
 
 -- a decimal is a number of the rule, before whatever ends a word
-decimal-reads : (n : ℕ) (rest : List ℕ) → n < 10000000000 → T (endsWord rest) → Unsigned (decimal n ++ rest) Decimal n rest
+pub decimal-reads : (n : ℕ) (rest : List ℕ) → n < 10000000000 → T (endsWord rest) → Unsigned (decimal n ++ rest) Decimal n rest
 decimal-reads n rest h t =
     let d = decimal-right n h in
     record { digits = decimal n; split = refl; are-digits = d .are-digits; ends = t; worth-is = sym (d .worth-is) }

@@ -6,6 +6,7 @@ pub mod Lists
 pub mod Judged
 pub mod Exactly
 pub mod Settled
+pub mod Back
 pub mod Encodes
 pub mod Within
 pub mod Spacing

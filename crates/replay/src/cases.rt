@@ -1,5 +1,6 @@
 // The cases of the input, each to its reply.
 use super::fields::number;
+use super::images::Text;
 use super::images::image_case;
 use super::instructions::decode_case;
 use super::instructions::encode_case;
@@ -34,7 +35,8 @@ fn answer(s: &[u8], m: &mut [u16], given: &mut [u8], room: &mut [u8]) -> Outcome
         b'A' => source_case(s, m, given, room),
         b'D' => decode_case(s, m),
         b'E' => encode_case(s),
-        b'P' => image_case(s, m, given, room),
+        b'G' => image_case(Text::Listing, s, m, given, room),
+        b'P' => image_case(Text::Printing, s, m, given, room),
         b'R' => run_case(s, m, given, room),
         b'S' => machine_case(Asked::Step, s, 2, m, given, room),
         _ => Outcome::Malformed,

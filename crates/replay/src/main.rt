@@ -3,7 +3,7 @@
 // told on standard error and ends the program. A program of this kit has no exit status of its own: `second/cases/answer` gives one.
 mod cases; // the cases of the input, each to its reply
 mod fields; // numbers and bytes of a line
-mod images; // printing
+mod images; // printing and listing
 mod instructions; // encoding and decoding
 mod lines; // the lines of standard input
 mod machines; // steps and runs

@@ -9,7 +9,7 @@ use super::outcomes::Outcome;
 
 const LOST: usize = 18446744073709551615;
 
-// A reply that is a row of numbers.
+// A reply, or its first part, that is a row of numbers.
 pub(crate) struct Row {
     pub count: usize,
     pub numbers: [usize; 7],
@@ -81,7 +81,7 @@ pub(crate) fn words(out: &mut [u8], at: usize, list: &[u16]) -> usize {
     next
 }
 
-fn numbers(out: &mut [u8], list: &[usize], count: usize) -> usize {
+pub(crate) fn numbers(out: &mut [u8], list: &[usize], count: usize) -> usize {
     let mut next = 0;
     for i in 0..count {
         if list.len() <= i {

@@ -124,7 +124,7 @@ lines-fill M n bs p m (x ∷ xs) lm lk s h =
 
 -- ---- the image is there
 
-zero-there : (n a : ℕ) → getD {A = ℕ} (replicate n 0) a 0 ≡ 0
+pub zero-there : (n a : ℕ) → getD {A = ℕ} (replicate n 0) a 0 ≡ 0
 zero-there n a = go (ltb a n) refl
   where
     go : (b : Bool) → ltb a n ≡ b → getD {A = ℕ} (replicate n 0) a 0 ≡ 0
@@ -157,7 +157,7 @@ image-there M xs s h =
 -- ---- one image
 
 -- a block has a cell or not
-has : (b : Block) (a : ℕ) → Has b a ⊎ (Has b a → ⊥)
+pub has : (b : Block) (a : ℕ) → Has b a ⊎ (Has b a → ⊥)
 has b a = go (ltb a (b .from)) (ltb a (b .from + length (b .given))) refl refl
   where
     go : (c d : Bool) → ltb a (b .from) ≡ c → ltb a (b .from + length (b .given)) ≡ d → Has b a ⊎ (Has b a → ⊥)
@@ -168,14 +168,14 @@ has b a = go (ltb a (b .from)) (ltb a (b .from + length (b .given))) refl refl
         inl (a - b .from, omega arith, omega arith)
     go false false e f = let u = ltb-false a (b .from + length (b .given)) f in inr (λ h. omega (arith, h .1, h .2))
 
-abbrev Somewhere : List Block → ℕ → Type 0
+abbrev pub Somewhere : List Block → ℕ → Type 0
 Somewhere bs a = (b : Block) × List·Memᴰ b bs × Has b a
 
-abbrev Nowhere : List Block → ℕ → Type 0
+abbrev pub Nowhere : List Block → ℕ → Type 0
 Nowhere bs a = (b : Block) → List·Memᴰ b bs → Has b a → ⊥
 
 -- a cell is in one of some blocks or in none
-somewhere : (bs : List Block) (a : ℕ) → Somewhere bs a ⊎ Nowhere bs a
+pub somewhere : (bs : List Block) (a : ℕ) → Somewhere bs a ⊎ Nowhere bs a
 somewhere [] a = inr (λ b m h. elim m [ ])
 somewhere (c ∷ bs) a = go (has c a) (somewhere bs a)
   where

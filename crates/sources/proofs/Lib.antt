@@ -13,6 +13,7 @@ pub mod Stores
 pub mod Contents
 pub mod Filling
 pub mod Images
+pub mod Small
 pub mod Counts
 pub mod Below
 pub mod Numbers

@@ -1,12 +1,12 @@
 -- What the meaning of a source promises (demands 2 and 3): every source is accepted with one image, or refused with one number and line,
 -- never both; no source has two readings; and the assembler as a function answers exactly so.
-use Prim.Native.Nat.{ℕ, _≤_}
+use Prim.Native.Nat.{ℕ, _≤_, _<_}
 use mathlib.Core.Bool.{Bool, true, false}
 use mathlib.Core.List.{List, _∷_, _++_, map}
 use mathlib.Core.Logic.{_↔_, _⊎_, inl, inr}
 use mathlib.Core.Path.{_≡_, refl, sym, ap, ap₂, subst, _∙_}
 use lib.Dec.{eqb}
-use lib.ListN.{length}
+use lib.ListN.{length, getD}
 use borrow.Author.Tests.{eqb-true, eqb-false}
 use Rattle.tokens.specs.Lines.{Lines}
 use Rattle.tokens.proofs.Spacing.{Over}
@@ -15,7 +15,7 @@ use Rattle.statements.specs.Statements.{HasWord}
 use Rattle.statements.specs.FirstFailing.{Pass}
 use Rattle.statements.proofs.Labelling.{never}
 use Rattle.codes.specs.Limits.{longestSource}
-use Rattle.codes.specs.Marks.{codeMark, dataMark}
+use Rattle.codes.specs.Marks.{free, codeMark, dataMark}
 use Rattle.sources.specs.Sources.{Said, SourceText}
 use Rattle.sources.specs.Placing.{Judged, judgedLine}
 use Rattle.sources.specs.Order.{Refusal, loanChecks, FirstFailing, Passing}
@@ -29,6 +29,7 @@ use Rattle.sources.proofs.Whole.{source-read, fails-complete, passes-co
 use Rattle.sources.proofs.Filling.{all-read}
 use Rattle.sources.proofs.Images as Images
 use Rattle.sources.proofs.Images.{image-there, one-image}
+use Rattle.sources.proofs.Small as Small
 use Rattle.sources.proofs.Counts as Counts
 use Rattle.sources.proofs.Counts.{cellsOfMark}
 use Rattle.sources.proofs.Below as Below
@@ -152,6 +153,13 @@ module _ (M N : ℕ) (source : List ℕ) where
   -- No cell is claimed by two statements of an accepted source.
   pub no-cell-twice : {memory marks : List ℕ} (a : Accepted M N source memory marks) → Apart (blocks M (a .reading))
   no-cell-twice a = Images.apart M (a .reading) (all-read (a .passing .text .read)) (a .passing .lines)
+
+  -- Each cell of its image is below 65536, and its free cells hold 0.
+  pub cells-small : {memory marks : List ℕ} → Accepted M N source memory marks → (a : ℕ) → getD memory a 0 < 65536
+  cells-small a = Small.image-small a
+
+  pub free-hold-zero : {memory marks : List ℕ} → Accepted M N source memory marks → (a : ℕ) → getD marks a free ≡ free → getD memory a 0 ≡ 0
+  free-hold-zero a = Small.image-free a
 
   -- The numbers of cells marked 1 and 2 are those of the cells that its instructions and its DATA give.
   pub code-counted : {memory marks : List ℕ} (a : Accepted M N source memory marks) → cellsMarked codeMark marks ≡ cellsOfMark codeMark (blocks M (a .reading))

@@ -5,10 +5,11 @@ use Prim.Native.Nat.{ℕ, _+_, _-_, _≤_, _<_}
 use native.Mathlib.Nat.{add-assoc}
 use native.Mathlib.Omega.{arith}
 use borrow.Author.Tests.{le-leb}
-use lib.ListN.{length, set, take, drop, length-append, length-drop}
+use lib.ListN.{length, set, take, drop, length-append}
 use lib.Seq.{take-all, take-at, drop-drop, length-take-le}
-use Rattle.numerals.specs.Writing.{decimal, written}
+use Rattle.numerals.specs.Writing.{decimal, signedDecimal, written}
 use Rattle.numerals.specs.declared.Written.{Written}
+use Rattle.numerals.proofs.Decimals.{signed-length}
 use Rattle.numerals.proofs.Filling.{written-text, length-decimal}
 use Rattle.ports.specs.Overwriting.{overwrite}
 use Rattle.ports.specs.Input.{Passed, passed}
@@ -75,25 +76,66 @@ pub overwrite-front : (xs ys : List ℕ) → overwrite xs 0 ys ≡ ys ++ drop (l
 unfolding overwrite
 overwrite-front xs ys = let e : 0 + length ys ≡ length ys = omega arith in ap (λ (n : ℕ). ys ++ drop n xs) e
 
--- a decimal's places, from its start on, are its text
+-- the places of a short text, from its start on, are the text
+module _ {w : Written} (body : List ℕ) (short : length body ≤ 11) (is : w ≡ written body) where
+  text-places : (drop (w .start) (w .bytes) ≡ body) × (length (w .bytes) ≡ 11)
+  text-places = rw is (written-text body short)
+
+  text-start : (w .start ≤ 11) × (11 - w .start ≡ length body)
+  unfolding written
+  text-start = let e : w .start ≡ 11 - length body = ap (λ (v : Written). v .start) is in omega (arith, e, short)
+
+  text-taken : take (11 - w .start) (drop (w .start) (w .bytes)) ≡ body
+  text-taken = rw (text-places .0) (take-all (11 - w .start) body (omega (arith, text-start .1)))
+
+  -- a text and this one behind it
+  wrote-behind : (xs : List ℕ) (at : ℕ) (text : List ℕ) {mid after : List ℕ} {r s : Moved} → at + length (text ++ body) ≤ length xs
+      → passed r mid ≡ textPut xs at text
+      → passed s after ≡ textPut mid (at + length text) (take (11 - w .start) (drop (w .start) (w .bytes)))
+      → Wrote xs at (text ++ body) after (at + length text + (11 - w .start))
+  wrote-behind xs at text {mid} fits e f =
+      let l = length-append text body in
+      let front : mid ≡ overwrite xs at text = put-row xs at text (omega arith) e in
+      let long : length mid ≡ length xs = ap length front ∙ overwrite-length xs at text (omega arith) in
+      let back = put-row mid (at + length text) body (omega arith) (rw text-taken at f) in
+      wrote-on xs at text body (omega arith) (refl, front) (omega (arith, text-start .1), back)
+
+-- the same of a decimal's places
 module _ {w : Written} (n : ℕ) (is : w ≡ written (decimal n)) where
+  short-decimal : length (decimal n) ≤ 11
+  short-decimal = omega (arith, length-decimal n)
+
   pub places : (drop (w .start) (w .bytes) ≡ decimal n) × (length (w .bytes) ≡ 11)
-  places = rw is (written-text (decimal n) (omega (arith, length-decimal n)))
+  places = text-places (decimal n) short-decimal is
 
   pub places-start : (w .start ≤ 11) × (11 - w .start ≡ length (decimal n))
-  places-start = omega (arith, places .1, ap length (places .0), length-drop (w .start) (w .bytes), length-decimal n)
-
-  pub places-text : take (11 - w .start) (drop (w .start) (w .bytes)) ≡ decimal n
-  places-text = rw (places .0) (take-all (11 - w .start) (decimal n) (omega (arith, places-start .1)))
+  places-start = text-start (decimal n) short-decimal is
 
   -- a text and a decimal behind it
   pub wrote-field : (xs : List ℕ) (at : ℕ) (text : List ℕ) {mid after : List ℕ} {r s : Moved} → at + length (text ++ decimal n) ≤ length xs
       → passed r mid ≡ textPut xs at text
       → passed s after ≡ textPut mid (at + length text) (take (11 - w .start) (drop (w .start) (w .bytes)))
       → Wrote xs at (text ++ decimal n) after (at + length text + (11 - w .start))
-  wrote-field xs at text {mid} fits e f =
-      let l = length-append text (decimal n) in
-      let front : mid ≡ overwrite xs at text = put-row xs at text (omega arith) e in
-      let long : length mid ≡ length xs = ap length front ∙ overwrite-length xs at text (omega arith) in
-      let back = put-row mid (at + length text) (decimal n) (omega arith) (rw places-text at f) in
-      wrote-on xs at text (decimal n) (omega arith) (refl, front) (omega (arith, places-start .1), back)
+  wrote-field = wrote-behind (decimal n) short-decimal is
+
+-- and of a cell's signed decimal
+module _ {w : Written} (x : ℕ) (cell : x < 65536) (is : w ≡ written (signedDecimal x)) where
+  short-signed : length (signedDecimal x) ≤ 11
+  short-signed = omega (arith, signed-length x cell)
+
+  pub signed-places : (drop (w .start) (w .bytes) ≡ signedDecimal x) × (length (w .bytes) ≡ 11)
+  signed-places = text-places (signedDecimal x) short-signed is
+
+  pub signed-start : (w .start ≤ 11) × (11 - w .start ≡ length (signedDecimal x))
+  signed-start = text-start (signedDecimal x) short-signed is
+
+  pub wrote-signed : (xs : List ℕ) (at : ℕ) (text : List ℕ) {mid after : List ℕ} {r s : Moved} → at + length (text ++ signedDecimal x) ≤ length xs
+      → passed r mid ≡ textPut xs at text
+      → passed s after ≡ textPut mid (at + length text) (take (11 - w .start) (drop (w .start) (w .bytes)))
+      → Wrote xs at (text ++ signedDecimal x) after (at + length text + (11 - w .start))
+  wrote-signed = wrote-behind (signedDecimal x) short-signed is
+
+-- a text alone
+pub wrote-text : (xs : List ℕ) (at : ℕ) (ys : List ℕ) {after : List ℕ} {r : Moved} → at + length ys ≤ length xs → passed r after ≡ textPut xs at ys
+    → Wrote xs at ys after (at + length ys)
+wrote-text xs at ys h e = (refl, put-row xs at ys h e)

@@ -1,17 +1,19 @@
--- Lines: where the first ends, as a loop sees it, and that every source has exactly one list of them.
+-- Lines: where the first ends, as a loop sees it, that every source has exactly one list of them, and what no LF is in.
 use Prim.Native.Nat.{ℕ, suc, _+_, _≤_, _<_}
 use mathlib.Core.Bool.{Bool, true, false, cond, not}
 use mathlib.Core.List.{List, [], _∷_, _++_}
-use mathlib.Core.Path.{_≡_, refl, sym, ap, _∙_}
+use mathlib.Core.Path.{_≡_, refl, sym, ap, subst, _∙_}
 use native.Mathlib.Numerals.{add-one}
 use native.Mathlib.Omega.{arith}
-use lib.Dec.{eqb, T}
+use lib.Dec.{eqb, ltb, T}
 use lib.Ieee.Bits.{is-true}
 use lib.Ieee.Fits.{and-l, and-r}
 use lib.ListN.{length, getD, take, drop, length-drop, drop-of-length-le}
 use lib.Seq.{drop-cons, drop-drop}
-use borrow.Author.Tests.{eq-eqb, ne-eqb, eqb-true, not-true}
-use Rattle.numerals.specs.Bytes.{LF}
+use borrow.Author.Tests.{eq-eqb, ne-eqb, eqb-true, ltb-true, not-true}
+use Rattle.numerals.specs.Bytes.{LF, rank}
+use Rattle.numerals.specs.Digits.{allBelow}
+use Rattle.tokens.specs.Bytes.{isMark, isBlank}
 use Rattle.tokens.specs.Lines.{noLF, Lines, none, last, more}
 use Rattle.tokens.specs.Reading.{lineLength, before, linesOf}
 
@@ -123,3 +125,23 @@ lines-from s at h =
 pub lines-over : (s : List ℕ) (at : ℕ) → length s ≤ at → linesOf (drop at s) ≡ []
 unfolding linesOf
 lines-over s at h = rw (drop-of-length-le s h)
+
+-- ---- texts without LF: of word bytes, a mark, and side by side
+
+below-no-LF : (b k : ℕ) → k ≤ 17 → ltb (rank b) k ≡ true → b ≡ LF → ⊥
+unfolding rank
+below-no-LF b k low e f = let l = ltb-true (rank LF) k (subst (λ (x : ℕ). ltb (rank x) k ≡ true) f e) in omega arith
+
+pub word-noLF : (k : ℕ) (w : List ℕ) → k ≤ 17 → T (allBelow k w) → T (noLF w)
+word-noLF k [] low t = tt
+word-noLF k (b ∷ w) low t =
+    let e = is-true (ltb (rank b) k) (and-l (ltb (rank b) k) (allBelow k w) t) in
+    rw (ne-eqb b LF (below-no-LF b k low e)) (word-noLF k w low (and-r (ltb (rank b) k) (allBelow k w) t))
+
+pub mark-noLF : (b : ℕ) → T (isMark b) → T (noLF (b ∷ []))
+unfolding isMark isBlank
+mark-noLF b t = rw (ne-eqb b LF (λ f. subst (λ (x : ℕ). T (isMark x)) f t)) tt
+
+pub join-noLF : (a b : List ℕ) → T (noLF a) → T (noLF b) → T (noLF (a ++ b))
+join-noLF [] b t u = u
+join-noLF (x ∷ a) b t u = rw (head x a t) (join-noLF a b (tail x a t) u)

@@ -138,7 +138,7 @@ over-row at d comment = R.comment
 over-row at d (blank t o) = R.blank t (over-row (at + 1) false o)
 
 -- the bytes of a line from a place on, up to where what follows them begins
-sliced : (line w rest : List ℕ) (at : ℕ) → 0 < length w → drop at line ≡ w ++ rest → slice at (at + length w) line ≡ w
+pub sliced : (line w rest : List ℕ) (at : ℕ) → 0 < length w → drop at line ≡ w ++ rest → slice at (at + length w) line ≡ w
 sliced line w rest at some e =
     let n : length (w ++ rest) ≡ length w + length rest = length-append w rest in
     let l : at ≤ length line = omega (arith, length-drop at line, ap length e, n) in
@@ -146,7 +146,7 @@ sliced line w rest at some e =
     ∙ ap (take (length w)) e ∙ take-append-seam w rest
 
 -- what follows them
-follows : (line w rest : List ℕ) (at : ℕ) → drop at line ≡ w ++ rest → drop (at + length w) line ≡ rest
+pub follows : (line w rest : List ℕ) (at : ℕ) → drop at line ≡ w ++ rest → drop (at + length w) line ≡ rest
 follows line w rest at e = sym (drop-drop (length w) at line) ∙ ap (drop (length w)) e ∙ drop-append-seam w rest
 
 pub begins-some : (w : List ℕ) → T (beginsWord w) → 0 < length w

@@ -46,7 +46,7 @@ pub struct LentMachine {
     pub output_position: u64,
 }
 
-/// What library printing is lent.
+/// What library printing is lent, and listing too.
 #[derive(Clone, Debug, PartialEq, Eq)]
 pub struct LentImage {
     pub memory: LentMemory,
@@ -90,6 +90,7 @@ pub enum Case {
     Step(LentMachine),
     Run(u32, LentMachine),
     Print(LentImage),
+    List(LentImage),
     /// A single line, without an LF at its end.
     Line(Vec<u8>),
 }

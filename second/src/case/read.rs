@@ -94,6 +94,7 @@ pub fn read(line: &str) -> Result<Case, Malformed> {
             Case::Run(budget, machine(&mut fields)?)
         }
         "P" => Case::Print(image(&mut fields)?),
+        "G" => Case::List(image(&mut fields)?),
         "L" => Case::Line(fields.bytes()?),
         _ => return Err("unknown kind of case"),
     };

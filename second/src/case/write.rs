@@ -44,7 +44,8 @@ impl Display for Case {
                 write!(out, "R {} ", budget)?;
                 machine(lent, out)
             }
-            Case::Print(lent) => image(lent, out),
+            Case::Print(lent) => image('P', lent, out),
+            Case::List(lent) => image('G', lent, out),
             Case::Line(line) => write!(out, "L {}", Hex(line)),
         }
     }
@@ -64,9 +65,9 @@ fn machine(lent: &LentMachine, out: &mut Formatter) -> fmt::Result {
     write!(out, "{} {} {}", lent.output_length, lent.output_fill, lent.output_position)
 }
 
-fn image(lent: &LentImage, out: &mut Formatter) -> fmt::Result {
+fn image(letter: char, lent: &LentImage, out: &mut Formatter) -> fmt::Result {
     let LentMemory { cells, fill, step, ref overwritten } = lent.memory;
-    write!(out, "P {} {} {} {} ", cells, lent.map_length, fill, step)?;
+    write!(out, "{} {} {} {} {} ", letter, cells, lent.map_length, fill, step)?;
     write!(out, "{} {} {} ", Pairs(overwritten), lent.map_fill, Pairs(&lent.marks))?;
     write!(out, "{} {}", lent.room, lent.room_fill)
 }

@@ -19,7 +19,8 @@ pub fn assemble_case(random: &mut Random) -> Case {
     })
 }
 
-fn drawn(random: &mut Random, cells: usize) -> Vec<u8> {
+/// A source for a memory of so many cells.
+pub fn drawn(random: &mut Random, cells: usize) -> Vec<u8> {
     match random.below(44) {
         0..=6 => source::source(random, cells),
         7..=17 => whole::source(random, cells),

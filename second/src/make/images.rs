@@ -6,6 +6,12 @@ use crate::case::{Case, LentImage, LentMemory};
 use crate::image;
 
 pub fn print_case(random: &mut Random) -> Case {
+    let lent = loan(random);
+    with_room(random, lent)
+}
+
+/// Any memory and map, of any lengths, with no room yet.
+pub fn loan(random: &mut Random) -> LentImage {
     let cells = image_cells(random);
     let mut lent = LentImage {
         memory: draw::memory(random, cells),
@@ -24,8 +30,7 @@ pub fn print_case(random: &mut Random) -> Case {
         lent.marks.push((random.below(lent.map_length), mark));
     }
     drop_past_the_end(&mut lent);
-    lent.room = room(random, &lent.memory, &lent.map());
-    Case::Print(lent)
+    lent
 }
 
 /// Images that no draw may leave out: every set of print cases begins with them.
@@ -132,7 +137,7 @@ fn map_fill(random: &mut Random, cells: usize) -> u8 {
 }
 
 /// An empty row has no cell to overwrite.
-fn drop_past_the_end(lent: &mut LentImage) {
+pub fn drop_past_the_end(lent: &mut LentImage) {
     let (cells, marks) = (lent.memory.cells, lent.map_length);
     lent.memory.overwritten.retain(|(at, _)| *at < cells);
     lent.marks.retain(|(at, _)| *at < marks);

@@ -11,6 +11,7 @@ pub mod images;
 pub mod large;
 pub mod late;
 pub mod lines;
+pub mod listings;
 pub mod mutate;
 pub mod nasty;
 pub mod ports;
@@ -34,6 +35,7 @@ pub enum Kind {
     Step,
     Run,
     Print,
+    List,
     Line,
     /// Encode, decode, step and run mixed.
     Machine,
@@ -50,6 +52,7 @@ impl Kind {
             "step" => Kind::Step,
             "run" => Kind::Run,
             "print" => Kind::Print,
+            "list" => Kind::List,
             "line" => Kind::Line,
             "machine" => Kind::Machine,
             "all" => Kind::All,
@@ -73,6 +76,7 @@ impl Maker {
             Kind::Assemble => edges::all(&mut random),
             Kind::Machine => covered::all(&mut random),
             Kind::Print => images::edges(&mut random),
+            Kind::List => listings::edges(&mut random),
             _ => Vec::new(),
         };
         Maker { kind, random, first: first.into_iter() }
@@ -95,6 +99,7 @@ impl Maker {
                 Kind::Machine,
                 Kind::Machine,
                 Kind::Print,
+                Kind::List,
             ]),
             kind => kind,
         };
@@ -116,6 +121,7 @@ fn make(kind: Kind, random: &mut Random) -> Case {
         Kind::Step => states::step_case(random),
         Kind::Run => programs::run_case(random),
         Kind::Print => images::print_case(random),
+        Kind::List => listings::list_case(random),
         Kind::Line => lines::line_case(random),
         Kind::Assemble | Kind::Machine | Kind::All => assemble::assemble_case(random),
     }

@@ -47,8 +47,12 @@ pub fn encode_case(random: &mut Random) -> Case {
     Case::Encode { opcode: number, operands: [fields(first), fields(second)] }
 }
 
-/// Words that start with an allowed first word mostly, some missing or too many now and then.
 pub fn decode_case(random: &mut Random) -> Case {
+    Case::Decode(drawn(random))
+}
+
+/// Words that start with an allowed first word mostly, some missing or too many now and then.
+pub fn drawn(random: &mut Random) -> Vec<u16> {
     let mut words = match encode(&instruction(random)) {
         Ok(words) => words.as_slice().to_vec(),
         Err(_) => vec![random.below(2_560) as u16, draw::word(random), draw::word(random)],
@@ -63,7 +67,7 @@ pub fn decode_case(random: &mut Random) -> Case {
         _ => {}
     }
     words.truncate(5);
-    Case::Decode(words)
+    words
 }
 
 /// A register code above 15 where there is an operand.

@@ -3,7 +3,10 @@
 use second::answer::answer;
 use second::case::{self, Case, LentSource};
 use second::count::Counts;
+use second::isa::Instruction;
+use second::listing;
 use second::reply::Reply;
+use second::text::{lines, read_line, Statement};
 use std::collections::BTreeSet;
 use std::fs::read_to_string;
 
@@ -36,6 +39,11 @@ fn line_cases() {
 #[test]
 fn print_cases() {
     check("print", 500);
+}
+
+#[test]
+fn list_cases() {
+    check("list", 800);
 }
 
 fn committed(name: &str) -> Vec<Case> {
@@ -133,4 +141,73 @@ fn inputs_and_rooms_above_100_bytes() {
 fn every_reply_to_printing_is_frequent() {
     let counts = counted(&committed("print"));
     assert!(counts.by_group[5][..3].iter().all(|count| *count >= 100), "{}", counts);
+}
+
+#[test]
+fn every_reply_to_listing_is_frequent() {
+    let counts = counted(&committed("list"));
+    let replies = &counts.by_group[7][..4];
+    assert!(replies[0] >= 300 && replies[1..].iter().all(|count| *count >= 60), "{}", counts);
+}
+
+/// All instructions that are listed.
+fn listed_instructions() -> Vec<Instruction> {
+    let mut all = Vec::new();
+    for case in committed("list") {
+        let lent = match (answer(&case), case) {
+            (Reply::List { code: 0, .. }, Case::List(lent)) => lent,
+            _ => continue,
+        };
+        let text = listing::text(&lent.memory.row(), &lent.map()).expect("listed");
+        for line in lines(text.as_bytes()) {
+            if let Ok(Some(Statement::Instruction(written))) = read_line(line).statement {
+                all.push(written.instruction);
+            }
+        }
+    }
+    all
+}
+
+#[test]
+fn every_opcode_is_listed_with_every_kind_of_operand_and_extreme_words() {
+    let listed = listed_instructions();
+    let kinds = |of: &Instruction| (of.opcode.number(), of.first.kind(), of.second.kind());
+    let together: BTreeSet<(u16, u8, u8)> = listed.iter().map(kinds).collect();
+    assert_eq!(together.len(), 601);
+    let mut words: BTreeSet<(u16, u8, u8, u16)> = BTreeSet::new();
+    for of in &listed {
+        let number = of.opcode.number();
+        words.insert((number, 1, of.first.kind(), of.first.word()));
+        words.insert((number, 2, of.second.kind(), of.second.word()));
+    }
+    for (number, first, second) in together {
+        for (place, kind) in [(1, first), (2, second)] {
+            // nothing, a register, or any word
+            let wanted: &[u16] = match kind {
+                0 => &[0],
+                2 | 4 => &[0, 1, 15],
+                _ => &[0, 1, 32_767, 32_768, 65_535],
+            };
+            for word in wanted {
+                let found = words.contains(&(number, place, kind, *word));
+                assert!(found, "opcode {}, operand {}, {} {}", number, place, kind, word);
+            }
+        }
+    }
+}
+
+#[test]
+fn listings_fail_at_every_end_of_the_addresses_and_texts_have_every_length_around_the_limit() {
+    let (mut addresses, mut lengths) = (BTreeSet::new(), BTreeSet::new());
+    for case in committed("list") {
+        if let Case::List(lent) = &case {
+            let text = listing::text(&lent.memory.row(), &lent.map());
+            lengths.extend(text.map(|text| text.len()));
+        }
+        if let Reply::List { code: 2, address, .. } = answer(&case) {
+            addresses.insert(address);
+        }
+    }
+    assert!([0, 1, 2, 3, 65_533, 65_534, 65_535].iter().all(|at| addresses.contains(at)));
+    assert!((32_766..=32_770).all(|length| lengths.contains(&length)));
 }

@@ -46,6 +46,11 @@ fn malformed_lines_are_refused() {
         "D 1 1 ",
         "D 1 1\r",
         "P 1 1 0 0 1 1 5 0 0 9 9",
+        "G 1 1 0 0 0 0 0 9",
+        "G 1 1 0 0 0 0 0 9 9 9",
+        "G 1 1 0 0 1 1 5 0 0 9 9",
+        "G 1 1 0 0 0 0 1 1 1 9 9",
+        "G 1 1 0 0 0 0 0 2000001 9",
     ];
     for line in malformed {
         assert!(case::read(line).is_err(), "{:?}", line);

@@ -34,6 +34,7 @@ fn some_thousand_cases_reach_everything() {
     reached(3, &[0, 1, 2, 3, 4, 5, 6, 8, 9, 10]);
     reached(4, &[1, 2, 3, 4, 5, 6, 7, 8, 9, 10]);
     reached(5, &[0, 1, 2]);
+    reached(7, &[0, 1, 2, 3]);
 }
 
 #[test]
@@ -67,7 +68,8 @@ fn no_step_comes_to_what_is_not_listed() {
 
 #[test]
 fn case_lines_read_back_to_the_same_case() {
-    let kinds = [("all", 3_000), ("assemble", 1_400), ("machine", 1_600), ("print", 300)];
+    let kinds =
+        [("all", 3_000), ("assemble", 1_400), ("machine", 1_600), ("print", 300), ("list", 800)];
     for case in kinds.iter().flat_map(|(kind, count)| made(kind, *count, 3)) {
         let line = case.to_string();
         assert_eq!(case::read(&line), Ok(case), "{}", line);
@@ -99,21 +101,23 @@ fn hash(kind: &str) -> u64 {
 
 #[test]
 fn the_same_seed_makes_the_same_cases() {
-    let kinds = ["assemble", "encode", "decode", "step", "run", "print", "machine", "all", "line"];
+    let kinds =
+        ["assemble", "encode", "decode", "step", "run", "print", "list", "machine", "all", "line"];
     let hashes: Vec<String> = kinds.iter().map(|kind| format!("{:016x}", hash(kind))).collect();
     assert_eq!(hashes, HASHES);
     assert_ne!(made("all", 5, 1), made("all", 5, 2));
     assert_eq!(made("all", 9, 7)[..5], made("all", 5, 7));
 }
 
-const HASHES: [&str; 9] = [
+const HASHES: [&str; 10] = [
     "9dc927a5533a5a0f",
     "33aaa0e3d1dfb997",
     "42c4d3d0dd05232d",
     "cd8e5ef9c09fce58",
     "52baa4450c0014f9",
     "091438673e1c7f92",
+    "4d27ee0e87cfc0ed",
     "08bbacac1c166655",
-    "cf326e2ad1615171",
+    "1f75d4caa5790701",
     "555976586a8a1643",
 ];

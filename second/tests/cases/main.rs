@@ -1,5 +1,6 @@
 //! Cases and replies: the generator, the format, the committed files and docs/COMPARED.md.
 
+mod back;
 mod committed;
 mod format;
 mod made;

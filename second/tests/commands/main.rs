@@ -95,11 +95,22 @@ fn cases_are_made_answered_counted_and_shown() {
 }
 
 #[test]
+fn listings_come_back() {
+    let done = second(&["back", "1700", "5"], "");
+    let text = String::from_utf8(done.stdout).expect("text");
+    let lines: Vec<&str> = text.lines().collect();
+    assert!(lines[0].starts_with("sources: 1700 made, ") && lines[0].ends_with(" 0 differ"));
+    assert!(lines[1].starts_with("images: 1700 made, ") && lines[1].ends_with(" 0 differ"));
+    assert_eq!((lines.len(), done.status.code()), (2, Some(0)));
+}
+
+#[test]
 fn what_is_not_understood_ends_with_code_2() {
     for arguments in [
         &[][..],
         &["make", "all", "x", "1"],
         &["make", "none", "1", "1"],
+        &["back", "x", "1"],
         &["nothing"],
         &["bench", "7"],
         &["speed", "x"],

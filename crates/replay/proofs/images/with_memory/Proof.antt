@@ -39,17 +39,17 @@ same-length-4 c = search needs
 returns-2 : tie.Need-returns-2
 returns-2 c = search needs
 
-slice-relend-prefix-printed : tie.Need-slice-relend-prefix-printed
-slice-relend-prefix-printed c = search needs
+slice-relend-prefix-replied : tie.Need-slice-relend-prefix-replied
+slice-relend-prefix-replied c = search needs
 
-slice-aggregate-printed : tie.Need-slice-aggregate-printed
-slice-aggregate-printed c = simp length-take (omega arith)
+slice-aggregate-replied : tie.Need-slice-aggregate-replied
+slice-aggregate-replied c = simp length-take (omega arith)
 
 byte-requires : tie.Need-byte-requires
 byte-requires c κs = search needs
 
-printed-requires : tie.Need-printed-requires
-printed-requires c κs = search needs
+replied-requires : tie.Need-replied-requires
+replied-requires c κs = search needs
 
 same-length-5 : tie.Need-same-length-5
 same-length-5 c = search needs
@@ -78,10 +78,10 @@ with-memory-spec =
     same-length-3
     same-length-4
     returns-2
-    slice-relend-prefix-printed
-    slice-aggregate-printed
+    slice-relend-prefix-replied
+    slice-aggregate-replied
     byte-requires
-    printed-requires
+    replied-requires
     same-length-5
     same-length-6
     same-length-7
