@@ -9,3 +9,7 @@ codeMark = 1
 
 abbrev pub dataMark : ℕ
 dataMark = 2
+
+-- the largest of them: "a mark above 2" (01, "The printed image")
+abbrev pub largestMark : ℕ
+largestMark = 2

@@ -4,3 +4,5 @@ pub const FREE: u8 = 0;
 pub const CODE: u8 = 1;
 
 pub const DATA: u8 = 2;
+
+pub const LARGEST_MARK: u8 = 2;

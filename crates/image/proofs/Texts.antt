@@ -9,6 +9,7 @@ use borrow.Author.Tests.{eq-eqb, ne-eqb, eqb-true, eqb-false, leb-true, le-leb, 
 use lib.Dec.{leb, eqb}
 use lib.ListN.{length, getD, drop, length-append, drop-of-length-le}
 use lib.Seq.{drop-cons}
+use Rattle.codes.specs.Marks.{largestMark}
 use Rattle.numerals.specs.Bytes.{LF, bytes}
 use Rattle.numerals.specs.Writing.{decimal}
 use Rattle.numerals.proofs.Filling.{length-decimal}
@@ -153,11 +154,11 @@ claimed-within (mark ∷ marks) = go (eqb mark 0) (claimed-within marks)
 -- ---- marks
 
 module _ (marks : List ℕ) (i : ℕ) where
-  pub known-more : i < length marks → getD marks i 0 ≤ 2 → knownMarks (drop i marks) ≡ knownMarks (drop (i + 1) marks)
+  pub known-more : i < length marks → getD marks i 0 ≤ largestMark → knownMarks (drop i marks) ≡ knownMarks (drop (i + 1) marks)
   unfolding knownMarks
   known-more h l = rw (add-one i, drop-cons marks i 0 h, le-leb _ _ l)
 
-  pub known-stop : i < length marks → 2 < getD marks i 0 → knownMarks (drop i marks) ≡ false
+  pub known-stop : i < length marks → largestMark < getD marks i 0 → knownMarks (drop i marks) ≡ false
   unfolding knownMarks
   known-stop h l = rw (drop-cons marks i 0 h, lt-leb _ _ l)
 
@@ -165,14 +166,14 @@ module _ (marks : List ℕ) (i : ℕ) where
   unfolding knownMarks
   known-none h = rw (drop-of-length-le marks h)
 
--- no mark is above 2, mark by mark
-pub known-all : (marks : List ℕ) → knownMarks marks ≡ true → (i : ℕ) → i < length marks → getD marks i 0 ≤ 2
+-- no mark is above the largest, mark by mark
+pub known-all : (marks : List ℕ) → knownMarks marks ≡ true → (i : ℕ) → i < length marks → getD marks i 0 ≤ largestMark
 unfolding knownMarks
 known-all [] e i h = absurd (omega arith)
-known-all (mark ∷ marks) e zero h = leb-true mark 2 (both-true (leb mark 2) (knownMarks marks) e .0)
-known-all (mark ∷ marks) e (suc i) h = known-all marks (both-true (leb mark 2) (knownMarks marks) e .1) i (omega arith)
+known-all (mark ∷ marks) e zero h = leb-true mark largestMark (both-true (leb mark largestMark) (knownMarks marks) e .0)
+known-all (mark ∷ marks) e (suc i) h = known-all marks (both-true (leb mark largestMark) (knownMarks marks) e .1) i (omega arith)
 
-pub all-known : (marks : List ℕ) → ((i : ℕ) → i < length marks → getD marks i 0 ≤ 2) → knownMarks marks ≡ true
+pub all-known : (marks : List ℕ) → ((i : ℕ) → i < length marks → getD marks i 0 ≤ largestMark) → knownMarks marks ≡ true
 unfolding knownMarks
 all-known [] f = refl
-all-known (mark ∷ marks) f = rw (le-leb mark 2 (f 0 (omega arith)), all-known marks (λ i h. f (suc i) (omega arith)))
+all-known (mark ∷ marks) f = rw (le-leb mark largestMark (f 0 (omega arith)), all-known marks (λ i h. f (suc i) (omega arith)))

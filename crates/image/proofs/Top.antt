@@ -8,6 +8,7 @@ use Prim.Native.Nat.{ℕ, suc, _+_, _≤_, _<_}
 use native.Mathlib.Omega.{arith}
 use lib.Dec.{eqb}
 use lib.ListN.{length, getD, drop}
+use Rattle.codes.specs.Marks.{largestMark}
 use Rattle.numerals.specs.Writing.{DecimalOf, decimal}
 use Rattle.numerals.proofs.Top as decimals
 use Rattle.image.specs.Image.{cellLine, cellLines, claimed, imageText}
@@ -28,7 +29,7 @@ pub record Loan (memory marks : List ℕ) : Type 0 where
   pub some : 1 ≤ length memory
   pub not-too-many : length memory ≤ 65536
   pub as-many : length marks ≡ length memory
-  pub known : (i : ℕ) → i < length marks → getD marks i 0 ≤ 2
+  pub known : (i : ℕ) → i < length marks → getD marks i 0 ≤ largestMark
 
 pub good-exactly : (memory marks : List ℕ) → (goodLoan memory marks ≡ true) ↔ Loan memory marks
 good-exactly memory marks = (there, back)

@@ -6,7 +6,7 @@ use mathlib.Core.List.{List, [], _∷_, _++_}
 use lib.Dec.{eqb, leb}
 use lib.ListN.{length, drop}
 use Rattle.codes.specs.Limits.{mostCells}
-use Rattle.codes.specs.Marks.{dataMark}
+use Rattle.codes.specs.Marks.{largestMark}
 use Rattle.image.specs.Image.{imageText}
 use Rattle.image.specs.declared.Printed.{Printed}
 use Rattle.image.specs.declared.Printed.the-variants.{Done, BadLoan, RoomShort}
@@ -32,10 +32,10 @@ pub record Leaves : Type 0 where
 abbrev pub leaves : Printed → List ℕ → Leaves
 leaves answer room = record { refusal = refusalOf answer; text = lengthOf answer; room = room }
 
--- no mark is above 2
+-- no mark is above the largest
 unfoldable pub knownMarks : List ℕ → Bool
 knownMarks [] = true
-knownMarks (mark ∷ marks) = leb mark dataMark && knownMarks marks
+knownMarks (mark ∷ marks) = leb mark largestMark && knownMarks marks
 
 -- a memory of M cells and a map of M known marks
 unfoldable pub goodLoan : List ℕ → List ℕ → Bool
