@@ -1,5 +1,5 @@
 -- What printing answers, and what it leaves in the room (01, "The printed image": "Library printing refuses, nothing written: 1 bad
--- lengths or a mark above 2; 2 room short").
+-- lengths or a mark above 2; 2 room short"; 02, K2: printing takes "marks 0..3").
 use Prim.Native.Nat.{ℕ}
 use mathlib.Core.Bool.{Bool, true, cond, not, _&&_}
 use mathlib.Core.List.{List, [], _∷_, _++_}

@@ -7,7 +7,7 @@ use super::lines::write;
 use codes::limits::MOST_CELLS;
 use codes::marks::LARGEST_MARK;
 
-// "a mark above 2": no mark is above the largest.
+// Printing takes "marks 0..3": no mark is above the largest.
 fn known_marks(map: &[u8]) -> bool
     ensures { λ r. ⌜ r ≡ knownMarks (now (map .entry)) ⌝ }
 {
