@@ -16,11 +16,17 @@ pub enum NotPrinted {
     RoomShort = 2,
 }
 
+/// Whether memory and map are an image's: lengths that fit, and no other mark than these. Printing
+/// and listing refuse any other with 1.
+pub fn is_image(memory: &[u16], map: &[u8]) -> bool {
+    let lengths_fit = is_memory_size(memory.len()) && map.len() == memory.len();
+    lengths_fit && map.iter().all(|mark| *mark <= DATA)
+}
+
 /// The image's text, or nothing for bad lengths or a mark above 2. A free cell's value is never
 /// printed; only marks count in `claimed`.
 pub fn text(memory: &[u16], map: &[u8]) -> Option<String> {
-    let lengths_fit = is_memory_size(memory.len()) && map.len() == memory.len();
-    if !lengths_fit || map.iter().any(|mark| *mark > DATA) {
+    if !is_image(memory, map) {
         return None;
     }
     let claimed = map.iter().filter(|mark| **mark != FREE).count();

@@ -1,9 +1,9 @@
 //! Memory and map given back as source (document 02, K1).
 
 use crate::assembler::{Address, SOURCE_LIMIT};
-use crate::image::{CODE, DATA, FREE};
+use crate::image::{is_image, CODE, FREE};
 use crate::isa::{decode, Instruction, Operand};
-use crate::machine::{is_memory_size, REGISTER_NAMES};
+use crate::machine::REGISTER_NAMES;
 use std::fmt::{self, Display, Formatter, Write};
 
 /// "1 bad lengths or a map mark outside 0..2; 2 a code run that doesn't decode within itself, with
@@ -47,8 +47,7 @@ pub fn list(memory: &[u16], map: &[u8], room: &mut [u8]) -> Result<usize, NotLis
 
 /// The whole text, however long: all of the map is decoded before the text's length counts.
 pub fn text(memory: &[u16], map: &[u8]) -> Result<String, NotListed> {
-    let lengths_fit = is_memory_size(memory.len()) && map.len() == memory.len();
-    if !lengths_fit || map.iter().any(|mark| *mark > DATA) {
+    if !is_image(memory, map) {
         return Err(NotListed::BadLoan);
     }
     let mut text = String::new();
