@@ -113,14 +113,14 @@ fn the_same_seed_makes_the_same_cases() {
 }
 
 const HASHES: [&str; 10] = [
-    "9dc927a5533a5a0f",
+    "1b4cff498b11b37f",
     "33aaa0e3d1dfb997",
     "42c4d3d0dd05232d",
     "cd8e5ef9c09fce58",
     "52baa4450c0014f9",
-    "091438673e1c7f92",
-    "4d27ee0e87cfc0ed",
+    "85518cdcbe3222dc",
+    "2f8092e391c4702e",
     "08bbacac1c166655",
-    "1f75d4caa5790701",
+    "070241fa41056e5f",
     "555976586a8a1643",
 ];
