@@ -27,7 +27,7 @@ use Rattle.sources.specs.Inner.Assembling.{Verdict, passes, firstOf, labelOut, 
 use Rattle.sources.proofs.Verdicts.{Tells}
 use Rattle.sources.proofs.LineDecided.{line-tells}
 use Rattle.sources.proofs.Stores.{sets-other}
-use Rattle.sources.proofs.Images.{zero-there}
+use Rattle.sources.proofs.Stores.{zero-there}
 use Rattle.sources.proofs.Walk.{read-line}
 use Rattle.listing.specs.Lines.{lineOf, textOfLines}
 use Rattle.listing.specs.Runs.{HoldCells, Free}
