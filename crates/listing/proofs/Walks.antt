@@ -106,19 +106,6 @@ module _ (marks : List ℕ) where
   unfolding reservedRun
   reserved-end at h = rw (drop-of-length-le marks h)
 
-reserved-within : (ks : List ℕ) → reservedRun ks ≤ length ks
-unfolding reservedRun
-reserved-within [] = omega arith
-reserved-within (k ∷ ks) = go (eqb k reservedMark) (reserved-within ks)
-  where
-    go : (b : Bool) → reservedRun ks ≤ length ks → cond b (suc (reservedRun ks)) 0 ≤ suc (length ks)
-    go true h = omega arith
-    go false h = omega arith
-
--- a run ends in memory
-pub reserved-inside : (marks : List ℕ) (at : ℕ) → at ≤ length marks → at + reservedRun (drop at marks) ≤ length marks
-reserved-inside marks at h = omega (arith, reserved-within (drop at marks), length-drop at marks)
-
 -- so many marks of reserved cells, and no such mark behind them
 reserved-head : (ks : List ℕ) (n : ℕ) → ((j : ℕ) → j < n → getD ks j free ≡ reservedMark) → (getD ks n free ≡ reservedMark → ⊥) → reservedRun ks ≡ n
 unfolding reservedRun

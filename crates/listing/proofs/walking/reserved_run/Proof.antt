@@ -26,9 +26,9 @@ sub-result c = omega arith
 
 returns : tie.Need-returns Inv-loop μ-loop
 returns c =
-    let p = c .before .before .before .before in
+    let p = c .before .before .before in
     let a = p .before .args in
-    omega (arith, p .loop .inv, reserved-stop (a .map .now) (p .loop .i) (omega arith) (c .before .if1 .taken))
+    omega (arith, p .loop .inv, reserved-stop (a .map .now) (p .loop .i) (omega arith) (c .if1 .taken))
 
 add-i : tie.Need-add-i Inv-loop μ-loop
 add-i c = search needs
@@ -47,7 +47,7 @@ sub-result-2 c = omega arith
 
 returns-2 : tie.Need-returns-2 Inv-loop μ-loop
 returns-2 c =
-    let p = c .before .before in
+    let p = c .before in
     let a = p .before .args in
     omega (arith, p .loop .inv, reserved-end (a .map .now) (p .loop .i) (omega arith))
 
