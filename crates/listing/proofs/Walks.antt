@@ -528,9 +528,13 @@ module _ (memory marks : List ℕ) (alike : length marks ≡ length memory) wher
           let f = rest memory marks (at + size) (at + size) in
           let y : rest memory marks (at + 65535) (at + 65535) ≡ joinedBy [] (found (Reserves (size - 65535) ∷ [])) f =
           rest-run (at + 65535) below j (at + 65535)
-          ∙ rw (left, eq-eqb (at + 65535) (at + 65535) refl, le-leb (size - 65535) 65535 (omega (arith, i .1, m)), z) in
-          (rest-run at h k behind ∙ rw e (line-first (originAt behind at) (Reserves 65535) (Reserves (size - 65535) ∷ []) f)
-          ∙ ap (line-before behind at (Reserves 65535)) (sym y), omega arith, omega (arith, l, i .1), tt)
+          ∙ rw (left, eq-eqb (at + 65535) (at + 65535) refl, le-leb (size - 65535) 65535 (omega (arith, i .1, m)), z) in (
+            rest-run at h k behind ∙ rw e (line-first (originAt behind at) (Reserves 65535) (Reserves (size - 65535) ∷ []) f)
+                ∙ ap (line-before behind at (Reserves 65535)) (sym y),
+            omega arith,
+            omega (arith, l, i .1),
+            tt,
+          )
 
   pub goes : (behind at : ℕ) → at < length memory → length memory ≤ mostCells → Goes behind at (beginsAt memory marks at)
   unfolding beginsAt
