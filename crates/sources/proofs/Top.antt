@@ -154,12 +154,15 @@ module _ (M N : ℕ) (source : List ℕ) where
   pub no-cell-twice : {memory marks : List ℕ} (a : Accepted M N source memory marks) → Apart (blocks M (a .reading))
   no-cell-twice a = Images.apart M (a .reading) (all-read (a .passing .text .read)) (a .passing .lines)
 
-  -- Each cell of its image is below 65536, and its free cells hold 0.
+  -- Each cell of its image is below 65536, and its free cells and its reserved cells hold 0.
   pub cells-small : {memory marks : List ℕ} → Accepted M N source memory marks → (a : ℕ) → getD memory a 0 < 65536
   cells-small a = Small.image-small a
 
   pub free-hold-zero : {memory marks : List ℕ} → Accepted M N source memory marks → (a : ℕ) → getD marks a free ≡ free → getD memory a 0 ≡ 0
   free-hold-zero a = Small.image-free a
+
+  pub reserved-hold-zero : {memory marks : List ℕ} → Accepted M N source memory marks → (a : ℕ) → getD marks a free ≡ reservedMark → getD memory a 0 ≡ 0
+  reserved-hold-zero a = Small.image-reserved a
 
   -- The numbers of cells marked 1, 2 and 3 are those of the cells that its instructions, its DATA and its RES give.
   pub code-counted : {memory marks : List ℕ} (a : Accepted M N source memory marks) → cellsMarked codeMark marks ≡ cellsOfMark codeMark (blocks M (a .reading))
