@@ -1,17 +1,17 @@
 -- A memory with 0 in its free and reserved cells has the same lines, so that the value of such a cell is never looked at.
 use Prim.Native.Nat.{ℕ, zero, suc, _+_, _<_}
 use mathlib.Core.Bool.{Bool, true, false, cond, _&&_, _||_}
-use mathlib.Core.List.{List, [], _∷_, _++_, map}
+use mathlib.Core.List.{List, [], _∷_, map}
 use mathlib.Core.Path.{_≡_, refl, sym, ap, ap₂, _∙_}
 use native.Mathlib.Omega.{arith}
 use lib.Dec.{eqb}
 use lib.ListN.{length, getD}
-use borrow.Author.Tests.{eqb-true, eqb-false, eq-eqb, ne-eqb}
+use borrow.Author.Tests.{eqb-true, eqb-false, ne-eqb}
 use Rattle.codes.specs.Marks.{free, codeMark, reservedMark}
 use Rattle.image.specs.Printing.{goodLoan}
 use Rattle.listing.specs.Runs.{Run, run}
 use Rattle.listing.specs.Listing.{originAt}
-use Rattle.listing.specs.Inner.Walk.{joined, runsFrom, Found, joinedBy, runLines, linesFrom, replyBy, listOf}
+use Rattle.listing.specs.Inner.Walk.{joined, runsFrom, Found, joinedBy, runLines, linesFrom, listOf}
 
 -- the mark of a cell that holds 0 in an image
 abbrev pub empty : ℕ → Bool

@@ -49,7 +49,7 @@ run-sound r xs e = go (eqb (r .mark) codeMark) (eqb (r .mark) reservedMark) refl
         let z : map Holds (r .cells) ≡ xs = cc in
         subst (RunLines r) z (data-run (eqb-false (r .mark) codeMark k) (eqb-false (r .mark) reservedMark l))
 
-run-complete : {r : Run} {xs : List Entry} → RunLines r xs → runLines r ≡ found xs
+pub run-complete : {r : Run} {xs : List Entry} → RunLines r xs → runLines r ≡ found xs
 unfolding runLines
 run-complete {r} (code-run {is} k h) = rw (eq-eqb (r .mark) codeMark k, whole-exactly (r .cells) (r .from) is .1 h)
 run-complete {r} (data-run n m) = rw (ne-eqb (r .mark) codeMark n, ne-eqb (r .mark) reservedMark m)

@@ -24,7 +24,7 @@ use Rattle.isa.proofs.Tests.{both-true, never}
 use Rattle.isa.proofs.RoundTrip.{Returns, encode-decode, decode-there, size-read}
 use Rattle.listing.specs.Lines.{lineOf, textOfLines}
 use Rattle.listing.specs.Runs.{Run, run, HoldCells, FirstRun, Runs, over, next}
-use Rattle.listing.specs.Listing.{originAt, reservedLines}
+use Rattle.listing.specs.Listing.{reservedLines, data-run, reserved-run, originAt}
 use Rattle.listing.specs.Inner.Walk.{joined, runsFrom, Parts, whole, fails, before, partsBy, partsFrom}
 use Rattle.listing.specs.Inner.Walk.{Found, found, failing, codeLines, runLines, joinedBy, linesFrom}
 use Rattle.listing.specs.Inner.Begins.{everyCode, codeBy, reservedRun, reservedBy, beginsAt, rest, lineText, Addressed}
@@ -34,6 +34,7 @@ use Rattle.listing.specs.declared.Entry.{Entry}
 use Rattle.listing.specs.declared.Entry.the-variants.{Origin, Instructs, Holds, Reserves, Finish}
 use Rattle.listing.proofs.Covered.{covered-from, one-list, second-part}
 use Rattle.listing.proofs.Decoded.{parts-head}
+use Rattle.listing.proofs.Exactly.{run-complete}
 
 -- ---- marks of code
 
@@ -115,6 +116,7 @@ reserved-head (k ∷ ks) zero f s = rw (ne-eqb k reservedMark s)
 reserved-head (k ∷ ks) (suc n) f s =
     rw (eq-eqb k reservedMark (f 0 (omega arith))) (ap suc (reserved-head ks n (λ j h. f (suc j) (omega arith)) s))
 
+-- the same from an address on
 reserved-count : (marks : List ℕ) (at n : ℕ) → ((j : ℕ) → j < n → getD marks (at + j) free ≡ reservedMark)
     → (getD marks (at + n) free ≡ reservedMark → ⊥)
     → reservedRun (drop at marks) ≡ n
@@ -128,12 +130,10 @@ abbrev pub line-before : ℕ → ℕ → Entry → Found → Found
 line-before behind at e rest = joinedBy (originAt behind at) (found (e ∷ [])) rest
 
 data-lines : (r : Run) → (r .mark ≡ codeMark → ⊥) → (r .mark ≡ reservedMark → ⊥) → runLines r ≡ found (map Holds (r .cells))
-unfolding runLines
-data-lines r n m = rw (ne-eqb (r .mark) codeMark n, ne-eqb (r .mark) reservedMark m)
+data-lines r n m = run-complete {r = r} (data-run n m)
 
 reserved-lines : (r : Run) → r .mark ≡ reservedMark → runLines r ≡ found (reservedLines (length (r .cells)))
-unfolding runLines
-reserved-lines r k = rw (ne-eqb (r .mark) codeMark (λ e. absurd (omega (arith, k, e))), eq-eqb (r .mark) reservedMark k)
+reserved-lines r k = run-complete {r = r} (reserved-run k)
 
 code-lines : (r : Run) → r .mark ≡ codeMark → runLines r ≡ codeLines (partsFrom (r .cells) 0 (r .from))
 unfolding runLines
@@ -273,9 +273,11 @@ module _ (memory marks : List ℕ) (alike : length marks ≡ length memory) wher
     reserved-here : Here at reservedMark
     reserved-here = here at reservedMark below k (λ e. absurd (omega (arith, e)))
 
+    -- how long it is
     size-here : ℕ
     size-here = length (reserved-here .first .cells)
 
+    -- its cells are there, each with its mark, and the mark behind them is another
     inside-here : (0 < size-here) × (at + size-here ≤ length memory)
     unfolding size-here
     inside-here = let c = reserved-here .fits in (c .some, omega (arith, c .within, reserved-here .begins))
