@@ -1,9 +1,10 @@
 //! There and back: "Where a listing is given, assembling it at the same M must give the same memory
-//! and map, provided that free cells hold 0" (document 02, K1).
+//! and map, provided that free cells hold 0" (document 02, K1); K2 "also wants reserved cells to
+//! hold 0".
 
 use crate::assembler::{assemble, Accepted, SOURCE_LIMIT};
 use crate::case::{Case, LentImage, LentSource};
-use crate::image::{CODE, DATA, FREE};
+use crate::image::{CODE, DATA, FREE, RESERVED};
 use crate::listing::{list, NotListed};
 use std::fmt::{self, Display, Formatter};
 
@@ -52,7 +53,7 @@ pub fn image(memory: &[u16], map: &[u8]) -> Result<Came, Difference> {
         Ok(accepted) if accepted != counts(map) => return Err("the listing's counts differ"),
         Ok(_) => {}
     }
-    if again != (with_free_0(memory, map), map.to_vec()) {
+    if again != (with_proviso(memory, map), map.to_vec()) {
         return Err("the listing's image differs");
     }
     match listed(&again.0, &again.1)? {
@@ -74,13 +75,13 @@ fn listed(memory: &[u16], map: &[u8]) -> Result<Result<Vec<u8>, NotListed>, Diff
 
 fn counts(map: &[u8]) -> Accepted {
     let marked = |wanted: u8| map.iter().filter(|mark| **mark == wanted).count() as u32;
-    Accepted { code: marked(CODE), data: marked(DATA) }
+    Accepted { code: marked(CODE), data: marked(DATA), reserved: marked(RESERVED) }
 }
 
-/// The proviso made true: "free cells hold 0".
-fn with_free_0(memory: &[u16], map: &[u8]) -> Vec<u16> {
+/// The proviso made true: free and reserved cells hold 0.
+fn with_proviso(memory: &[u16], map: &[u8]) -> Vec<u16> {
     let cells = memory.iter().zip(map);
-    cells.map(|(cell, mark)| if *mark == FREE { 0 } else { *cell }).collect()
+    cells.map(|(cell, mark)| if matches!(*mark, FREE | RESERVED) { 0 } else { *cell }).collect()
 }
 
 /// How many of each there were.

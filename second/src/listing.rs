@@ -1,13 +1,14 @@
-//! Memory and map given back as source (document 02, K1).
+//! Memory and map given back as source (document 02, K1; K2: reserved cells).
 
 use crate::assembler::{Address, SOURCE_LIMIT};
-use crate::image::{CODE, DATA, FREE};
+use crate::image::{is_image, CODE, FREE, RESERVED};
 use crate::isa::{decode, Instruction, Operand};
-use crate::machine::{is_memory_size, REGISTER_NAMES};
+use crate::machine::REGISTER_NAMES;
 use std::fmt::{self, Display, Formatter, Write};
 
-/// "1 bad lengths or a map mark outside 0..2; 2 a code run that doesn't decode within itself, with
-/// the address of the first instruction that fails; 3 text above the room lent or 32,768 bytes".
+/// "1 bad lengths or a map mark outside" 0..3 (K2); "2 a code run that doesn't decode within itself,
+/// with the address of the first instruction that fails; 3 text above the room lent or 32,768
+/// bytes".
 #[derive(Clone, Copy, Debug, PartialEq, Eq)]
 pub enum NotListed {
     BadLoan,
@@ -47,8 +48,7 @@ pub fn list(memory: &[u16], map: &[u8], room: &mut [u8]) -> Result<usize, NotLis
 
 /// The whole text, however long: all of the map is decoded before the text's length counts.
 pub fn text(memory: &[u16], map: &[u8]) -> Result<String, NotListed> {
-    let lengths_fit = is_memory_size(memory.len()) && map.len() == memory.len();
-    if !lengths_fit || map.iter().any(|mark| *mark > DATA) {
+    if !is_image(memory, map) {
         return Err(NotListed::BadLoan);
     }
     let mut text = String::new();
@@ -60,6 +60,7 @@ pub fn text(memory: &[u16], map: &[u8]) -> Result<String, NotListed> {
         let cells = &memory[run.start..run.end];
         match run.mark {
             CODE => list_code(&mut text, run.start, cells)?,
+            RESERVED => list_reserved(&mut text, cells),
             _ => cells.iter().for_each(|cell| line(&mut text, format_args!("DATA {}", cell))),
         }
         follows_on = run.end;
@@ -97,6 +98,15 @@ fn list_code(text: &mut String, start: usize, cells: &[u16]) -> Result<(), NotLi
         at += usize::from(instruction.length());
     }
     Ok(())
+}
+
+/// The most cells that one RES can take.
+const MOST_RESERVED: usize = 65_535;
+
+/// "K1 lists a run as `RES n` (a run of 65,536 as `RES 65535`, `RES 1`)". What its cells hold is not
+/// looked at.
+fn list_reserved(text: &mut String, cells: &[u16]) {
+    cells.chunks(MOST_RESERVED).for_each(|part| line(text, format_args!("RES {}", part.len())));
 }
 
 /// "LF after each". Writing to a String does not fail.

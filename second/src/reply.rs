@@ -25,6 +25,7 @@ pub enum Reply {
         line: u32,
         code: u32,
         data: u32,
+        reserved: u32,
         cells: Listed<u16>,
         marks: Listed<u8>,
     },
@@ -148,8 +149,8 @@ impl Display for LineSays {
 impl Display for Reply {
     fn fmt(&self, out: &mut Formatter) -> fmt::Result {
         match self {
-            Reply::Assemble { refusal, line, code, data, cells, marks } => {
-                write!(out, "{} {} {} {} ", refusal, line, code, data)?;
+            Reply::Assemble { refusal, line, code, data, reserved, cells, marks } => {
+                write!(out, "{} {} {} {} {} ", refusal, line, code, data, reserved)?;
                 write!(out, "{} {}", Pairs(cells), Pairs(marks))
             }
             Reply::Encoded(words) => {

@@ -114,7 +114,7 @@ impl SourceWork {
         let mut done = Assembled { times: 0, code: 0, data: 0, checksum: 0 };
         for _ in 0..self.times {
             if let Ok(accepted) = assemble(self.source.as_bytes(), &mut memory, &mut map) {
-                let Accepted { code, data } = accepted;
+                let Accepted { code, data, .. } = accepted;
                 done = Assembled { times: done.times + 1, code, data, ..done };
             }
         }

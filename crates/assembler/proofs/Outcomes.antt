@@ -2,7 +2,7 @@
 use Prim.Native.Nat.{ℕ}
 use mathlib.Core.List.{List}
 use mathlib.Core.Path.{_≡_, sym, ap₂, subst, _∙_}
-use Rattle.codes.specs.Marks.{codeMark, dataMark}
+use Rattle.codes.specs.Marks.{codeMark, dataMark, reservedMark}
 use Rattle.sources.specs.Order.{_on_}
 use Rattle.sources.specs.Image.{cellsMarked}
 use Rattle.sources.specs.Inner.Assembling.{Verdict, passes, refused}
@@ -18,9 +18,12 @@ module _ (memory map : List ℕ) where
   with t m k = record { reply = t; memory = m; map = k }
 
   -- memory and map are copies, and the counts those of the map
-  pub accepted-as : (c d : ℕ) (m k image marks : List ℕ) → c ≡ cellsMarked codeMark marks → d ≡ cellsMarked dataMark marks → m ≡ image → k ≡ marks
-      → with (record { number = 0; line = 0; code-cells = c; data-cells = d }) m k ≡ outcomeBy passes image marks memory map
-  accepted-as c d m k image marks e f g h = rw (e, f, g, h)
+  pub accepted-as : (c d r : ℕ) (m k image marks : List ℕ) → c ≡ cellsMarked codeMark marks → d ≡ cellsMarked dataMark marks
+      → r ≡ cellsMarked reservedMark marks
+      → m ≡ image
+      → k ≡ marks
+      → with (record { number = 0; line = 0; code-cells = c; data-cells = d; reserved-cells = r }) m k ≡ outcomeBy passes image marks memory map
+  accepted-as c d r m k image marks e f i g h = rw (e, f, i, g, h)
 
   -- a refusal leaves both as they were
   pub refused-as : (t : Told) (f : ℕ) (l : Line) (v : Verdict) (image marks : List ℕ) → t ≡ refusal (f on l .0) → v ≡ refused (f on l .0)

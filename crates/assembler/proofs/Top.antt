@@ -5,7 +5,7 @@ use mathlib.Core.Logic.{_↔_}
 use mathlib.Core.Path.{_≡_, sym, ap, subst, _∙_}
 use native.Mathlib.Omega.{arith}
 use lib.ListN.{length}
-use Rattle.codes.specs.Marks.{codeMark, dataMark}
+use Rattle.codes.specs.Marks.{codeMark, dataMark, reservedMark}
 use Rattle.sources.specs.Sources.{Said}
 use Rattle.sources.specs.Order.{Refusal, FirstFailing, Passing}
 use Rattle.sources.specs.Image.{Accepted, cellsMarked}
@@ -18,7 +18,8 @@ same-reply : (r s : Reply) → told r ≡ told s → r ≡ s
 same-reply r s e = ap back e
   where
     back : Told → Reply
-    back t = record { refusal = t .number; line = record { 0 = t .line }; code = t .code-cells; «data» = t .data-cells }
+    back t =
+        record { refusal = t .number; line = record { 0 = t .line }; code = t .code-cells; «data» = t .data-cells; reserved = t .reserved-cells }
 
 module _ {source memory map : List ℕ} where
   -- ---- two replies that meet the promise coincide: the numbers, the line, memory and map
@@ -60,9 +61,12 @@ module _ {source memory map : List ℕ} where
     pub accepted-image : r .refusal ≡ 0 → Accepted (length memory) (length map) source memory′ map′
     accepted-image z = accepting z .0
 
-    -- The counts are the numbers of cells marked 1 and 2, which are those that the source's instructions and DATA give.
-    pub counts-marked : r .refusal ≡ 0 → (r .code ≡ cellsMarked codeMark map′) × (r .data ≡ cellsMarked dataMark map′)
-    counts-marked z = let e = accepting z .1 in (ap (λ (t : Told). t .code-cells) e, ap (λ (t : Told). t .data-cells) e)
+    -- The counts are the numbers of cells marked 1, 2 and 3, which are those that the source's instructions, DATA and RES give.
+    pub counts-marked : r .refusal ≡ 0
+        → (r .code ≡ cellsMarked codeMark map′) × (r .data ≡ cellsMarked dataMark map′) × (r .reserved ≡ cellsMarked reservedMark map′)
+    counts-marked z =
+        let e = accepting z .1 in
+        (ap (λ (t : Told). t .code-cells) e, ap (λ (t : Told). t .data-cells) e, ap (λ (t : Told). t .reserved-cells) e)
 
     -- ---- refused: the first check that fails, and nothing lent has changed
 
@@ -75,12 +79,13 @@ module _ {source memory map : List ℕ} where
             let q : why ≡ record { number = r .refusal; line = r .line .0 } = sym (ap (λ (t : Told). record { number = t .number; line = t .line }) e) in
             subst (λ (w : Refusal). FirstFailing (length memory) (length map) source w) q f
 
-    pub refused-keeps : (r .refusal ≡ 0 → ⊥) → (memory′ ≡ memory) × (map′ ≡ map) × (r .code ≡ 0) × (r .data ≡ 0)
+    pub refused-keeps : (r .refusal ≡ 0 → ⊥) → (memory′ ≡ memory) × (map′ ≡ map) × (r .code ≡ 0) × (r .data ≡ 0) × (r .reserved ≡ 0)
     refused-keeps n = out reply
       where
-        out : Replies source memory map r memory′ map′ → (memory′ ≡ memory) × (map′ ≡ map) × (r .code ≡ 0) × (r .data ≡ 0)
+        out : Replies source memory map r memory′ map′ → (memory′ ≡ memory) × (map′ ≡ map) × (r .code ≡ 0) × (r .data ≡ 0) × (r .reserved ≡ 0)
         out (accepts a e) = absurd (n (ap (λ (t : Told). t .number) e))
-        out (refuses why f e g h) = (g, h, ap (λ (t : Told). t .code-cells) e, ap (λ (t : Told). t .data-cells) e)
+        out (refuses why f e g h) =
+            (g, h, ap (λ (t : Told). t .code-cells) e, ap (λ (t : Told). t .data-cells) e, ap (λ (t : Told). t .reserved-cells) e)
 
 -- An accepted image depends on source and M alone: what memory and map held plays no part.
 pub source-and-M-alone : {source memory map memory₂ map₂ m k m₂ k₂ : List ℕ} {r r₂ : Reply} → Replies source memory map r m k

@@ -3,7 +3,7 @@ use Prim.Native.Nat.{ℕ}
 use mathlib.Core.List.{List}
 use mathlib.Core.Path.{_≡_}
 use lib.ListN.{length}
-use Rattle.codes.specs.Marks.{codeMark, dataMark}
+use Rattle.codes.specs.Marks.{codeMark, dataMark, reservedMark}
 use Rattle.sources.specs.Order.{Refusal, FirstFailing}
 use Rattle.sources.specs.Image.{Accepted, cellsMarked}
 use Rattle.assembler.specs.declared.Reply.{Reply}
@@ -14,17 +14,25 @@ pub record Told : Type 0 where
   pub line : ℕ
   pub code-cells : ℕ
   pub data-cells : ℕ
+  pub reserved-cells : ℕ
 
 abbrev pub told : Reply → Told
-told r = record { number = r .refusal; line = r .line .0; code-cells = r .code; data-cells = r .data }
+told r = record { number = r .refusal; line = r .line .0; code-cells = r .code; data-cells = r .data; reserved-cells = r .reserved }
 
--- "acceptance returns 0, line 0 and the numbers of code and data cells"
+-- "acceptance returns 0, line 0 and the numbers of code and data cells" (01), and that of reserved cells "as a third count" (02, K2)
 abbrev pub acceptance : List ℕ → Told
-acceptance map = record { number = 0; line = 0; code-cells = cellsMarked codeMark map; data-cells = cellsMarked dataMark map }
+acceptance map =
+    record {
+      number = 0;
+      line = 0;
+      code-cells = cellsMarked codeMark map;
+      data-cells = cellsMarked dataMark map;
+      reserved-cells = cellsMarked reservedMark map;
+    }
 
 -- "Refusals return counts 0"
 abbrev pub refusal : Refusal → Told
-refusal why = record { number = why .number; line = why .line; code-cells = 0; data-cells = 0 }
+refusal why = record { number = why .number; line = why .line; code-cells = 0; data-cells = 0; reserved-cells = 0 }
 
 -- a reply to a source, with memory and map as they were lent, and as they are left
 pub data Replies (source memory map : List ℕ) (reply : Reply) (memory′ map′ : List ℕ) : Type 0 where

@@ -19,6 +19,7 @@ use codes::limits::MOST_CELLS;
 use codes::limits::MOST_LABELS;
 use codes::marks::CODE;
 use codes::marks::DATA;
+use codes::marks::RESERVED;
 use settling::Settled;
 use settling::settle::settle;
 use sources::Line;
@@ -35,6 +36,7 @@ fn refused(number: u8, line: Line) -> Reply
         line: line,
         code: 0,
         data: 0,
+        reserved: 0,
     }
 }
 
@@ -50,11 +52,13 @@ fn accept(cells: &[u16], marks: &[u8], memory: &mut [u16], map: &mut [u8]) -> Re
     copy_marks(marks, map);
     let code = counted(marks, CODE);
     let data = counted(marks, DATA);
+    let reserved = counted(marks, RESERVED);
     Reply {
         refusal: 0,
         line: Line(0),
         code: code,
         data: data,
+        reserved: reserved,
     }
 }
 

@@ -1,4 +1,4 @@
-// The numbers of code and data cells.
+// The numbers of code, data and reserved cells.
 ghost use mathlib.Core.Path.{_≡_};
 ghost use Rattle.sources.specs.Image.{cellsMarked};
 

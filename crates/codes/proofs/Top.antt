@@ -6,7 +6,7 @@ use mathlib.Core.Path.{_≡_, refl}
 use Rattle.codes.specs.Registers.{A, SR, IX, IY, SP, PC, registerCount, isRegister}
 use Rattle.codes.specs.Flags.{forZ, forC, forV, forP, forS, forH, isOn}
 use Rattle.codes.specs.Stops.{none, halted, noOpcode, noMode, noRegister, memoryEnd, zeroDivisor, budgetSpent, inputEnd, outputShort, badLoan}
-use Rattle.codes.specs.Marks.{free, codeMark, dataMark}
+use Rattle.codes.specs.Marks.{free, codeMark, dataMark, reservedMark, largestMark}
 use Rattle.codes.specs.Limits.{
   mostCells,
   longestSource,
@@ -51,9 +51,13 @@ pub stops :
     ≡ 0 ∷ 1 ∷ 2 ∷ 3 ∷ 4 ∷ 5 ∷ 6 ∷ 7 ∷ 8 ∷ 9 ∷ 10 ∷ []
 stops = refl
 
--- "0 free, 1 code, 2 data"
-pub marks : free ∷ codeMark ∷ dataMark ∷ [] ≡ 0 ∷ 1 ∷ 2 ∷ []
+-- "0 free, 1 code, 2 data"; RES's cells "marked 3 in the map" (02, K2)
+pub marks : free ∷ codeMark ∷ dataMark ∷ reservedMark ∷ [] ≡ 0 ∷ 1 ∷ 2 ∷ 3 ∷ []
 marks = refl
+
+-- "marks 0..3" (02, K2)
+pub largest-mark : largestMark ≡ 3
+largest-mark = refl
 
 -- "M from 1 to 65,536", "Source is at most 32,768 bytes, labels at most 512, a label at most 64 bytes, parentheses at most 32 deep"
 pub lent : mostCells ∷ longestSource ∷ mostLabels ∷ longestLabel ∷ deepest ∷ [] ≡ 65536 ∷ 32768 ∷ 512 ∷ 64 ∷ 32 ∷ []

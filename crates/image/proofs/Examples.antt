@@ -29,6 +29,10 @@ text =
 abbrev nothing : List ℕ
 nothing = bytes "version=1\nsize=1\nclaimed=0\n"
 
+-- a reserved cell of any value, at M 1
+abbrev reserved : List ℕ
+reserved = bytes "version=1\nsize=1\nclaimed=1\ncell=0,reserved,0\n"
+
 pub record Examples : Type 0 where
   pub document-01 : imageText memory marks ≡ text
   pub into-its-room : printed memory marks (replicate 135 7) ≡ left 0 135 text
@@ -39,12 +43,15 @@ pub record Examples : Type 0 where
   -- "2 room short", by one byte: nothing is written
   pub one-short : printed (5 ∷ []) (0 ∷ []) (replicate 26 7) ≡ left 2 0 (replicate 26 7)
   pub no-room : printed (5 ∷ []) (0 ∷ []) [] ≡ left 2 0 []
-  -- "1 bad lengths or a mark above 2", before 2
+  -- a reserved cell "printed as `cell=ADDR,reserved,0`" (02, K2), whatever it holds
+  pub one-reserved : printed (7 ∷ []) (3 ∷ []) (replicate 45 7) ≡ left 0 45 reserved
+  pub one-reserved-short : printed (7 ∷ []) (3 ∷ []) (replicate 44 7) ≡ left 2 0 (replicate 44 7)
+  -- "1 bad lengths or a mark above 2" (01), now above 3, before 2
   pub no-cell : printed [] [] (7 ∷ []) ≡ left 1 0 (7 ∷ [])
   pub short-map : printed (5 ∷ 5 ∷ []) (0 ∷ []) [] ≡ left 1 0 []
   pub long-map : printed (5 ∷ []) (0 ∷ 0 ∷ []) [] ≡ left 1 0 []
-  pub mark-3 : printed (5 ∷ 6 ∷ []) (0 ∷ 3 ∷ []) (replicate 60 7) ≡ left 1 0 (replicate 60 7)
-  pub mark-3-without-room : printed (5 ∷ []) (3 ∷ []) [] ≡ left 1 0 []
+  pub mark-4 : printed (5 ∷ 6 ∷ []) (0 ∷ 4 ∷ []) (replicate 60 7) ≡ left 1 0 (replicate 60 7)
+  pub mark-4-without-room : printed (5 ∷ []) (4 ∷ []) [] ≡ left 1 0 []
 
 pub examples : Examples
 unfolding decimalBefore decimal cellLine cellLines claimed textOf knownMarks goodLoan printed
@@ -56,9 +63,11 @@ examples =
       nothing-claimed = refl;
       one-short = refl;
       no-room = refl;
+      one-reserved = refl;
+      one-reserved-short = refl;
       no-cell = refl;
       short-map = refl;
       long-map = refl;
-      mark-3 = refl;
-      mark-3-without-room = refl;
+      mark-4 = refl;
+      mark-4-without-room = refl;
     }

@@ -9,12 +9,13 @@ use borrow.Author.Tests.{eq-eqb, ne-eqb, eqb-true, eqb-false, leb-true, le-leb, 
 use lib.Dec.{leb, eqb}
 use lib.ListN.{length, getD, drop, length-append, drop-of-length-le}
 use lib.Seq.{drop-cons}
+use Rattle.codes.specs.Marks.{reservedMark, largestMark}
 use Rattle.numerals.specs.Bytes.{LF, bytes}
-use Rattle.numerals.specs.Writing.{decimal}
+use Rattle.numerals.specs.Writing.{decimalBefore, decimal}
 use Rattle.numerals.proofs.Filling.{length-decimal}
 use Rattle.texts.specs.Lines.{textOf}
 use Rattle.texts.proofs.Texts.{text-append}
-use Rattle.image.specs.Image.{kind, cellLine, cellLines, claimed, headLines, imageText}
+use Rattle.image.specs.Image.{cellLine, cellLines, claimed, headLines, imageText}
 use Rattle.image.specs.Printing.{knownMarks}
 use Rattle.image.specs.Inner.Pieces.{piece, kindAndValue, cellsText}
 
@@ -62,36 +63,47 @@ pub piece-claimed : (at mark value : ℕ) → (mark ≡ 0 → ⊥) → piece at 
 unfolding piece cellLine kindAndValue
 piece-claimed at mark value n = rw (ne-eqb mark 0 n) (simp append-assoc)
 
-kind-length : (mark : ℕ) → length (kind mark) ≡ 4
-kind-length mark = go (eqb mark 1)
-  where
-    go : (b : Bool) → length (cond b (bytes "code") (bytes "data")) ≡ 4
-    go true = refl
-    go false = refl
+-- the text of the three kinds
+pub kind-reserved : (mark value : ℕ) → mark ≡ reservedMark → kindAndValue mark value ≡ bytes ",reserved,0"
+unfolding kindAndValue decimal decimalBefore
+kind-reserved mark value e = rw (eq-eqb mark reservedMark e)
 
--- the text of the two kinds
 pub kind-code : (mark value : ℕ) → mark ≡ 1 → kindAndValue mark value ≡ bytes ",code," ++ decimal value
 unfolding kindAndValue
-kind-code mark value e = rw (eq-eqb mark 1 e)
+kind-code mark value e = rw e
 
-pub kind-data : (mark value : ℕ) → (mark ≡ 1 → ⊥) → kindAndValue mark value ≡ bytes ",data," ++ decimal value
+pub kind-data : (mark value : ℕ) → (mark ≡ reservedMark → ⊥) → (mark ≡ 1 → ⊥) → kindAndValue mark value ≡ bytes ",data," ++ decimal value
 unfolding kindAndValue
-kind-data mark value n = rw (ne-eqb mark 1 n)
+kind-data mark value r n = rw (ne-eqb mark reservedMark r, ne-eqb mark 1 n)
 
-pub kind-and-value-length : (mark value : ℕ) → length (kindAndValue mark value) ≡ 6 + length (decimal value)
-unfolding kindAndValue
-kind-and-value-length mark value = simp length-append (omega (arith, kind-length mark))
+-- how long it is
+pub reserved-length : (mark value : ℕ) → mark ≡ reservedMark → length (kindAndValue mark value) ≡ 11
+reserved-length mark value e = rw (kind-reserved mark value e)
 
-pub piece-length : (at mark value : ℕ) → (mark ≡ 0 → ⊥) → length (piece at mark value) ≡ 12 + length (decimal at) + length (decimal value)
-piece-length at mark value n = rw (piece-claimed at mark value n) (simp length-append (omega (arith, kind-and-value-length mark value)))
+pub kind-and-value-length : (mark value : ℕ) → (mark ≡ reservedMark → ⊥) → length (kindAndValue mark value) ≡ 6 + length (decimal value)
+kind-and-value-length mark value r = go (eqb mark 1) refl
+  where
+    go : (b : Bool) → eqb mark 1 ≡ b → length (kindAndValue mark value) ≡ 6 + length (decimal value)
+    go true e = rw (kind-code mark value (eqb-true mark 1 e)) (simp length-append)
+    go false e = rw (kind-data mark value r (eqb-false mark 1 e)) (simp length-append)
+
+pub piece-length : (at mark value : ℕ) → (mark ≡ 0 → ⊥) → length (piece at mark value) ≡ 6 + length (decimal at) + length (kindAndValue mark value)
+piece-length at mark value n = rw (piece-claimed at mark value n) (simp length-append (omega arith))
 
 -- no line is longer than 32 bytes
 piece-short : (at mark value : ℕ) → length (piece at mark value) ≤ 32
 piece-short at mark value = go (eqb mark 0) refl
   where
+    claimed-short : (b : Bool) → eqb mark reservedMark ≡ b
+        → length (piece at mark value) ≡ 6 + length (decimal at) + length (kindAndValue mark value)
+        → length (piece at mark value) ≤ 32
+    claimed-short true e l = omega (arith, l, length-decimal at, reserved-length mark value (eqb-true mark reservedMark e))
+    claimed-short false e l =
+        omega (arith, l, length-decimal at, length-decimal value, kind-and-value-length mark value (eqb-false mark reservedMark e))
+
     go : (b : Bool) → eqb mark 0 ≡ b → length (piece at mark value) ≤ 32
     go true e = rw (piece-free at mark value (eqb-true mark 0 e)) (omega arith)
-    go false e = rw (piece-length at mark value (eqb-false mark 0 e)) (omega (arith, length-decimal at, length-decimal value))
+    go false e = claimed-short (eqb mark reservedMark) refl (piece-length at mark value (eqb-false mark 0 e))
 
 cells-short : (memory : List ℕ) (at : ℕ) (marks : List ℕ) → length (textOf (cellLines memory at marks)) ≤ 32 * length marks
 unfolding cellLines textOf
@@ -153,11 +165,11 @@ claimed-within (mark ∷ marks) = go (eqb mark 0) (claimed-within marks)
 -- ---- marks
 
 module _ (marks : List ℕ) (i : ℕ) where
-  pub known-more : i < length marks → getD marks i 0 ≤ 2 → knownMarks (drop i marks) ≡ knownMarks (drop (i + 1) marks)
+  pub known-more : i < length marks → getD marks i 0 ≤ largestMark → knownMarks (drop i marks) ≡ knownMarks (drop (i + 1) marks)
   unfolding knownMarks
   known-more h l = rw (add-one i, drop-cons marks i 0 h, le-leb _ _ l)
 
-  pub known-stop : i < length marks → 2 < getD marks i 0 → knownMarks (drop i marks) ≡ false
+  pub known-stop : i < length marks → largestMark < getD marks i 0 → knownMarks (drop i marks) ≡ false
   unfolding knownMarks
   known-stop h l = rw (drop-cons marks i 0 h, lt-leb _ _ l)
 
@@ -165,14 +177,14 @@ module _ (marks : List ℕ) (i : ℕ) where
   unfolding knownMarks
   known-none h = rw (drop-of-length-le marks h)
 
--- no mark is above 2, mark by mark
-pub known-all : (marks : List ℕ) → knownMarks marks ≡ true → (i : ℕ) → i < length marks → getD marks i 0 ≤ 2
+-- no mark is above the largest, mark by mark
+pub known-all : (marks : List ℕ) → knownMarks marks ≡ true → (i : ℕ) → i < length marks → getD marks i 0 ≤ largestMark
 unfolding knownMarks
 known-all [] e i h = absurd (omega arith)
-known-all (mark ∷ marks) e zero h = leb-true mark 2 (both-true (leb mark 2) (knownMarks marks) e .0)
-known-all (mark ∷ marks) e (suc i) h = known-all marks (both-true (leb mark 2) (knownMarks marks) e .1) i (omega arith)
+known-all (mark ∷ marks) e zero h = leb-true mark largestMark (both-true (leb mark largestMark) (knownMarks marks) e .0)
+known-all (mark ∷ marks) e (suc i) h = known-all marks (both-true (leb mark largestMark) (knownMarks marks) e .1) i (omega arith)
 
-pub all-known : (marks : List ℕ) → ((i : ℕ) → i < length marks → getD marks i 0 ≤ 2) → knownMarks marks ≡ true
+pub all-known : (marks : List ℕ) → ((i : ℕ) → i < length marks → getD marks i 0 ≤ largestMark) → knownMarks marks ≡ true
 unfolding knownMarks
 all-known [] f = refl
-all-known (mark ∷ marks) f = rw (le-leb mark 2 (f 0 (omega arith)), all-known marks (λ i h. f (suc i) (omega arith)))
+all-known (mark ∷ marks) f = rw (le-leb mark largestMark (f 0 (omega arith)), all-known marks (λ i h. f (suc i) (omega arith)))

@@ -8,7 +8,9 @@ use Prim.Native.Nat.{ℕ, suc, _+_, _≤_, _<_}
 use native.Mathlib.Omega.{arith}
 use lib.Dec.{eqb}
 use lib.ListN.{length, getD, drop}
-use Rattle.numerals.specs.Writing.{DecimalOf, decimal}
+use Rattle.codes.specs.Marks.{reservedMark, largestMark}
+use Rattle.numerals.specs.Bytes.{bytes}
+use Rattle.numerals.specs.Writing.{DecimalOf, decimalBefore, decimal}
 use Rattle.numerals.proofs.Top as decimals
 use Rattle.image.specs.Image.{cellLine, cellLines, claimed, imageText}
 use Rattle.image.specs.Printing.{goodLoan, refusalOf, lengthOf, Leaves, leaves, printed}
@@ -23,12 +25,12 @@ use Rattle.image.proofs.Examples as worked
 
 -- ---- the three answers
 
--- a memory of 1 to 65,536 cells, and a map of as many marks, each 0, 1 or 2
+-- a memory of 1 to 65,536 cells, and a map of as many marks, each 0 to 3
 pub record Loan (memory marks : List ℕ) : Type 0 where
   pub some : 1 ≤ length memory
   pub not-too-many : length memory ≤ 65536
   pub as-many : length marks ≡ length memory
-  pub known : (i : ℕ) → i < length marks → getD marks i 0 ≤ 2
+  pub known : (i : ℕ) → i < length marks → getD marks i 0 ≤ largestMark
 
 pub good-exactly : (memory marks : List ℕ) → (goodLoan memory marks ≡ true) ↔ Loan memory marks
 good-exactly memory marks = (there, back)
@@ -42,7 +44,7 @@ good-exactly memory marks = (there, back)
     back l = sym (outcomes.loan-marks memory marks (l .some) (l .not-too-many) (l .as-many)) ∙ texts.all-known marks (l .known)
 
 module _ (memory marks room : List ℕ) where
-  -- "1 bad lengths or a mark above 2", whatever the room, which is as it was.
+  -- 1: "bad lengths or a mark above 2" (01), now above 3 (02, K2), whatever the room, which is as it was.
   pub bad-loan : (Loan memory marks → ⊥) → printed memory marks room ≡ leaves BadLoan room
   bad-loan n = go (goodLoan memory marks) refl
     where
@@ -69,6 +71,11 @@ module _ (memory marks room : List ℕ) where
 -- A line stands among the cell lines exactly where it is that of a claimed cell.
 pub lines-exactly : (memory marks line : List ℕ) → List·Memᴰ line (cellLines memory 0 marks) ↔ LineOf memory 0 marks line
 lines-exactly memory marks line = (CellLines.line-is memory 0 marks line, CellLines.line-has memory 0 marks line)
+
+-- A reserved cell is "printed as `cell=ADDR,reserved,0`" (02, K2), whatever it holds.
+pub reserved-line : (at value : ℕ) → cellLine at reservedMark value ≡ bytes "cell=" ++ (decimal at ++ bytes ",reserved,0")
+unfolding cellLine decimal decimalBefore
+reserved-line at value = refl
 
 -- They ascend: the lines of the first cells stand before those of the cells after them.
 pub lines-ascend : (memory a b : List ℕ) → cellLines memory 0 (a ++ b) ≡ cellLines memory 0 a ++ cellLines memory (0 + length a) b

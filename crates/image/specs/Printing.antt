@@ -1,12 +1,12 @@
 -- What printing answers, and what it leaves in the room (01, "The printed image": "Library printing refuses, nothing written: 1 bad
--- lengths or a mark above 2; 2 room short").
+-- lengths or a mark above 2; 2 room short"; 02, K2: printing takes "marks 0..3").
 use Prim.Native.Nat.{ℕ}
 use mathlib.Core.Bool.{Bool, true, cond, not, _&&_}
 use mathlib.Core.List.{List, [], _∷_, _++_}
 use lib.Dec.{eqb, leb}
 use lib.ListN.{length, drop}
 use Rattle.codes.specs.Limits.{mostCells}
-use Rattle.codes.specs.Marks.{dataMark}
+use Rattle.codes.specs.Marks.{largestMark}
 use Rattle.image.specs.Image.{imageText}
 use Rattle.image.specs.declared.Printed.{Printed}
 use Rattle.image.specs.declared.Printed.the-variants.{Done, BadLoan, RoomShort}
@@ -32,10 +32,10 @@ pub record Leaves : Type 0 where
 abbrev pub leaves : Printed → List ℕ → Leaves
 leaves answer room = record { refusal = refusalOf answer; text = lengthOf answer; room = room }
 
--- no mark is above 2
+-- no mark is above the largest
 unfoldable pub knownMarks : List ℕ → Bool
 knownMarks [] = true
-knownMarks (mark ∷ marks) = leb mark dataMark && knownMarks marks
+knownMarks (mark ∷ marks) = leb mark largestMark && knownMarks marks
 
 -- a memory of M cells and a map of M known marks
 unfoldable pub goodLoan : List ℕ → List ℕ → Bool

@@ -7,6 +7,7 @@ ghost use Rattle.numerals.specs.Writing.{decimal};
 ghost use Rattle.image.specs.Image.{claimed, imageText};
 ghost use Rattle.image.specs.Inner.Pieces.{piece, cellsText};
 use codes::marks::FREE;
+use codes::marks::RESERVED;
 
 fn decimal_length(n: u32) -> usize
     ensures { λ r. ⌜ r ≡ length (decimal n) ⌝ }
@@ -14,12 +15,15 @@ fn decimal_length(n: u32) -> usize
     11 - numerals::writing::unsigned_decimal(n).start
 }
 
-// A cell's line with its LF, nothing for a free cell: `code` and `data` have as many letters.
+// A cell's line with its LF, nothing for a free cell: `code` and `data` have as many letters, and `,reserved,0` is always the same.
 fn cell_length(address: u32, mark: u8, value: u16) -> usize
     ensures { λ r. ⌜ r ≡ length (piece address mark value) ⌝ }
 {
     if mark == FREE {
         return 0;
+    }
+    if mark == RESERVED {
+        return 17 + decimal_length(address);
     }
     12 + decimal_length(address) + decimal_length(value as u32)
 }

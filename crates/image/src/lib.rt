@@ -1,4 +1,4 @@
-// The printed image (document 01, "The printed image"): memory and map as text, in a lent room. The meaning is in specs/: Image.antt has
+// The printed image (document 01, "The printed image"; 02, K2): memory and map as text, in a lent room. The meaning is in specs/: Image.antt has
 // the text, Printing.antt the refusals and what the room holds after.
 pub mod printing;
 mod lengths; // how long the text is

@@ -11,13 +11,18 @@ ghost use Rattle.image.specs.Inner.Pieces.{kindAndValue, piece, cellsTex
 use super::lengths::claimed_in;
 use codes::marks::CODE;
 use codes::marks::FREE;
+use codes::marks::RESERVED;
 use texts::writing::field;
+use texts::writing::piece;
 
 // What stands behind the address in a cell's line.
 fn kind_and_value(room: &mut [u8], at: usize, mark: u8, value: u16) -> usize
     requires { ⌜ at + length (kindAndValue mark value) ≤ length (now room) ⌝ }
     ensures { λ r. ⌜ Wrote (now (room .entry)) at (kindAndValue mark value) (now (room .exit)) r ⌝ }
 {
+    if mark == RESERVED {
+        return piece(room, at, b",reserved,0");
+    }
     if mark == CODE {
         return field(room, at, b",code,", value as u32);
     }

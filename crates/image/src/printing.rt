@@ -5,15 +5,15 @@ use super::Printed;
 use super::lengths::text_length;
 use super::lines::write;
 use codes::limits::MOST_CELLS;
-use codes::marks::DATA;
+use codes::marks::LARGEST_MARK;
 
-// "a mark above 2": no mark is above that of data.
+// Printing takes "marks 0..3": no mark is above the largest.
 fn known_marks(map: &[u8]) -> bool
     ensures { λ r. ⌜ r ≡ knownMarks (now (map .entry)) ⌝ }
 {
     let mut i: usize = 0;
     while i < map.len() {
-        if DATA < map[i] {
+        if LARGEST_MARK < map[i] {
             return false;
         }
         i += 1;

@@ -4,18 +4,19 @@ use mathlib.Core.Bool.{Bool, true, false, cond, _||_, not}
 use mathlib.Core.List.{List, [], _∷_, _++_, map}
 use mathlib.Core.Logic.{_↔_, inl, inr}
 use mathlib.Core.Path.{_≡_, refl, sym, ap, subst, _∙_}
+use native.Mathlib.Omega.{arith}
 use lib.Dec.{eqb, ltb}
 use lib.ListN.{length}
 use borrow.Author.Tests.{eqb-true, eqb-false, ltb-true, ltb-false, lt-ltb, le-ltb, eq-eqb, ne-eqb}
 use Rattle.codes.specs.Limits.{longestSource}
-use Rattle.codes.specs.Marks.{codeMark}
+use Rattle.codes.specs.Marks.{codeMark, reservedMark}
 use Rattle.isa.proofs.Tests.{never}
 use Rattle.image.specs.Printing.{goodLoan}
 use Rattle.image.proofs.Outcomes.{loan-good}
 use Rattle.listing.specs.Lines.{textOfLines}
 use Rattle.listing.specs.Runs.{Run, Runs}
 use Rattle.listing.specs.Decodes.{FirstUndecoded}
-use Rattle.listing.specs.Listing.{RunLines, code-run, data-run, originAt, LinesOf, ends, one-run, FirstBadRun, here, later}
+use Rattle.listing.specs.Listing.{reservedLines, RunLines, code-run, data-run, reserved-run, originAt, LinesOf, ends, one-run, FirstBadRun, here, later}
 use Rattle.listing.specs.Listing.{Leaves, refused, given, Replies, bad-loan, undecoded, too-long, gives}
 use Rattle.listing.specs.Inner.Walk.{runsFrom, Parts, whole, fails, partsFrom, Found, found, failing, codeLines, runLines, joinedBy, linesFrom}
 use Rattle.listing.specs.Inner.Walk.{linesOf, replyBy, listOf}
@@ -28,7 +29,7 @@ use Rattle.listing.proofs.Decoded.{whole-exactly, fails-exactly}
 
 run-sound : (r : Run) (xs : List Entry) → runLines r ≡ found xs → RunLines r xs
 unfolding runLines
-run-sound r xs e = go (eqb (r .mark) codeMark) refl e
+run-sound r xs e = go (eqb (r .mark) codeMark) (eqb (r .mark) reservedMark) refl refl e
   where
     code : (p : Parts) → partsFrom (r .cells) 0 (r .from) ≡ p → codeLines p ≡ found xs → r .mark ≡ codeMark → RunLines r xs
     code (whole is) f e k =
@@ -36,28 +37,39 @@ run-sound r xs e = go (eqb (r .mark) codeMark) refl e
         subst (RunLines r) z (code-run k (whole-exactly (r .cells) (r .from) is .0 f))
     code (fails a) f e k = never (cc)
 
-    go : (b : Bool) → eqb (r .mark) codeMark ≡ b → cond b (codeLines (partsFrom (r .cells) 0 (r .from))) (found (map Holds (r .cells))) ≡ found xs
+    go : (b c : Bool) → eqb (r .mark) codeMark ≡ b → eqb (r .mark) reservedMark ≡ c
+        → cond b (codeLines (partsFrom (r .cells) 0 (r .from)))
+        (cond c (found (reservedLines (length (r .cells)))) (found (map Holds (r .cells)))) ≡ found xs
         → RunLines r xs
-    go true k e = code (partsFrom (r .cells) 0 (r .from)) refl e (eqb-true (r .mark) codeMark k)
-    go false k e = let z : map Holds (r .cells) ≡ xs = cc in subst (RunLines r) z (data-run (eqb-false (r .mark) codeMark k))
+    go true c k l e = code (partsFrom (r .cells) 0 (r .from)) refl e (eqb-true (r .mark) codeMark k)
+    go false true k l e =
+        let z : reservedLines (length (r .cells)) ≡ xs = cc in
+        subst (RunLines r) z (reserved-run (eqb-true (r .mark) reservedMark l))
+    go false false k l e =
+        let z : map Holds (r .cells) ≡ xs = cc in
+        subst (RunLines r) z (data-run (eqb-false (r .mark) codeMark k) (eqb-false (r .mark) reservedMark l))
 
-run-complete : {r : Run} {xs : List Entry} → RunLines r xs → runLines r ≡ found xs
+pub run-complete : {r : Run} {xs : List Entry} → RunLines r xs → runLines r ≡ found xs
 unfolding runLines
 run-complete {r} (code-run {is} k h) = rw (eq-eqb (r .mark) codeMark k, whole-exactly (r .cells) (r .from) is .1 h)
-run-complete {r} (data-run n) = rw (ne-eqb (r .mark) codeMark n)
+run-complete {r} (data-run n m) = rw (ne-eqb (r .mark) codeMark n, ne-eqb (r .mark) reservedMark m)
+run-complete {r} (reserved-run k) = rw (ne-eqb (r .mark) codeMark (λ e. absurd (omega (arith, k, e))), eq-eqb (r .mark) reservedMark k)
 
 bad-sound : (r : Run) (a : ℕ) → runLines r ≡ failing a → (r .mark ≡ codeMark) × FirstUndecoded (r .cells) (r .from) a
 unfolding runLines
-bad-sound r a e = go (eqb (r .mark) codeMark) refl e
+bad-sound r a e = go (eqb (r .mark) codeMark) (eqb (r .mark) reservedMark) refl e
   where
     code : (p : Parts) → partsFrom (r .cells) 0 (r .from) ≡ p → codeLines p ≡ failing a → FirstUndecoded (r .cells) (r .from) a
     code (whole is) f e = never (cc)
     code (fails b) f e = fails-exactly (r .cells) (r .from) a .0 (f ∙ cc)
 
-    go : (b : Bool) → eqb (r .mark) codeMark ≡ b → cond b (codeLines (partsFrom (r .cells) 0 (r .from))) (found (map Holds (r .cells))) ≡ failing a
+    go : (b c : Bool) → eqb (r .mark) codeMark ≡ b
+        → cond b (codeLines (partsFrom (r .cells) 0 (r .from)))
+        (cond c (found (reservedLines (length (r .cells)))) (found (map Holds (r .cells)))) ≡ failing a
         → (r .mark ≡ codeMark) × FirstUndecoded (r .cells) (r .from) a
-    go true k e = (eqb-true (r .mark) codeMark k, code (partsFrom (r .cells) 0 (r .from)) refl e)
-    go false k e = never (cc)
+    go true c k e = (eqb-true (r .mark) codeMark k, code (partsFrom (r .cells) 0 (r .from)) refl e)
+    go false true k e = never (cc)
+    go false false k e = never (cc)
 
 bad-complete : (r : Run) (a : ℕ) → r .mark ≡ codeMark → FirstUndecoded (r .cells) (r .from) a → runLines r ≡ failing a
 unfolding runLines

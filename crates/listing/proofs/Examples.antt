@@ -1,4 +1,4 @@
--- Worked examples (02, K1; its readings, row by row; the cases that are easily got wrong), each settled by computing it.
+-- Worked examples (02, K1 and K2; their readings, row by row; the cases that are easily got wrong), each settled by computing it.
 use Prim.Native.Nat.{ℕ}
 use Prim.Native.String.{String}
 use mathlib.Core.List.{List, [], _∷_, _++_}
@@ -13,7 +13,7 @@ use Rattle.names.specs.Names.{registers}
 use Rattle.image.specs.Printing.{knownMarks, goodLoan}
 use Rattle.listing.specs.Pieces.{textOf}
 use Rattle.listing.specs.Lines.{textOfLines}
-use Rattle.listing.specs.Listing.{Leaves}
+use Rattle.listing.specs.Listing.{reservedLines, Leaves}
 use Rattle.listing.specs.Inner.Walk.{runsFrom, partsFrom, runLines, linesFrom, listOf}
 
 -- what is left, by refusal, address, text's length and room
@@ -84,10 +84,21 @@ pub record Examples : Type 0 where
   -- 2 or 3 first? 1 before both
   pub before-room : Refuses (row (1 ∷ [])) (row (1 ∷ [])) 0 2 0
   pub no-room : Refuses (row (64 ∷ [])) (row (1 ∷ [])) 0 3 0
-  pub mark-3 : Refuses (1 ∷ 64 ∷ []) (1 ∷ 3 ∷ []) 0 1 0
+  pub mark-4 : Refuses (1 ∷ 64 ∷ []) (1 ∷ 4 ∷ []) 0 1 0
   pub long-map : Refuses (1 ∷ []) (1 ∷ 1 ∷ []) 60 1 0
   pub short-map : Refuses (1 ∷ 1 ∷ []) (1 ∷ []) 60 1 0
   pub no-cell : Refuses [] [] 60 1 0
+  -- Reserved cells (02, K2): "one run, one `RES n`", whatever they hold; ORG as before any run
+  pub reserved : Lists (row (7 ∷ [])) (row (3 ∷ [])) ("RES 1" ∷ "END" ∷ [])
+  pub side-by-side : Lists (row []) (row (3 ∷ 3 ∷ 3 ∷ 3 ∷ 3 ∷ [])) ("RES 5" ∷ "END" ∷ [])
+  pub reserved-3 : Lists (row (0 ∷ 7 ∷ 64 ∷ [])) (row (3 ∷ 3 ∷ 3 ∷ [])) ("RES 3" ∷ "END" ∷ [])
+  pub behind-code : Lists (row (64 ∷ 0 ∷ 0 ∷ 5 ∷ [])) (row (1 ∷ 3 ∷ 3 ∷ 2 ∷ [])) ("HALT" ∷ "RES 2" ∷ "DATA 5" ∷ "END" ∷ [])
+  pub reserved-behind-a-gap : Lists (row (64 ∷ [])) (row (1 ∷ 0 ∷ 3 ∷ 3 ∷ [])) ("HALT" ∷ "ORG 2" ∷ "RES 2" ∷ "END" ∷ [])
+  pub apart : Lists (row []) (row (3 ∷ 0 ∷ 3 ∷ [])) ("RES 1" ∷ "ORG 2" ∷ "RES 1" ∷ "END" ∷ [])
+  pub last-reserved : Lists (row []) (replicate 15 0 ++ (3 ∷ [])) ("ORG 15" ∷ "RES 1" ∷ "END" ∷ [])
+  pub in-a-reserved-cell : Refuses (row (200 ∷ 5 ∷ [])) (row (1 ∷ 3 ∷ [])) 60 2 0
+  pub reserved-then-undecoded : Refuses (row (0 ∷ 1 ∷ [])) (row (3 ∷ 1 ∷ [])) 0 2 1
+  pub reserved-room : Refuses (row []) (row (3 ∷ [])) 9 3 0
   -- each register, and each kind of operand
   pub registers-0 : Lists (208 ∷ 0 ∷ 208 ∷ 1 ∷ 208 ∷ 2 ∷ 208 ∷ 3 ∷ []) (code 8)
       ("PUSH .R0" ∷ "PUSH .R1" ∷ "PUSH .R2" ∷ "PUSH .R3" ∷ "END" ∷ [])
@@ -103,7 +114,7 @@ pub record Examples : Type 0 where
       ("PUSH #5[.IX]" ∷ "PUSH #-1[.IY]" ∷ "PUSH #32767[.SP]" ∷ "BR $-32768" ∷ "END" ∷ [])
 
 pub examples : Examples
-unfolding decimal decimalBefore table opcodes opcodeOf operandOf firstWordRead modesAllowed sizeIn instructionIn readUnless decodeWord decodeOf registers knownMarks goodLoan textOf textOfLines runsFrom partsFrom runLines linesFrom listOf
+unfolding decimal decimalBefore table opcodes opcodeOf operandOf firstWordRead modesAllowed sizeIn instructionIn readUnless decodeWord decodeOf registers knownMarks goodLoan textOf textOfLines runsFrom partsFrom reservedLines runLines linesFrom listOf
 examples = record {
   worked = refl;
   one-short = refl;
@@ -129,10 +140,20 @@ examples = record {
   unseen = refl;
   before-room = refl;
   no-room = refl;
-  mark-3 = refl;
+  mark-4 = refl;
   long-map = refl;
   short-map = refl;
   no-cell = refl;
+  reserved = refl;
+  side-by-side = refl;
+  reserved-3 = refl;
+  behind-code = refl;
+  reserved-behind-a-gap = refl;
+  apart = refl;
+  last-reserved = refl;
+  in-a-reserved-cell = refl;
+  reserved-then-undecoded = refl;
+  reserved-room = refl;
   registers-0 = refl;
   registers-4 = refl;
   registers-8 = refl;

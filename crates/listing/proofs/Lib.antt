@@ -5,6 +5,7 @@ pub mod Covered
 pub mod Decoded
 pub mod Exactly
 pub mod Cleared
+pub mod Reserved
 pub mod Walks
 pub mod Loops
 pub mod Outcomes

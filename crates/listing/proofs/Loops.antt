@@ -96,7 +96,7 @@ module _ (memory marks : List ℕ) (good : goodLoan memory marks ≡ true) where
   -- what begins at an address that is there
   module _ (behind at : ℕ) (there : at < length marks) {b : Begins} (is : b ≡ beginsAt memory marks at) where
     begun : {c : Begins} → b ≡ c → Goes memory marks alike behind at c
-    begun e = subst (Goes memory marks alike behind at) (sym is ∙ e) (goes memory marks alike behind at (omega (arith, alike)))
+    begun e = subst (Goes memory marks alike behind at) (sym is ∙ e) (goes memory marks alike behind at (omega (arith, alike)) (omega (arith, most, alike)))
 
     skipped : b ≡ B.Nothing → rest memory marks behind at ≡ rest memory marks behind (at + 1)
     skipped e = begun e

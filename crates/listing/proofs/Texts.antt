@@ -22,7 +22,7 @@ use Rattle.listing.specs.Pieces.{Piece, mark, pieceText, textOf}
 use Rattle.listing.specs.Lines.{registerName, signed, inBrackets, registerPieces, indexedPieces, operandPieces, present, fieldPieces, lineOf, textOfLines}
 use Rattle.listing.specs.Inner.Begins.{lineText, longestLines}
 use Rattle.listing.specs.declared.Entry.{Entry}
-use Rattle.listing.specs.declared.Entry.the-variants.{Origin, Instructs, Holds, Finish}
+use Rattle.listing.specs.declared.Entry.the-variants.{Origin, Instructs, Holds, Reserves, Finish}
 use Rattle.listing.proofs.Letters.{opcode-spelled, register-spelled}
 
 -- pieces side by side
@@ -126,6 +126,10 @@ pub holds-text : (x : ℕ) → bytes "DATA " ++ decimal x ≡ lineOf (Holds x)
 unfolding textOf
 holds-text x = ap (λ (l : List ℕ). bytes "DATA " ++ l) (sym (append-nil (decimal x)))
 
+pub reserves-text : (n : ℕ) → bytes "RES " ++ decimal n ≡ lineOf (Reserves n)
+unfolding textOf
+reserves-text n = ap (λ (l : List ℕ). bytes "RES " ++ l) (sym (append-nil (decimal n)))
+
 pub finish-text : bytes "END" ≡ lineOf Finish
 unfolding textOf
 finish-text = refl
@@ -187,6 +191,7 @@ line-short : (e : Entry) → length (lineOf e) ≤ 42
 line-short (Origin a) = omega (arith, ap length (origin-text a), decimal-length (a .0))
 line-short (Instructs i) = omega (arith, instruction-length i, opcode-spelled (i .op) .short, field-short (i .first) (i .second))
 line-short (Holds x) = omega (arith, ap length (holds-text x), decimal-length x)
+line-short (Reserves n) = omega (arith, ap length (reserves-text n), decimal-length n)
 line-short Finish = omega (arith, ap length finish-text)
 
 origin-short : (a : Address) → length (lineOf (Origin a)) ≤ 14

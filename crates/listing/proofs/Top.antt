@@ -1,23 +1,27 @@
--- What the listing promises (02, K1), restated for a reader. The promise of `list` itself stands in src/giving.rt; the arguments are in
+-- What the listing promises (02, K1 and K2), restated for a reader. The promise of `list` itself stands in src/giving.rt; the arguments are in
 -- the files beside this one. That a listing assembles back stands in the crate `recovered`.
-use Prim.Native.Nat.{ℕ, _≤_}
+use Prim.Native.Nat.{ℕ, _≤_, _<_}
 use mathlib.Core.Bool.{true}
-use mathlib.Core.List.{List, [], _∷_}
+use mathlib.Core.List.{List, [], _∷_, _++_}
 use mathlib.Core.Logic.{_↔_, inr}
 use mathlib.Core.Path.{_≡_, refl, sym, ap, _∙_}
 use native.Mathlib.Omega.{arith}
 use lib.ListN.{length, getD}
+use Rattle.codes.specs.Marks.{free, reservedMark}
+use Rattle.numerals.specs.Bytes.{bytes, LF}
 use Rattle.image.specs.Printing.{goodLoan}
 use Rattle.listing.specs.Lines.{textOfLines}
 use Rattle.listing.specs.Runs.{Run, Runs}
-use Rattle.listing.specs.Listing.{LinesOf, Leaves, leaves, refused, given, Replies, bad-loan, undecoded, too-long, gives}
+use Rattle.listing.specs.Listing.{RunLines, LinesOf, Leaves, leaves, refused, given, Replies, bad-loan, undecoded, too-long, gives}
 use Rattle.listing.specs.Inner.Walk.{listOf}
 use Rattle.listing.specs.declared.Entry.{Entry}
+use Rattle.listing.specs.declared.Entry.the-variants.{Reserves}
 use Rattle.listing.specs.declared.Listed.{Listed}
 use Rattle.listing.specs.declared.Listed.the-variants.{Done, BadLoan, Undecoded, TooLong}
 use Rattle.listing.proofs.Covered.{one-list}
 use Rattle.listing.proofs.Exactly as Exactly
 use Rattle.listing.proofs.Cleared as Cleared
+use Rattle.listing.proofs.Reserved as Reserved
 use Rattle.listing.proofs.Examples as Examples
 
 -- ---- exactly
@@ -74,11 +78,22 @@ module _ (memory marks room : List ℕ) where
 pub one-list-of-runs : {memory marks : List ℕ} {at : ℕ} {rs ss : List Run} → Runs memory marks at rs → Runs memory marks at ss → rs ≡ ss
 one-list-of-runs {memory} {marks} = one-list memory marks
 
--- ---- free cells
+-- ---- free and reserved cells
 
--- the value of a free cell is never looked at: with 0 in each of them the reply is the same
-pub free-unseen : (memory marks room : List ℕ) → listOf (Cleared.cleared memory marks) marks room ≡ listOf memory marks room
-free-unseen = Cleared.free-unseen
+-- the value of a free cell and of a reserved one is never looked at: with 0 in each of them the reply is the same
+pub unseen : (memory marks room : List ℕ) → listOf (Cleared.cleared memory marks) marks room ≡ listOf memory marks room
+unseen = Cleared.unseen
+
+-- "K1 lists a run as `RES n`"
+pub reserved-as-one : {r : Run} → r .mark ≡ reservedMark → length (r .cells) ≤ 65535 → RunLines r (Reserves (length (r .cells)) ∷ [])
+reserved-as-one = Reserved.as-one
+
+-- "(a run of 65,536 as `RES 65535`, `RES 1`)": such a run is a whole memory, and this its listing
+module _ (memory marks room : List ℕ) (cells : length memory ≡ 65536) (map : length marks ≡ 65536)
+    (all : (a : ℕ) → a < 65536 → getD marks a free ≡ reservedMark) where
+  pub all-reserved : 20 ≤ length room
+      → listOf memory marks room ≡ given (bytes "RES 65535" ++ (LF ∷ bytes "RES 1" ++ (LF ∷ bytes "END" ++ (LF ∷ [])))) room
+  all-reserved = Reserved.all-reserved memory marks room cells map all
 
 -- ---- worked examples
 

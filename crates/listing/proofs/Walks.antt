@@ -3,15 +3,16 @@ use Prim.Native.Nat.{ℕ, zero, suc, _+_, _-_, _≤_, _<_}
 use mathlib.Core.Bool.{Bool, true, false, cond, _&&_, false≢true}
 use mathlib.Core.List.{List, [], _∷_, _++_, map, append-assoc}
 use mathlib.Core.Path.{_≡_, refl, sym, ap, ap₂, subst, _∙_}
-use native.Mathlib.Nat.{min-le-left}
+use native.Mathlib.Nat.{min-le-left, sub-zero}
 use native.Mathlib.Decide.{decLt}
 use native.Mathlib.Numerals.{add-one}
 use native.Mathlib.Omega.{arith}
-use lib.Dec.{eqb}
+use lib.Dec.{eqb, leb}
 use lib.ListN.{length, getD, take, drop, length-drop, length-take, take-append-drop, drop-of-length-le}
 use lib.Seq.{drop-cons, ext-getD, getD-drop, getD-take, take-take, length-take-le, slice, slice-cons}
-use borrow.Author.Tests.{eqb-true, eqb-false, eq-eqb, ne-eqb}
-use Rattle.codes.specs.Marks.{free, codeMark}
+use borrow.Author.Tests.{eqb-true, eqb-false, eq-eqb, ne-eqb, leb-false, le-leb}
+use Rattle.codes.specs.Limits.{mostCells}
+use Rattle.codes.specs.Marks.{free, codeMark, reservedMark}
 use Rattle.numerals.specs.Bytes.{LF}
 use Rattle.isa.specs.Encoding.{wordsOf}
 use Rattle.isa.specs.Decoding.{decodeOf}
@@ -23,16 +24,17 @@ use Rattle.isa.proofs.Tests.{both-true, never}
 use Rattle.isa.proofs.RoundTrip.{Returns, encode-decode, decode-there, size-read}
 use Rattle.listing.specs.Lines.{lineOf, textOfLines}
 use Rattle.listing.specs.Runs.{Run, run, HoldCells, FirstRun, Runs, over, next}
-use Rattle.listing.specs.Listing.{originAt}
+use Rattle.listing.specs.Listing.{reservedLines, data-run, reserved-run, originAt}
 use Rattle.listing.specs.Inner.Walk.{joined, runsFrom, Parts, whole, fails, before, partsBy, partsFrom}
 use Rattle.listing.specs.Inner.Walk.{Found, found, failing, codeLines, runLines, joinedBy, linesFrom}
-use Rattle.listing.specs.Inner.Begins.{everyCode, codeBy, beginsAt, rest, lineText, Addressed}
+use Rattle.listing.specs.Inner.Begins.{everyCode, codeBy, reservedRun, reservedBy, beginsAt, rest, lineText, Addressed}
 use Rattle.listing.specs.declared.Begins.{Begins}
 use Rattle.listing.specs.declared.Begins.the-variants as B
 use Rattle.listing.specs.declared.Entry.{Entry}
-use Rattle.listing.specs.declared.Entry.the-variants.{Origin, Instructs, Holds, Finish}
+use Rattle.listing.specs.declared.Entry.the-variants.{Origin, Instructs, Holds, Reserves, Finish}
 use Rattle.listing.proofs.Covered.{covered-from, one-list, second-part}
 use Rattle.listing.proofs.Decoded.{parts-head}
+use Rattle.listing.proofs.Exactly.{run-complete}
 
 -- ---- marks of code
 
@@ -85,25 +87,63 @@ coded-every marks at to l f =
     (λ j h. let u : at + j < to = omega (arith, h, length-drop at (take to marks), length-take-le to marks l) in
     getD-drop at (take to marks) j free ∙ getD-take to marks (at + j) free u ∙ f (at + j) (omega arith) u)
 
+-- ---- marks of reserved cells
+
+module _ (marks : List ℕ) where
+  -- one mark, and those behind it
+  first-reserved : (at : ℕ) → at < length marks
+      → reservedRun (drop at marks) ≡ cond (eqb (getD marks at free) reservedMark) (suc (reservedRun (drop (at + 1) marks))) 0
+  unfolding reservedRun
+  first-reserved at h = rw (drop-cons marks at free h, add-one at)
+
+  pub reserved-more : (at : ℕ) → at < length marks → getD marks at free ≡ reservedMark
+      → reservedRun (drop at marks) ≡ suc (reservedRun (drop (at + 1) marks))
+  reserved-more at h e = first-reserved at h ∙ rw (eq-eqb (getD marks at free) reservedMark e)
+
+  pub reserved-stop : (at : ℕ) → at < length marks → (getD marks at free ≡ reservedMark → ⊥) → reservedRun (drop at marks) ≡ 0
+  reserved-stop at h n = first-reserved at h ∙ rw (ne-eqb (getD marks at free) reservedMark n)
+
+  pub reserved-end : (at : ℕ) → length marks ≤ at → reservedRun (drop at marks) ≡ 0
+  unfolding reservedRun
+  reserved-end at h = rw (drop-of-length-le marks h)
+
+-- so many marks of reserved cells, and no such mark behind them
+reserved-head : (ks : List ℕ) (n : ℕ) → ((j : ℕ) → j < n → getD ks j free ≡ reservedMark) → (getD ks n free ≡ reservedMark → ⊥) → reservedRun ks ≡ n
+unfolding reservedRun
+reserved-head [] zero f s = refl
+reserved-head [] (suc n) f s = let z = f 0 (omega arith) in absurd (omega (arith, z))
+reserved-head (k ∷ ks) zero f s = rw (ne-eqb k reservedMark s)
+reserved-head (k ∷ ks) (suc n) f s =
+    rw (eq-eqb k reservedMark (f 0 (omega arith))) (ap suc (reserved-head ks n (λ j h. f (suc j) (omega arith)) s))
+
+-- the same from an address on
+reserved-count : (marks : List ℕ) (at n : ℕ) → ((j : ℕ) → j < n → getD marks (at + j) free ≡ reservedMark)
+    → (getD marks (at + n) free ≡ reservedMark → ⊥)
+    → reservedRun (drop at marks) ≡ n
+reserved-count marks at n f s =
+    reserved-head (drop at marks) n (λ j h. getD-drop at marks j free ∙ f j h) (λ e. s (sym (getD-drop at marks n free) ∙ e))
+
 -- ---- lines side by side
 
 -- a line, and those behind it
 abbrev pub line-before : ℕ → ℕ → Entry → Found → Found
 line-before behind at e rest = joinedBy (originAt behind at) (found (e ∷ [])) rest
 
-data-lines : (r : Run) → (r .mark ≡ codeMark → ⊥) → runLines r ≡ found (map Holds (r .cells))
-unfolding runLines
-data-lines r n = rw (ne-eqb (r .mark) codeMark n)
+data-lines : (r : Run) → (r .mark ≡ codeMark → ⊥) → (r .mark ≡ reservedMark → ⊥) → runLines r ≡ found (map Holds (r .cells))
+data-lines r n m = run-complete {r = r} (data-run n m)
+
+reserved-lines : (r : Run) → r .mark ≡ reservedMark → runLines r ≡ found (reservedLines (length (r .cells)))
+reserved-lines r k = run-complete {r = r} (reserved-run k)
 
 code-lines : (r : Run) → r .mark ≡ codeMark → runLines r ≡ codeLines (partsFrom (r .cells) 0 (r .from))
 unfolding runLines
 code-lines r k = rw (eq-eqb (r .mark) codeMark k)
 
--- one cell, then the others of its run
-holds-first : (os : List Entry) (x : ℕ) (es : List Entry) (f : Found)
-    → joinedBy os (found (Holds x ∷ es)) f ≡ joinedBy os (found (Holds x ∷ [])) (joinedBy [] (found es) f)
-holds-first os x es (found fs) = refl
-holds-first os x es (failing a) = refl
+-- one line, then the others of its run
+line-first : (os : List Entry) (e : Entry) (es : List Entry) (f : Found)
+    → joinedBy os (found (e ∷ es)) f ≡ joinedBy os (found (e ∷ [])) (joinedBy [] (found es) f)
+line-first os e es (found fs) = refl
+line-first os e es (failing a) = refl
 
 instructs-first : (os : List Entry) (i : Instruction) (p : Parts) (f : Found)
     → joinedBy os (codeLines (before i p)) f ≡ joinedBy os (found (Instructs i ∷ [])) (joinedBy [] (codeLines p) f)
@@ -115,11 +155,11 @@ none-first : (f : Found) → joinedBy [] (found []) f ≡ f
 none-first (found fs) = refl
 none-first (failing a) = refl
 
-data-join : (behind at k x : ℕ) (rs : List Run) → (k ≡ codeMark → ⊥)
+data-join : (behind at k x : ℕ) (rs : List Run) → (k ≡ codeMark → ⊥) → (k ≡ reservedMark → ⊥)
     → linesFrom behind (joined at k x rs) ≡ line-before behind at (Holds x) (linesFrom (at + 1) rs)
 unfolding linesFrom
-data-join behind at k x [] n = rw (data-lines (run at k (x ∷ [])) n)
-data-join behind at k x (r ∷ rs) n = go (eqb (r .from) (at + 1)) (eqb (r .mark) k) refl refl
+data-join behind at k x [] n o = rw (data-lines (run at k (x ∷ [])) n o)
+data-join behind at k x (r ∷ rs) n o = go (eqb (r .from) (at + 1)) (eqb (r .mark) k) refl refl
   where
     go : (a b : Bool) → eqb (r .from) (at + 1) ≡ a → eqb (r .mark) k ≡ b
         → linesFrom behind (cond (a && b) (run at k (x ∷ r .cells) ∷ rs) (run at k (x ∷ []) ∷ r ∷ rs))
@@ -129,15 +169,15 @@ data-join behind at k x (r ∷ rs) n = go (eqb (r .from) (at + 1)) (eqb (r .mark
         let m = eqb-true (r .mark) k q in
         let z : at + suc (length (r .cells)) ≡ r .from + length (r .cells) = omega arith in
         let u : linesFrom (at + 1) (r ∷ rs) ≡ joinedBy [] (found (map Holds (r .cells))) (linesFrom (r .from + length (r .cells)) rs) =
-        rw (p, data-lines r (λ e. n (sym m ∙ e))) in
+        rw (p, data-lines r (λ e. n (sym m ∙ e)) (λ e. o (sym m ∙ e))) in
         let v : linesFrom behind (run at k (x ∷ r .cells) ∷ rs)
         ≡ joinedBy (originAt behind at) (found (Holds x ∷ map Holds (r .cells))) (linesFrom (at + suc (length (r .cells))) rs) =
-        rw (data-lines (run at k (x ∷ r .cells)) n) in
+        rw (data-lines (run at k (x ∷ r .cells)) n o) in
         v ∙ ap (λ (a : ℕ). joinedBy (originAt behind at) (found (Holds x ∷ map Holds (r .cells))) (linesFrom a rs)) z
-        ∙ holds-first (originAt behind at) x (map Holds (r .cells)) (linesFrom (r .from + length (r .cells)) rs)
+        ∙ line-first (originAt behind at) (Holds x) (map Holds (r .cells)) (linesFrom (r .from + length (r .cells)) rs)
         ∙ ap (line-before behind at (Holds x)) (sym u)
-    go true false p q = rw (data-lines (run at k (x ∷ [])) n)
-    go false b p q = rw (data-lines (run at k (x ∷ [])) n)
+    go true false p q = rw (data-lines (run at k (x ∷ [])) n o)
+    go false b p q = rw (data-lines (run at k (x ∷ [])) n o)
 
 module _ (memory marks : List ℕ) (alike : length marks ≡ length memory) where
   abbrev runs : ℕ → List Run
@@ -164,35 +204,35 @@ module _ (memory marks : List ℕ) (alike : length marks ≡ length memory) wher
   rest-free behind at h e = ap (linesFrom behind) (step at h ∙ rw (eq-eqb (getD marks at free) free e))
 
   pub rest-data : (behind at : ℕ) → at < length memory → (getD marks at free ≡ free → ⊥) → (getD marks at free ≡ codeMark → ⊥)
+      → (getD marks at free ≡ reservedMark → ⊥)
       → rest memory marks behind at ≡ line-before behind at (Holds (getD memory at 0)) (rest memory marks (at + 1) (at + 1))
-  rest-data behind at h n m =
+  rest-data behind at h n m o =
       ap (linesFrom behind) (step at h ∙ rw (ne-eqb (getD marks at free) free n))
-      ∙ data-join behind at (getD marks at free) (getD memory at 0) (runs (at + 1)) m
+      ∙ data-join behind at (getD marks at free) (getD memory at 0) (runs (at + 1)) m o
 
-  -- ---- a code cell
+  -- ---- the run that begins at a claimed cell
 
-  -- the run that begins here
-  record Here (at : ℕ) : Type 0 where
+  record Here (at k : ℕ) : Type 0 where
     first : Run
     others : List Run
     are : runs at ≡ first ∷ others
     fits : FirstRun memory marks at first
     later : Runs memory marks (first .from + length (first .cells)) others
     begins : first .from ≡ at
-    is-code : first .mark ≡ codeMark
+    marked : first .mark ≡ k
 
-  here : (at : ℕ) → at < length memory → getD marks at free ≡ codeMark → Here at
-  here at h k = go refl (there at (omega arith))
+  here : (at k : ℕ) → at < length memory → getD marks at free ≡ k → (k ≡ free → ⊥) → Here at k
+  here at k h m claimed = go refl (there at (omega arith))
     where
       begins : (r : Run) → FirstRun memory marks at r → r .from ≡ at
       begins r c =
           elim (decLt at (r .from)) [
-            | yes l ↦ let z = c .between at (omega arith) l in absurd (omega (arith, z, k))
+            | yes l ↦ absurd (claimed (sym m ∙ c .between at (omega arith) l))
             | no l ↦ omega (arith, c .further)
           ]
 
-      go : {rs : List Run} → runs at ≡ rs → Runs memory marks at rs → Here at
-      go e (over f) = let z = f at (omega arith) in absurd (omega (arith, z, k))
+      go : {rs : List Run} → runs at ≡ rs → Runs memory marks at rs → Here at k
+      go e (over f) = absurd (claimed (sym m ∙ f at (omega arith)))
       go e (next {rs = ts} {r = r} c d) =
           let b = begins r c in
           let z : r .from + 0 ≡ at = omega arith in
@@ -203,12 +243,12 @@ module _ (memory marks : List ℕ) (alike : length marks ≡ length memory) wher
             fits = c;
             later = d;
             begins = b;
-            is-code = sym (c .agrees 0 (c .some) .1) ∙ ap (λ (a : ℕ). getD marks a free) z ∙ k;
+            marked = sym (c .agrees 0 (c .some) .1) ∙ ap (λ (a : ℕ). getD marks a free) z ∙ m;
           }
 
   -- its cells are memory's from there on
-  cells-are : (at : ℕ) (t : Here at) → take (length (t .first .cells)) (drop at memory) ≡ t .first .cells
-  cells-are at t =
+  cells-are : (at k : ℕ) (t : Here at k) → take (length (t .first .cells)) (drop at memory) ≡ t .first .cells
+  cells-are at k t =
       let c = t .fits in
       let n = length (t .first .cells) in
       let y = length-take-le n (drop at memory) (omega (arith, length-drop at memory, c .within, t .begins)) in
@@ -216,15 +256,78 @@ module _ (memory marks : List ℕ) (alike : length marks ≡ length memory) wher
       (λ j h. let l : j < n = omega (arith, h, y) in
       getD-take n (drop at memory) j 0 l ∙ getD-drop at memory j 0 ∙ ap (λ (a : ℕ). getD memory (a + j) 0) (sym (t .begins)) ∙ c .agrees j l .0)
 
-  lines-here : (behind at : ℕ) (t : Here at)
+  -- its lines, and those of the runs behind it
+  lines-here : (behind at k : ℕ) (t : Here at k)
+      → rest memory marks behind at
+      ≡ joinedBy (originAt behind at) (runLines (run at k (t .first .cells))) (linesFrom (at + length (t .first .cells)) (t .others))
+  unfolding linesFrom
+  lines-here behind at k t =
+      let r = t .first in
+      let z : r ≡ run at k (r .cells) =
+      ap (λ (a : ℕ). run a (r .mark) (r .cells)) (t .begins) ∙ ap (λ (m : ℕ). run at m (r .cells)) (t .marked) in
+      ap (linesFrom behind) (t .are) ∙ ap (λ (q : Run). linesFrom behind (q ∷ t .others)) z
+
+  -- ---- a reserved cell
+
+  module _ (at : ℕ) (below : at < length memory) (k : getD marks at free ≡ reservedMark) where
+    reserved-here : Here at reservedMark
+    reserved-here = here at reservedMark below k (λ e. absurd (omega (arith, e)))
+
+    -- how long it is
+    size-here : ℕ
+    size-here = length (reserved-here .first .cells)
+
+    -- its cells are there, each with its mark, and the mark behind them is another
+    inside-here : (0 < size-here) × (at + size-here ≤ length memory)
+    unfolding size-here
+    inside-here = let c = reserved-here .fits in (c .some, omega (arith, c .within, reserved-here .begins))
+
+    marks-here : (j : ℕ) → j < size-here → getD marks (at + j) free ≡ reservedMark
+    unfolding size-here
+    marks-here j l =
+        ap (λ (a : ℕ). getD marks (a + j) free) (sym (reserved-here .begins)) ∙ reserved-here .fits .agrees j l .1 ∙ reserved-here .marked
+
+    stops-here : getD marks (at + size-here) free ≡ reservedMark → ⊥
+    unfolding size-here
+    stops-here e =
+        reserved-here .fits .stops
+        (ap (λ (a : ℕ). getD marks (a + length (reserved-here .first .cells)) free) (reserved-here .begins) ∙ e ∙ sym (reserved-here .marked))
+
+    -- how many cells are reserved from one of them on
+    count-here : (j : ℕ) → j ≤ size-here → reservedRun (drop (at + j) marks) ≡ size-here - j
+    count-here j h =
+        reserved-count marks (at + j) (size-here - j)
+        (λ i l. let z : at + j + i ≡ at + (j + i) = omega arith in
+        ap (λ (a : ℕ). getD marks a free) z ∙ marks-here (j + i) (omega (arith, l)))
+        (λ e. let z : at + j + (size-here - j) ≡ at + size-here = omega (arith, h) in
+        stops-here (ap (λ (a : ℕ). getD marks a free) (sym z) ∙ e))
+
+    all-here : reservedRun (drop at marks) ≡ size-here
+    all-here = let z : at + 0 ≡ at = omega arith in ap (λ (a : ℕ). reservedRun (drop a marks)) (sym z) ∙ count-here 0 (omega arith) ∙ sub-zero size-here
+
+    -- the lines of the run, and those behind it
+    rest-run : (behind : ℕ) → rest memory marks behind at
+        ≡ joinedBy (originAt behind at) (found (reservedLines size-here)) (rest memory marks (at + size-here) (at + size-here))
+    unfolding size-here
+    rest-run behind =
+        let n = length (reserved-here .first .cells) in
+        let z : reserved-here .first .from + n ≡ at + n = ap (λ (a : ℕ). a + n) (reserved-here .begins) in
+        let y : reserved-here .others ≡ runs (at + n) =
+        one-list memory marks (subst (λ (a : ℕ). Runs memory marks a (reserved-here .others)) z (reserved-here .later))
+        (there (at + n) (inside-here .1)) in
+        lines-here behind at reservedMark reserved-here
+        ∙ ap₂ (λ (f g : Found). joinedBy (originAt behind at) f g) (reserved-lines (run at reservedMark (reserved-here .first .cells)) refl)
+        (ap (linesFrom (at + n)) y)
+
+  -- ---- a code cell
+
+  code-here : (behind at : ℕ) (t : Here at codeMark)
       → rest memory marks behind at
       ≡ joinedBy (originAt behind at) (codeLines (partsFrom (t .first .cells) 0 at)) (linesFrom (at + length (t .first .cells)) (t .others))
-  unfolding linesFrom
-  lines-here behind at t =
-      let r = t .first in
-      ap (linesFrom behind) (t .are)
-      ∙ ap (λ (f : Found). joinedBy (originAt behind (r .from)) f (linesFrom (r .from + length (r .cells)) (t .others))) (code-lines r (t .is-code))
-      ∙ ap (λ (a : ℕ). joinedBy (originAt behind a) (codeLines (partsFrom (r .cells) 0 a)) (linesFrom (a + length (r .cells)) (t .others))) (t .begins)
+  code-here behind at t =
+      lines-here behind at codeMark t
+      ∙ ap (λ (f : Found). joinedBy (originAt behind at) f (linesFrom (at + length (t .first .cells)) (t .others)))
+      (code-lines (run at codeMark (t .first .cells)) refl)
 
   -- an instruction whose words are all marked as code
   module _ (behind at : ℕ) (below : at < length memory) (i : Instruction) (n : Address) (read : decodeOf memory at ≡ D.Read i n)
@@ -232,10 +335,10 @@ module _ (memory marks : List ℕ) (alike : length marks ≡ length memory) wher
     read-here : Returns memory at i n
     read-here = encode-decode memory at i n read
 
-    t : Here at
+    t : Here at codeMark
     t =
         let z = read-here .onward in
-        here at below (coded at (omega arith) z)
+        here at codeMark below (coded at (omega arith) z) (λ e. absurd (omega (arith, e)))
 
     size : ℕ
     size = n .0 - at
@@ -247,7 +350,7 @@ module _ (memory marks : List ℕ) (alike : length marks ≡ length memory) wher
         let b = t .begins in
         elim (decLt (length (t .first .cells)) (n .0 - at)) [
           | yes l ↦
-              absurd (c .stops (coded (t .first .from + length (t .first .cells)) (omega (arith, b)) (omega (arith, b)) ∙ sym (t .is-code)))
+              absurd (c .stops (coded (t .first .from + length (t .first .cells)) (omega (arith, b)) (omega (arith, b)) ∙ sym (t .marked)))
           | no l ↦ omega arith
         ]
 
@@ -257,7 +360,7 @@ module _ (memory marks : List ℕ) (alike : length marks ≡ length memory) wher
     words : wordsOf i ≡ take size (t .first .cells)
     unfolding size
     words =
-        read-here .its-words ∙ sym (take-take size (length (t .first .cells)) (drop at memory) inside) ∙ ap (take size) (cells-are at t)
+        read-here .its-words ∙ sym (take-take size (length (t .first .cells)) (drop at memory) inside) ∙ ap (take size) (cells-are at codeMark t)
 
     split : t .first .cells ≡ wordsOf i ++ more
     unfolding more
@@ -277,7 +380,7 @@ module _ (memory marks : List ℕ) (alike : length marks ≡ length memory) wher
     held : HoldCells memory marks at (wordsOf i ++ more) codeMark
     held =
         subst (λ (ws : List ℕ). HoldCells memory marks at ws codeMark) split
-        (subst (λ (k : ℕ). HoldCells memory marks at (t .first .cells) k) (t .is-code)
+        (subst (λ (k : ℕ). HoldCells memory marks at (t .first .cells) k) (t .marked)
         (subst (λ (a : ℕ). HoldCells memory marks a (t .first .cells) (t .first .mark)) (t .begins) (t .fits .agrees)))
 
     -- where the run ends
@@ -294,7 +397,7 @@ module _ (memory marks : List ℕ) (alike : length marks ≡ length memory) wher
           within = omega (arith, ends-at, t .fits .within);
           agrees = subst (λ (a : ℕ). HoldCells memory marks a more codeMark) z (second-part memory marks at codeMark (wordsOf i) more held);
           claimed = λ e. absurd (omega (arith, e));
-          stops = λ e. t .fits .stops (ap (λ (a : ℕ). getD marks a free) ends-at ∙ e ∙ sym (t .is-code));
+          stops = λ e. t .fits .stops (ap (λ (a : ℕ). getD marks a free) ends-at ∙ e ∙ sym (t .marked));
         }
 
     runs-next : Runs memory marks (n .0) (runs (n .0))
@@ -329,7 +432,7 @@ module _ (memory marks : List ℕ) (alike : length marks ≡ length memory) wher
         let z : at + length (wordsOf i) ≡ n .0 = omega (arith, words-size, behind-it) in
         let os = originAt behind at in
         let f = linesFrom (n .0 + length more) (t .others) in
-        lines-here behind at t
+        code-here behind at t
         ∙ ap₂ (λ (p : Parts) (g : Found). joinedBy os (codeLines p) g)
         (ap (λ (ws : List ℕ). partsFrom ws 0 at) split ∙ parts-head i more at (read-here .is-allowed)) last-lines
         ∙ ap (λ (a : ℕ). joinedBy os (codeLines (before i (partsFrom more 0 a))) f) z
@@ -342,11 +445,11 @@ module _ (memory marks : List ℕ) (alike : length marks ≡ length memory) wher
       → rest memory marks behind at ≡ failing at
   unfolding partsFrom
   rest-bad behind at h k bad =
-      lines-here behind at s
+      code-here behind at s
       ∙ ap (λ (p : Parts). joinedBy (originAt behind at) (codeLines p) (linesFrom (at + length (s .first .cells)) (s .others))) (parts (s .first .cells) refl)
     where
-      s : Here at
-      s = here at h k
+      s : Here at codeMark
+      s = here at codeMark h k (λ e. absurd (omega (arith, e)))
 
       no-read : (i : Instruction) (n : Address) → decodeOf (s .first .cells) 0 ≡ D.Read i n → ⊥
       no-read i n e =
@@ -355,10 +458,10 @@ module _ (memory marks : List ℕ) (alike : length marks ≡ length memory) wher
           let z : n .0 - 0 ≡ length (wordsOf i) = omega (arith, l) in
           let w : take (length (wordsOf i)) (drop at memory) ≡ wordsOf i =
           sym (take-take (length (wordsOf i)) (length (s .first .cells)) (drop at memory) (omega (arith, l, r .within)))
-          ∙ ap (take (length (wordsOf i))) (cells-are at s) ∙ ap (λ (k : ℕ). take k (s .first .cells)) (sym z) ∙ sym (r .its-words) in
+          ∙ ap (take (length (wordsOf i))) (cells-are at codeMark s) ∙ ap (λ (k : ℕ). take k (s .first .cells)) (sym z) ∙ sym (r .its-words) in
           bad i (record { 0 = at + length (wordsOf i) }) (decode-there i memory at (r .is-allowed) w)
           (λ a u v. let j : s .first .from + (a - at) ≡ a = omega (arith, s .begins) in
-          ap (λ (x : ℕ). getD marks x free) (sym j) ∙ s .fits .agrees (a - at) (omega (arith, l, r .within)) .1 ∙ s .is-code)
+          ap (λ (x : ℕ). getD marks x free) (sym j) ∙ s .fits .agrees (a - at) (omega (arith, l, r .within)) .1 ∙ s .marked)
 
       by : (w : ℕ) (ws : List ℕ) → s .first .cells ≡ w ∷ ws → (d : Decoded) → decodeOf (w ∷ ws) 0 ≡ d
           → partsBy at d (λ more. partsFrom ws more (at + 1)) ≡ fails at
@@ -403,17 +506,58 @@ module _ (memory marks : List ℕ) (alike : length marks ≡ length memory) wher
   goes-code behind at h k D.NoRegister e = rest-bad behind at h k (λ j m f c. never (cc))
   goes-code behind at h k D.PastMemory e = rest-bad behind at h k (λ j m f c. never (cc))
 
-  pub goes : (behind at : ℕ) → at < length memory → Goes behind at (beginsAt memory marks at)
-  unfolding beginsAt
-  goes behind at h = go (eqb (getD marks at free) free) (eqb (getD marks at free) codeMark) refl refl
+  -- "a run of 65,536 as `RES 65535`, `RES 1`" (02, K2): what is left behind the first of them is reserved too
+  goes-reserved : (behind at : ℕ) → at < length memory → length memory ≤ mostCells → getD marks at free ≡ reservedMark
+      → Goes behind at (reservedBy at (reservedRun (drop at marks)))
+  unfolding reservedLines
+  goes-reserved behind at h m k =
+      subst (λ (n : ℕ). Goes behind at (reservedBy at n)) (sym (all-here at h k)) (go (leb size 65535) refl)
     where
-      go : (a b : Bool) → eqb (getD marks at free) free ≡ a → eqb (getD marks at free) codeMark ≡ b
+      size : ℕ
+      size = size-here at h k
+
+      go : (b : Bool) → leb size 65535 ≡ b
+          → Goes behind at (cond b (B.Line (Reserves size) (record { 0 = at + size })) (B.Line (Reserves 65535) (record { 0 = at + 65535 })))
+      go true e = let i = inside-here at h k in (rest-run at h k behind ∙ rw e, omega (arith, i .0), i .1, tt)
+      go false e =
+          let l = leb-false size 65535 e in
+          let i = inside-here at h k in
+          let below : at + 65535 < length memory = omega (arith, l, i .1) in
+          let j = marks-here at h k 65535 l in
+          let left : size-here (at + 65535) below j ≡ size - 65535 =
+          sym (all-here (at + 65535) below j) ∙ count-here at h k 65535 (omega (arith, l)) in
+          let z : at + 65535 + (size - 65535) ≡ at + size = omega (arith, l) in
+          let f = rest memory marks (at + size) (at + size) in
+          let y : rest memory marks (at + 65535) (at + 65535) ≡ joinedBy [] (found (Reserves (size - 65535) ∷ [])) f =
+          rest-run (at + 65535) below j (at + 65535)
+          ∙ rw (left, eq-eqb (at + 65535) (at + 65535) refl, le-leb (size - 65535) 65535 (omega (arith, i .1, m)), z) in (
+            rest-run at h k behind ∙ rw e (line-first (originAt behind at) (Reserves 65535) (Reserves (size - 65535) ∷ []) f)
+                ∙ ap (line-before behind at (Reserves 65535)) (sym y),
+            omega arith,
+            omega (arith, l, i .1),
+            tt,
+          )
+
+  pub goes : (behind at : ℕ) → at < length memory → length memory ≤ mostCells → Goes behind at (beginsAt memory marks at)
+  unfolding beginsAt
+  goes behind at h m =
+      go (eqb (getD marks at free) free) (eqb (getD marks at free) codeMark) (eqb (getD marks at free) reservedMark) refl refl refl
+    where
+      go : (a b c : Bool) → eqb (getD marks at free) free ≡ a → eqb (getD marks at free) codeMark ≡ b → eqb (getD marks at free) reservedMark ≡ c
           → Goes behind at
-          (cond a B.Nothing (cond b (codeBy marks at (decodeOf memory at)) (B.Line (Holds (getD memory at 0)) (record { 0 = at + 1 }))))
-      go true b p q = rest-free behind at h (eqb-true (getD marks at free) free p)
-      go false true p q = goes-code behind at h (eqb-true (getD marks at free) codeMark q) (decodeOf memory at) refl
-      go false false p q =
-          (rest-data behind at h (eqb-false (getD marks at free) free p) (eqb-false (getD marks at free) codeMark q), omega arith, omega arith, tt)
+          (cond a B.Nothing
+          (cond b (codeBy marks at (decodeOf memory at))
+          (cond c (reservedBy at (reservedRun (drop at marks))) (B.Line (Holds (getD memory at 0)) (record { 0 = at + 1 })))))
+      go true b c p q r = rest-free behind at h (eqb-true (getD marks at free) free p)
+      go false true c p q r = goes-code behind at h (eqb-true (getD marks at free) codeMark q) (decodeOf memory at) refl
+      go false false true p q r = goes-reserved behind at h m (eqb-true (getD marks at free) reservedMark r)
+      go false false false p q r = (
+        rest-data behind at h (eqb-false (getD marks at free) free p) (eqb-false (getD marks at free) codeMark q)
+            (eqb-false (getD marks at free) reservedMark r),
+        omega arith,
+        omega arith,
+        tt,
+      )
 
 -- ---- the text
 
@@ -441,7 +585,18 @@ module _ (memory marks : List ℕ) (at : ℕ) where
   unfolding beginsAt
   begins-code n e h = rw (ne-eqb (getD marks at free) free n, eq-eqb (getD marks at free) codeMark e) h
 
-  pub begins-data : (getD marks at free ≡ free → ⊥) → (getD marks at free ≡ codeMark → ⊥)
+  pub begins-reserved : getD marks at free ≡ reservedMark → {b : Begins} → b ≡ reservedBy at (reservedRun (drop at marks))
+      → b ≡ beginsAt memory marks at
+  unfolding beginsAt
+  begins-reserved e h =
+      rw (
+        ne-eqb (getD marks at free) free (λ z. absurd (omega (arith, e, z))),
+        ne-eqb (getD marks at free) codeMark (λ z. absurd (omega (arith, e, z))),
+        eq-eqb (getD marks at free) reservedMark e,
+      ) h
+
+  pub begins-data : (getD marks at free ≡ free → ⊥) → (getD marks at free ≡ codeMark → ⊥) → (getD marks at free ≡ reservedMark → ⊥)
       → B.Line (Holds (getD memory at 0)) (record { 0 = at + 1 }) ≡ beginsAt memory marks at
   unfolding beginsAt
-  begins-data n m = rw (ne-eqb (getD marks at free) free n, ne-eqb (getD marks at free) codeMark m)
+  begins-data n m o =
+      rw (ne-eqb (getD marks at free) free n, ne-eqb (getD marks at free) codeMark m, ne-eqb (getD marks at free) reservedMark o)

@@ -14,7 +14,7 @@ use Rattle.isa.specs.declared.Operand.the-variants.{Absent, Immediate, Register
 use Rattle.names.specs.Names.{registers}
 use Rattle.listing.specs.Pieces.{Piece, word, number, mark, space, textOf}
 use Rattle.listing.specs.declared.Entry.{Entry}
-use Rattle.listing.specs.declared.Entry.the-variants.{Origin, Instructs, Holds, Finish}
+use Rattle.listing.specs.declared.Entry.the-variants.{Origin, Instructs, Holds, Reserves, Finish}
 
 -- ---- operands
 
@@ -64,11 +64,12 @@ fieldPieces a b = cond (present a) (space ∷ operandPieces a ++ cond (present b
 
 -- ---- lines
 
--- `ORG`, an instruction, a number of `DATA`, `END`
+-- `ORG`, an instruction, a number of `DATA`, `RES n` (02, K2), `END`
 abbrev pub entryPieces : Entry → List Piece
 entryPieces (Origin a) = word (bytes "ORG") ∷ space ∷ number (a .0) ∷ []
 entryPieces (Instructs i) = word (bytes (table (i .op) .name)) ∷ fieldPieces (i .first) (i .second)
 entryPieces (Holds x) = word (bytes "DATA") ∷ space ∷ number x ∷ []
+entryPieces (Reserves n) = word (bytes "RES") ∷ space ∷ number n ∷ []
 entryPieces Finish = word (bytes "END") ∷ []
 
 abbrev pub lineOf : Entry → List ℕ

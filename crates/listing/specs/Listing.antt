@@ -1,29 +1,34 @@
--- The lines of a memory and its map, and what `list` replies and leaves in the room, without a walk (02, K1).
-use Prim.Native.Nat.{ℕ, _+_, _≤_, _<_}
+-- The lines of a memory and its map, and what `list` replies and leaves in the room, without a walk (02, K1 and K2).
+use Prim.Native.Nat.{ℕ, _+_, _-_, _≤_, _<_}
 use mathlib.Core.Bool.{Bool, true, false, cond}
 use mathlib.Core.List.{List, [], _∷_, _++_, map}
 use mathlib.Core.Logic.{_⊎_}
 use mathlib.Core.Path.{_≡_}
-use lib.Dec.{eqb}
+use lib.Dec.{eqb, leb}
 use lib.ListN.{length, drop}
 use Rattle.codes.specs.Limits.{longestSource}
-use Rattle.codes.specs.Marks.{codeMark}
+use Rattle.codes.specs.Marks.{codeMark, reservedMark}
 use Rattle.isa.specs.declared.Instruction.{Instruction}
 use Rattle.image.specs.Printing.{goodLoan}
 use Rattle.listing.specs.Lines.{textOfLines}
 use Rattle.listing.specs.Runs.{Run, Runs}
 use Rattle.listing.specs.Decodes.{Instructions, FirstUndecoded}
 use Rattle.listing.specs.declared.Entry.{Entry}
-use Rattle.listing.specs.declared.Entry.the-variants.{Origin, Instructs, Holds, Finish}
+use Rattle.listing.specs.declared.Entry.the-variants.{Origin, Instructs, Holds, Reserves, Finish}
 use Rattle.listing.specs.declared.Listed.{Listed}
 use Rattle.listing.specs.declared.Listed.the-variants.{Done, BadLoan, Undecoded, TooLong}
 
 -- ---- the lines
 
+-- "K1 lists a run as `RES n` (a run of 65,536 as `RES 65535`, `RES 1`)" (02, K2)
+unfoldable pub reservedLines : ℕ → List Entry
+reservedLines n = cond (leb n 65535) (Reserves n ∷ []) (Reserves 65535 ∷ Reserves (n - 65535) ∷ [])
+
 -- "one instruction a line, one `DATA` number per data cell"
 pub data RunLines (r : Run) : List Entry → Type 0 where
   code-run : {is : List Instruction} → r .mark ≡ codeMark → Instructions (r .cells) is → RunLines r (map Instructs is)
-  data-run : (r .mark ≡ codeMark → ⊥) → RunLines r (map Holds (r .cells))
+  data-run : (r .mark ≡ codeMark → ⊥) → (r .mark ≡ reservedMark → ⊥) → RunLines r (map Holds (r .cells))
+  reserved-run : r .mark ≡ reservedMark → RunLines r (reservedLines (length (r .cells)))
 
 -- "`ORG` before each run of claimed cells that doesn't follow on from the one before, or from address 0 for the first"
 abbrev pub originAt : ℕ → ℕ → List Entry
@@ -81,7 +86,7 @@ abbrev pub given : List ℕ → List ℕ → Leaves
 given text room = record { refusal = 0; address = 0; text = length text; room = text ++ drop (length text) room }
 
 -- "Refusals in this order, nothing written: 1 bad lengths or a map mark outside 0..2; 2 a code run that doesn't decode within itself ..;
--- 3 text above the room lent or 32,768 bytes"; the loan is judged as printing judges it
+-- 3 text above the room lent or 32,768 bytes" (02, K1); "K1 and printing take marks 0..3" (02, K2): the loan is judged as printing judges it
 pub data Replies (memory marks room : List ℕ) : Leaves → Type 0 where
   bad-loan : goodLoan memory marks ≡ false → Replies memory marks room (refused 1 0 room)
   undecoded : {rs : List Run} {a : ℕ} → goodLoan memory marks ≡ true → Runs memory marks 0 rs → FirstBadRun rs a

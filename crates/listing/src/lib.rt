@@ -1,4 +1,4 @@
-// Memory and map listed as source (document 02, K1), in a lent room. The meaning is in specs/: Lines.antt has the lines and their text,
+// Memory and map listed as source (document 02, K1 and K2), in a lent room. The meaning is in specs/: Lines.antt has the lines and their text,
 // Listing.antt the refusals and what the room holds after.
 pub mod giving; // the listing, or why there is none
 mod lines; // a line, written
@@ -17,11 +17,12 @@ pub enum Listed {
     TooLong,
 }
 
-// A line of a listing: ORG, an instruction, a number of DATA, END.
+// A line of a listing: ORG, an instruction, a number of DATA, RES, END.
 pub enum Entry {
     Origin(Address),
     Instructs(Instruction),
     Holds(u16),
+    Reserves(u16),
     Finish,
 }
 

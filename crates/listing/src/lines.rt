@@ -40,6 +40,7 @@ fn entry(room: &mut [u8], at: usize, e: Entry) -> usize
         }
         Entry::Instructs(i) => instruction(room, at, i),
         Entry::Holds(x) => field(room, at, b"DATA ", x as u32),
+        Entry::Reserves(n) => field(room, at, b"RES ", n as u32),
         Entry::Finish => piece(room, at, b"END"),
     }
 }

@@ -2,13 +2,14 @@
 ghost use mathlib.Core.Path.{_≡_};
 ghost use mathlib.Core.Bool.{true};
 ghost use Prim.Native.Nat.{_≤_, _<_};
-ghost use lib.ListN.{length};
+ghost use lib.ListN.{length, drop};
 ghost use lib.Seq.{slice};
+ghost use Rattle.codes.specs.Limits.{mostCells};
 ghost use Rattle.isa.specs.Decoding.{decodeOf};
 ghost use Rattle.image.specs.Printing.{goodLoan};
 ghost use Rattle.ports.specs.Overwriting.{overwrite};
 ghost use Rattle.listing.specs.Inner.Walk.{linesOf};
-ghost use Rattle.listing.specs.Inner.Begins.{everyCode, codeBy, beginsAt, foundText, wasFound, measureOf};
+ghost use Rattle.listing.specs.Inner.Begins.{everyCode, codeBy, reservedRun, reservedBy, beginsAt, foundText, wasFound, measureOf};
 use super::Begins;
 use super::Entry;
 use super::Measured;
@@ -17,6 +18,7 @@ use super::lines::line_from;
 use super::lines::line_length;
 use codes::marks::CODE;
 use codes::marks::FREE;
+use codes::marks::RESERVED;
 use isa::Address;
 use isa::Decoded;
 use isa::decoding::decode;
@@ -56,8 +58,35 @@ fn code_at(memory: &[u16], map: &[u8], at: usize) -> Begins
     }
 }
 
+// How many cells from an address on are reserved, with no other between.
+fn reserved_run(map: &[u8], at: usize) -> usize
+    requires { ⌜ at ≤ length (now map) ⌝ }
+    ensures { λ r. ⌜ r ≡ reservedRun (drop at (now (map .entry))) ⌝ }
+{
+    let mut i = at;
+    while i < map.len() {
+        if map[i] != RESERVED {
+            return i - at;
+        }
+        i += 1;
+    }
+    i - at
+}
+
+// A run of reserved cells, as far as one RES goes: 65,535 cells.
+fn reserved_at(map: &[u8], at: usize) -> Begins
+    requires { ⌜ (at < length (now map)) × (length (now map) ≤ mostCells) ⌝ }
+    ensures { λ r. ⌜ r ≡ reservedBy at (reservedRun (drop at (now (map .entry)))) ⌝ }
+{
+    let n = reserved_run(map, at);
+    if n <= 65535 {
+        return Begins::Line(Entry::Reserves(n as u16), Address(at + n));
+    }
+    Begins::Line(Entry::Reserves(65535), Address(at + 65535))
+}
+
 fn begins_at(memory: &[u16], map: &[u8], at: usize) -> Begins
-    requires { ⌜ (length (now map) ≡ length (now memory)) × (at < length (now map)) ⌝ }
+    requires { ⌜ (length (now map) ≡ length (now memory)) × (at < length (now map)) × (length (now map) ≤ mostCells) ⌝ }
     ensures { λ r. ⌜ r ≡ beginsAt (now (memory .entry)) (now (map .entry)) at ⌝ }
 {
     let mark = map[at];
@@ -66,6 +95,9 @@ fn begins_at(memory: &[u16], map: &[u8], at: usize) -> Begins
     }
     if mark == CODE {
         return code_at(memory, map, at);
+    }
+    if mark == RESERVED {
+        return reserved_at(map, at);
     }
     Begins::Line(Entry::Holds(memory[at]), Address(at + 1))
 }

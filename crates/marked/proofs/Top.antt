@@ -59,4 +59,4 @@ assembled text cells mark row {memory} {map} p q reply =
     accepting : List ℕ → Reply
     accepting marks =
         let t = acceptance marks in
-        record { refusal = t .number; line = record { 0 = t .line }; code = t .code-cells; «data» = t .data-cells }
+        record { refusal = t .number; line = record { 0 = t .line }; code = t .code-cells; «data» = t .data-cells; reserved = t .reserved-cells }

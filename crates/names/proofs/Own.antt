@@ -9,11 +9,15 @@ use Rattle.numerals.specs.Bytes.{bytes}
 use Rattle.isa.specs.Opcodes.{table, opcodes}
 use Rattle.isa.proofs.Tests.{every-at}
 use Rattle.names.specs.Names.{capital, isNamed, statementWords, wordIn, wordOf, registers, placeIn, registerCode}
-use Rattle.names.specs.declared.Word.the-variants.{Org, Data, End}
+use Rattle.names.specs.declared.Word.the-variants.{Org, Res, Data, End}
 
 pub org-is-found : wordOf (bytes "ORG") ≡ Org
 unfolding wordOf wordIn statementWords isNamed capital opcodes table
 org-is-found = refl
+
+pub res-is-found : wordOf (bytes "RES") ≡ Res
+unfolding wordOf wordIn statementWords isNamed capital opcodes table
+res-is-found = refl
 
 pub data-is-found : wordOf (bytes "DATA") ≡ Data
 unfolding wordOf wordIn statementWords isNamed capital opcodes table

@@ -8,7 +8,7 @@ use native.Mathlib.Decide.{decLt}
 use native.Mathlib.Omega.{arith}
 use lib.ListN.{length, getD, take, drop, take-append-drop, length-append}
 use lib.Seq.{ext-getD, getD-take, length-take-le}
-use Rattle.codes.specs.Marks.{free, codeMark}
+use Rattle.codes.specs.Marks.{free, codeMark, largestMark}
 use Rattle.isa.specs.Encoding.{wordsOf, allowed}
 use Rattle.isa.specs.Decoding.{decodeOf, stopOf}
 use Rattle.isa.specs.declared.Decoded.the-variants as D
@@ -32,7 +32,7 @@ use Rattle.values.specs.declared.LabelIn.{LabelIn}
 use Rattle.sources.specs.Sources.{Said}
 use Rattle.sources.specs.Placing.{does, doesRead, Bound, judgedLine, nextFrom}
 use Rattle.sources.specs.Image.{wordIn, codeRead, givenBy, Block, blocksOf, Has, Apart, Image}
-use Rattle.sources.proofs.Contents.{statement-read}
+use Rattle.sources.proofs.Contents.{PassesAs, as-res, passes-as, statement-read}
 use Rattle.sources.proofs.Filling.{Read}
 use Rattle.sources.proofs.Images.{Somewhere, Nowhere, somewhere}
 use Rattle.sources.proofs.Small.{settled-allowed}
@@ -66,7 +66,14 @@ module _ (bs : List Bound) (bytes : List ℕ) (next : ℕ) where
   code-given (instruction op os) x e = code-read op os x (Operands.judged op os) refl
   code-given (org t) x e = inl refl
   code-given (equ t) x e = inl refl
-  code-given (res t) x e = inl refl
+  code-given (res t) x e = absurd (go (judged (res t)) refl e)
+    where
+      reserving : {s : Statement} → PassesAs (res t) s → does s .mark ≡ codeMark → ⊥
+      reserving (as-res f) e = omega arith
+
+      go : (s : StatementRead) → judged (res t) ≡ s → doesRead s .mark ≡ codeMark → ⊥
+      go (Passes s) q e = reserving (passes-as (res t) q) e
+      go (Fails why) q e = omega arith
   code-given (cells is) x e = absurd (go (allInRange is) e)
     where
       go : (b : Bool) → doesRead (cond b (Passes (S.Data (length (cellsOf is)))) (Fails F.OutOfRange)) .mark ≡ codeMark → ⊥
@@ -83,9 +90,9 @@ code-blocks bs (x ∷ xs) h at b (List·Memᴰ·head q) e =
     (code-given bs (x .bytes) (nextFrom at (judgedLine x)) (x .says) (h .0)) e
 code-blocks bs (x ∷ xs) h at b (List·Memᴰ·tail m) e = code-blocks bs xs (h .1) _ b m e
 
--- ---- marks are 0, 1 or 2
+-- ---- marks are 0 to 3
 
-mark-low : (s : Statement) → does s .mark ≤ 2
+mark-low : (s : Statement) → does s .mark ≤ largestMark
 unfolding does
 mark-low S.Nothing = omega arith
 mark-low (S.Instruction op a b) = omega arith
@@ -95,21 +102,21 @@ mark-low (S.Res v) = omega arith
 mark-low (S.Data n) = omega arith
 mark-low S.End = omega arith
 
-read-low : (s : StatementRead) → doesRead s .mark ≤ 2
+read-low : (s : StatementRead) → doesRead s .mark ≤ largestMark
 read-low (Passes s) = mark-low s
 read-low (Fails f) = omega arith
 
-pub low-blocks : (bs : List Bound) (xs : List Said) (at : ℕ) (b : Block) → List·Memᴰ b (blocksOf bs at xs) → b .mark ≤ 2
+pub low-blocks : (bs : List Bound) (xs : List Said) (at : ℕ) (b : Block) → List·Memᴰ b (blocksOf bs at xs) → b .mark ≤ largestMark
 unfolding blocksOf
 low-blocks bs [] at b m = elim m [ ]
-low-blocks bs (x ∷ xs) at b (List·Memᴰ·head q) = subst (λ (c : Block). c .mark ≤ 2) (sym q) (read-low (judged (x .says)))
+low-blocks bs (x ∷ xs) at b (List·Memᴰ·head q) = subst (λ (c : Block). c .mark ≤ largestMark) (sym q) (read-low (judged (x .says)))
 low-blocks bs (x ∷ xs) at b (List·Memᴰ·tail m) = low-blocks bs xs _ b m
 
-pub image-low : {M : ℕ} {bs : List Block} {memory marks : List ℕ} → Image M bs memory marks → ((b : Block) → List·Memᴰ b bs → b .mark ≤ 2)
-    → (a : ℕ) → getD marks a free ≤ 2
+pub image-low : {M : ℕ} {bs : List Block} {memory marks : List ℕ} → Image M bs memory marks → ((b : Block) → List·Memᴰ b bs → b .mark ≤ largestMark)
+    → (a : ℕ) → getD marks a free ≤ largestMark
 image-low {bs = bs} {memory} {marks} i h a = go (somewhere bs a)
   where
-    go : Somewhere bs a ⊎ Nowhere bs a → getD marks a free ≤ 2
+    go : Somewhere bs a ⊎ Nowhere bs a → getD marks a free ≤ largestMark
     go (inl (b, m, (j, l, e))) =
         let g = i .given b m j l .1 in
         let z = ap (λ (x : ℕ). getD marks x free) e in

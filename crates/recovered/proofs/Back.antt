@@ -7,7 +7,7 @@ use mathlib.Core.Path.{_≡_, refl, sym, ap, subst, _∙_}
 use native.Mathlib.Omega.{arith}
 use lib.ListN.{length, getD}
 use Rattle.codes.specs.Limits.{mostCells}
-use Rattle.codes.specs.Marks.{free, dataMark}
+use Rattle.codes.specs.Marks.{free, reservedMark, largestMark}
 use Rattle.image.proofs.Top as image
 use Rattle.image.proofs.Top.{Loan}
 use Rattle.statements.specs.FirstFailing.{Pass}
@@ -22,35 +22,36 @@ use Rattle.assembler.specs.declared.Reply.{Reply}
 use Rattle.assembler.proofs.Top as assembler
 use Rattle.listing.specs.Lines.{textOfLines}
 use Rattle.listing.specs.Listing.{Leaves, refused, given, Replies, bad-loan, undecoded, too-long, gives}
-use Rattle.listing.proofs.Cleared.{cleared, cleared-length, cleared-cells, cleared-free, free-unseen}
+use Rattle.listing.proofs.Cleared.{cleared, cleared-length, cleared-cells, cleared-free, cleared-reserved}
+use Rattle.listing.proofs.Cleared as Cleared
 use Rattle.listing.proofs.Exactly.{exactly}
-use Rattle.recovered.proofs.Placed.{good-accepted}
+use Rattle.recovered.proofs.Placed.{HoldZero, good-accepted}
 use Rattle.recovered.proofs.Listed.{lines-good, Lists, lists}
 use Rattle.recovered.proofs.Always.{code-blocks, low-blocks, image-low, runs-decode}
 
 -- ---- it comes back
 
 module _ {memory marks room text : List ℕ} (listing : Replies memory marks room (given text room)) (cells : (a : ℕ) → getD memory a 0 < 65536) where
-  pub back : ((a : ℕ) → getD marks a free ≡ free → getD memory a 0 ≡ 0) → Accepted (length memory) (length marks) text memory marks
-  back proviso =
+  pub back : HoldZero memory marks free → HoldZero memory marks reservedMark → Accepted (length memory) (length marks) text memory marks
+  back free-zero reserved-zero =
       let x : Lists memory marks text = lists listing in
       let l : Loan memory marks = x .loan in
-      let known : (a : ℕ) → a < length memory → getD marks a free ≤ dataMark = λ a h. l .known a (omega (arith, l .as-many)) in
-      let g = lines-good memory marks cells (l .not-too-many) known (x .has-runs) (x .has-lines) in
+      let known : (a : ℕ) → a < length memory → getD marks a free ≤ largestMark = λ a h. l .known a (omega (arith, l .as-many)) in
+      let g = lines-good memory marks cells (l .not-too-many) known reserved-zero (x .has-runs) (x .has-lines) in
       subst (λ (t : List ℕ). Accepted (length memory) (length marks) t memory marks) (x .its-text)
-      (good-accepted proviso (l .as-many) (l .some) (l .not-too-many) g (x .short))
+      (good-accepted free-zero (l .as-many) (l .some) (l .not-too-many) g (x .short))
 
--- what is listed of a memory is listed of it with 0 in its free cells
+-- what is listed of a memory is listed of it with 0 in its free and reserved cells
 pub unseen : {memory marks room : List ℕ} {l : Leaves} → Replies memory marks room l → Replies (cleared memory marks) marks room l
 unseen {memory} {marks} {room} {l} h =
-    exactly (cleared memory marks) marks room l .0 (free-unseen memory marks room ∙ exactly memory marks room l .1 h)
+    exactly (cleared memory marks) marks room l .0 (Cleared.unseen memory marks room ∙ exactly memory marks room l .1 h)
 
 module _ {memory marks room text : List ℕ} (listing : Replies memory marks room (given text room)) (cells : (a : ℕ) → getD memory a 0 < 65536) where
-  -- without the proviso: with 0 in its free cells
+  -- without the proviso: with 0 in those cells
   pub cleared-back : Accepted (length memory) (length marks) text (cleared memory marks) marks
   cleared-back =
       subst (λ (n : ℕ). Accepted n (length marks) text (cleared memory marks) marks) (cleared-length memory marks)
-      (back (unseen listing) (λ a. cleared-cells memory marks a (cells a)) (λ a z. cleared-free memory marks a z))
+      (back (unseen listing) (λ a. cleared-cells memory marks a (cells a)) (cleared-free memory marks) (cleared-reserved memory marks))
 
   -- ---- it settles
 

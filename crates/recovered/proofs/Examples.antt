@@ -1,4 +1,5 @@
--- Document 01's image, listed and assembled again; and a free cell that does not hold 0, which no listing brings back.
+-- Document 01's image and reserved cells, listed and assembled again; and a free and a reserved cell that do not hold 0, which no listing
+-- brings back.
 use Prim.Native.Nat.{ℕ, zero, suc, _<_}
 use Prim.Native.String.{String}
 use mathlib.Core.Bool.{Bool, true, _&&_}
@@ -20,7 +21,7 @@ use Rattle.sources.specs.Image.{Accepted}
 use Rattle.sources.proofs.Top as sources
 use Rattle.listing.specs.Pieces.{textOf}
 use Rattle.listing.specs.Lines.{textOfLines}
-use Rattle.listing.specs.Listing.{given, Replies}
+use Rattle.listing.specs.Listing.{reservedLines, given, Replies}
 use Rattle.listing.specs.Inner.Walk.{runsFrom, partsFrom, runLines, linesFrom, listOf}
 use Rattle.listing.proofs.Cleared.{cleared}
 use Rattle.listing.proofs.Exactly.{exactly}
@@ -64,6 +65,25 @@ pub printed-back : Accepted 16 16 printedText printed printedMap
 unfolding allCells cleared
 printed-back = cleared-back printed-gives (cells-by printed refl)
 
+-- ---- reserved cells
+
+abbrev pub reserved : List ℕ
+reserved = 0 ∷ 0 ∷ []
+
+abbrev pub reservedMap : List ℕ
+reservedMap = 3 ∷ 3 ∷ []
+
+abbrev pub reservedText : List ℕ
+reservedText = text ("RES 2" ∷ "END" ∷ [])
+
+pub reserved-gives : Replies reserved reservedMap room (given reservedText room)
+unfolding decimal decimalBefore reservedLines textOf textOfLines runsFrom runLines linesFrom knownMarks goodLoan listOf
+reserved-gives = exactly reserved reservedMap room (given reservedText room) .0 refl
+
+pub reserved-back : Accepted 2 2 reservedText reserved reservedMap
+unfolding allCells cleared
+reserved-back = cleared-back reserved-gives (cells-by reserved refl)
+
 -- ---- the proviso is not idle
 
 abbrev pub unclean : List ℕ
@@ -85,3 +105,24 @@ unclean-stays-away a =
     let b : Accepted 2 2 uncleanText (64 ∷ 0 ∷ []) uncleanMap = cleared-back unclean-gives (cells-by unclean refl) in
     let e : unclean ≡ 64 ∷ 0 ∷ [] = sources.one-image-only 2 2 uncleanText a b .0 in
     omega (arith, ap (λ (m : List ℕ). getD m 1 0) e)
+
+-- a reserved cell that was written
+abbrev pub written : List ℕ
+written = 7 ∷ []
+
+abbrev pub writtenMap : List ℕ
+writtenMap = 3 ∷ []
+
+abbrev pub writtenText : List ℕ
+writtenText = text ("RES 1" ∷ "END" ∷ [])
+
+pub written-gives : Replies written writtenMap room (given writtenText room)
+unfolding decimal decimalBefore reservedLines textOf textOfLines runsFrom runLines linesFrom knownMarks goodLoan listOf
+written-gives = exactly written writtenMap room (given writtenText room) .0 refl
+
+pub written-stays-away : Accepted 1 1 writtenText written writtenMap → ⊥
+unfolding allCells cleared
+written-stays-away a =
+    let b : Accepted 1 1 writtenText (0 ∷ []) writtenMap = cleared-back written-gives (cells-by written refl) in
+    let e : written ≡ 0 ∷ [] = sources.one-image-only 1 1 writtenText a b .0 in
+    omega (arith, ap (λ (m : List ℕ). getD m 0 0) e)

@@ -1,15 +1,15 @@
--- The lines of a memory and its map agree with them.
-use Prim.Native.Nat.{ℕ, suc, _+_, _≤_, _<_}
+-- The lines of a memory and its map agree with them, where its reserved cells hold 0.
+use Prim.Native.Nat.{ℕ, suc, _+_, _-_, _≤_, _<_}
 use mathlib.Core.Bool.{Bool, true, false, cond}
 use mathlib.Core.List.{List, [], _∷_, _++_, map, append-nil}
 use mathlib.Core.Path.{_≡_, refl, sym, ap, subst, _∙_}
 use native.Mathlib.Omega.{arith}
-use lib.Dec.{eqb}
-use lib.ListN.{length, getD, take, drop, length-append, List·getD-append}
+use lib.Dec.{eqb, leb}
+use lib.ListN.{length, getD, take, drop, length-append, length-replicate, List·getD-append}
 use lib.Seq.{getD-append-add, take-append-seam}
-use borrow.Author.Tests.{eqb-true}
-use Rattle.codes.specs.Limits.{longestSource}
-use Rattle.codes.specs.Marks.{free, codeMark, dataMark}
+use borrow.Author.Tests.{eqb-true, leb-true, leb-false}
+use Rattle.codes.specs.Limits.{mostCells, longestSource}
+use Rattle.codes.specs.Marks.{free, codeMark, dataMark, reservedMark, largestMark}
 use Rattle.image.proofs.Top as image
 use Rattle.image.proofs.Top.{Loan}
 use Rattle.isa.specs.Encoding.{wordsOf, allowed}
@@ -18,15 +18,16 @@ use Rattle.isa.specs.Operands.{operandWords}
 use Rattle.isa.specs.declared.Instruction.{Instruction}
 use Rattle.isa.specs.declared.Operand.{Operand}
 use Rattle.isa.specs.declared.Operand.the-variants as O
+use Rattle.sources.proofs.Stores.{zero-there}
 use Rattle.listing.specs.Decodes.{Instructions, none, then}
 use Rattle.listing.specs.Lines.{textOfLines}
-use Rattle.listing.specs.Listing.{RunLines, code-run, data-run, originAt, LinesOf, ends, one-run, Leaves, given, Replies, bad-loan, undecoded, too-long}
+use Rattle.listing.specs.Listing.{reservedLines, RunLines, code-run, data-run, reserved-run, originAt, LinesOf, ends, one-run, Leaves, given, Replies, bad-loan, undecoded, too-long}
 use Rattle.listing.specs.Listing as L
 use Rattle.listing.specs.Runs.{Run, HoldCells, FirstRun, Runs, over, next}
 use Rattle.listing.specs.declared.Entry.{Entry}
-use Rattle.listing.specs.declared.Entry.the-variants.{Origin, Instructs, Holds}
+use Rattle.listing.specs.declared.Entry.the-variants.{Origin, Instructs, Holds, Reserves}
 use Rattle.recovered.proofs.Said.{Sound}
-use Rattle.recovered.proofs.Placed.{Good, ends-here, skips, gives}
+use Rattle.recovered.proofs.Placed.{HoldZero, Good, ends-here, skips, gives}
 
 -- ---- an instruction whose words are cells can be written
 
@@ -65,8 +66,8 @@ module _ (memory marks : List ℕ) (at k : ℕ) (xs ys : List ℕ) (h : HoldCell
       let z : at + length xs + i ≡ at + (length xs + i) = omega arith in
       (ap (λ (a : ℕ). getD memory a 0) z ∙ p .0 ∙ getD-append-add xs ys i 0, ap (λ (a : ℕ). getD marks a free) z ∙ p .1)
 
-module _ (memory marks : List ℕ) (cells : (a : ℕ) → getD memory a 0 < 65536) (most : length memory ≤ 65536)
-    (known : (a : ℕ) → a < length memory → getD marks a free ≤ dataMark) where
+module _ (memory marks : List ℕ) (cells : (a : ℕ) → getD memory a 0 < 65536) (most : length memory ≤ mostCells)
+    (known : (a : ℕ) → a < length memory → getD marks a free ≤ largestMark) (reserved-zero : HoldZero memory marks reservedMark) where
   below : (at : ℕ) (xs : List ℕ) (k : ℕ) → HoldCells memory marks at xs k → Below xs
   below at xs k h j l = subst (λ (x : ℕ). x < 65536) (h j l .0) (cells (at + j))
 
@@ -91,14 +92,45 @@ module _ (memory marks : List ℕ) (cells : (a : ℕ) → getD memory a 0 < 6553
       gives (Instructs i) (sound i e (below at (wordsOf i) codeMark f)) f (omega arith)
       (code-good r (at + length (wordsOf i)) (second-part memory marks at codeMark (wordsOf i) ws h) (omega arith) (subst (λ (a : ℕ). Good memory marks a fs) z g))
 
+  -- so many reserved cells, as one RES and as the lines of a run
+  abbrev Reserved : ℕ → ℕ → Type 0
+  Reserved at n = (i : ℕ) → i < n → getD marks (at + i) free ≡ reservedMark
+
+  reserve-good : (n at : ℕ) {fs : List Entry} → n < 65536 → Reserved at n → at + n ≤ length memory → Good memory marks (at + n) fs
+      → Good memory marks at (Reserves n ∷ fs)
+  reserve-good n at {fs} h k l g =
+      let e = length-replicate {A = ℕ} n 0 in
+      gives (Reserves n) h
+      (λ i t. let m = k i (omega arith) in (reserved-zero (at + i) m ∙ sym (zero-there n i), m))
+      (omega arith)
+      (subst (λ (c : ℕ). Good memory marks (at + c) fs) (sym e) g)
+
+  reserved-good : (n at : ℕ) {fs : List Entry} → Reserved at n → at + n ≤ length memory → Good memory marks (at + n) fs
+      → Good memory marks at (reservedLines n ++ fs)
+  unfolding reservedLines
+  reserved-good n at {fs} k l g = go (leb n 65535) refl
+    where
+      go : (b : Bool) → leb n 65535 ≡ b
+          → Good memory marks at (cond b (Reserves n ∷ []) (Reserves 65535 ∷ Reserves (n - 65535) ∷ []) ++ fs)
+      go true e = reserve-good n at (omega (arith, leb-true n 65535 e)) k l g
+      go false e =
+          let f = leb-false n 65535 e in
+          let z : at + n ≡ at + 65535 + (n - 65535) = omega arith in
+          reserve-good 65535 at (omega arith) (λ i t. k i (omega arith)) (omega arith)
+          (reserve-good (n - 65535) (at + 65535) (omega arith)
+          (λ i t. let y : at + 65535 + i ≡ at + (65535 + i) = omega arith in ap (λ (a : ℕ). getD marks a free) y ∙ k (65535 + i) (omega arith))
+          (omega arith)
+          (subst (λ (a : ℕ). Good memory marks a fs) z g))
+
   -- a run
   run-good : {at : ℕ} (r : Run) → FirstRun memory marks at r → {xs fs : List Entry} → RunLines r xs
       → Good memory marks (r .from + length (r .cells)) fs → Good memory marks (r .from) (xs ++ fs)
   run-good r c (code-run k is) g =
       code-good is (r .from) (subst (λ (m : ℕ). HoldCells memory marks (r .from) (r .cells) m) k (c .agrees)) (c .within) g
-  run-good r c (data-run n) g =
+  run-good r c (reserved-run k) g = reserved-good (length (r .cells)) (r .from) (λ i t. c .agrees i t .1 ∙ k) (c .within) g
+  run-good r c (data-run n o) g =
       let m : r .mark ≡ dataMark =
-      omega (arith, n, c .claimed, c .agrees 0 (c .some) .1, known (r .from + 0) (omega (arith, c .within, c .some))) in
+      omega (arith, n, o, c .claimed, c .agrees 0 (c .some) .1, known (r .from + 0) (omega (arith, c .within, c .some))) in
       data-good (r .cells) (r .from) (subst (λ (j : ℕ). HoldCells memory marks (r .from) (r .cells) j) m (c .agrees)) (c .within) g
 
   -- with its ORG, where it needs one

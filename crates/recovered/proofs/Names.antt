@@ -40,6 +40,10 @@ pub org-is-word : IsWord "ORG"
 unfolding rank
 org-is-word = is-word "ORG" refl
 
+pub res-is-word : IsWord "RES"
+unfolding rank
+res-is-word = is-word "RES" refl
+
 pub data-is-word : IsWord "DATA"
 unfolding rank
 data-is-word = is-word "DATA" refl

@@ -10,6 +10,7 @@ use lib.Dec.{ltb}
 use lib.ListN.{length, getD, replicate, length-replicate}
 use lib.Seq.{sets}
 use borrow.Author.Tests.{le-ltb}
+use Rattle.codes.specs.Limits.{mostCells}
 use Rattle.codes.specs.Marks.{free}
 use Rattle.values.specs.declared.LabelIn.the-variants.{Absent}
 use Rattle.statements.specs.FirstFailing.{Pass}
@@ -27,19 +28,24 @@ use Rattle.sources.specs.Inner.Assembling.{Verdict, passes, firstOf, labelOut, 
 use Rattle.sources.proofs.Verdicts.{Tells}
 use Rattle.sources.proofs.LineDecided.{line-tells}
 use Rattle.sources.proofs.Stores.{sets-other}
-use Rattle.sources.proofs.Images.{zero-there}
+use Rattle.sources.proofs.Stores.{zero-there}
 use Rattle.sources.proofs.Walk.{read-line}
 use Rattle.listing.specs.Lines.{lineOf, textOfLines}
 use Rattle.listing.specs.Runs.{HoldCells, Free}
 use Rattle.listing.specs.declared.Entry.{Entry}
-use Rattle.listing.specs.declared.Entry.the-variants.{Origin, Instructs, Holds, Finish}
+use Rattle.listing.specs.declared.Entry.the-variants.{Origin, Instructs, Holds, Reserves, Finish}
 use Rattle.recovered.proofs.Entries.{Writable, readingIn, saidIn, statementIn, cellsIn, markIn, nextIn, entry-says, entry-judged, entry-gives, entry-claims, entry-mark, entry-moves, AllWritable, text-lines}
+
+-- the cells with a mark hold 0
+abbrev pub HoldZero : List ℕ → List ℕ → ℕ → Type 0
+HoldZero memory marks mark = (a : ℕ) → getD marks a free ≡ mark → getD memory a 0 ≡ 0
 
 -- a line that claims cells, and can be written
 abbrev pub Claims : Entry → Type 0
 Claims (Origin a) = ⊥
 Claims (Instructs i) = Writable (Instructs i)
 Claims (Holds x) = Writable (Holds x)
+Claims (Reserves n) = Writable (Reserves n)
 Claims Finish = ⊥
 
 -- lines agree with memory and map from an address on
@@ -56,18 +62,21 @@ claims-writable : (e : Entry) → Claims e → Writable e
 claims-writable (Origin a) h = absurd h
 claims-writable (Instructs i) h = h
 claims-writable (Holds x) h = h
+claims-writable (Reserves n) h = h
 claims-writable Finish h = absurd h
 
 claims-next : (at : ℕ) (e : Entry) → Claims e → nextIn at e ≡ at + length (cellsIn e)
 claims-next at (Origin a) h = absurd h
 claims-next at (Instructs i) h = refl
 claims-next at (Holds x) h = refl
+claims-next at (Reserves n) h = ap (λ (c : ℕ). at + c) (sym (length-replicate n 0))
 claims-next at Finish h = absurd h
 
 claims-no-end : (e : Entry) → Claims e → readingIn e ≡ end → ⊥
 claims-no-end (Origin a) h q = h
 claims-no-end (Instructs i) h q = never (cc)
 claims-no-end (Holds x) h q = never (cc)
+claims-no-end (Reserves n) h q = never (cc)
 claims-no-end Finish h q = h
 
 module _ {memory marks : List ℕ} where
@@ -108,14 +117,16 @@ unfolding does
 no-label at bs m (Origin a) = refl
 no-label at bs m (Instructs i) = refl
 no-label at bs m (Holds x) = refl
+no-label at bs m (Reserves n) = refl
 no-label at bs m Finish = refl
 
-no-reserve : (at : ℕ) (e : Entry) → reservesTooFar (does (statementIn e) .moves) at ≡ false
+not-too-far : (at : ℕ) (e : Entry) → at + length (cellsIn e) ≤ mostCells → reservesTooFar (does (statementIn e) .moves) at ≡ false
 unfolding does
-no-reserve at (Origin a) = refl
-no-reserve at (Instructs i) = refl
-no-reserve at (Holds x) = refl
-no-reserve at Finish = refl
+not-too-far at (Origin a) l = refl
+not-too-far at (Instructs i) l = refl
+not-too-far at (Holds x) l = refl
+not-too-far at (Reserves n) l = le-ltb mostCells (at + n) (omega (arith, length-replicate {A = ℕ} n 0))
+not-too-far at Finish l = refl
 
 not-past : (M at n : ℕ) → at + n ≤ M → (ltb 0 n && ltb M (at + n)) ≡ false
 not-past M at n h = rw (le-ltb M (at + n) h) (and-no (ltb 0 n))
@@ -124,13 +135,15 @@ not-past M at n h = rw (le-ltb M (at + n) h) (and-no (ltb 0 n))
     and-no true = refl
     and-no false = refl
 
-passes-line : (M k at : ℕ) (bs : List Bound) (m : List ℕ) (e : Entry) → Writable e → pastEnd M at (does (statementIn e)) ≡ false
+passes-line : (M k at : ℕ) (bs : List Bound) (m : List ℕ) (e : Entry) → Writable e
+    → reservesTooFar (does (statementIn e) .moves) at ≡ false
+    → pastEnd M at (does (statementIn e)) ≡ false
     → taken m at (does (statementIn e) .claims) ≡ false
     → Pass (lineChecks M k (placeAt at bs m) (lineOf e))
 unfolding lineVerdict actVerdict firstOf
-passes-line M k at bs m e h p t =
+passes-line M k at bs m e h f p t =
     let q = placeAt at bs m in
-    let r : lineVerdict M k q (judgedIn e) ≡ passes = rw (no-label at bs m e, no-reserve at e, p, t) in
+    let r : lineVerdict M k q (judgedIn e) ≡ passes = rw (no-label at bs m e, f, p, t) in
     let v : lineVerdict M k q (readLine (lineOf e)) ≡ passes = ap (lineVerdict M k q) (read-line (lineOf e) (entry-says e h) ∙ judged-in e h) ∙ r in
     subst (λ (x : Verdict). Tells x (lineChecks M k q (lineOf e))) v (line-tells M k q (lineOf e))
 
@@ -147,6 +160,11 @@ after-entry at bs m (Instructs i) h = (
       ∙ ap (λ (n : ℕ). placeAt (at + n) (bs ++ []) (sets m at (replicate n (markIn (Instructs i))))) (entry-claims (Instructs i) h),
 )
 after-entry at bs m (Holds x) h = (bs ++ [], ap (after (placeAt at bs m)) (judged-in (Holds x) h))
+after-entry at bs m (Reserves n) h = (
+  bs ++ [],
+  ap (after (placeAt at bs m)) (judged-in (Reserves n) h)
+      ∙ ap (λ (c : ℕ). placeAt (at + n) (bs ++ []) (sets m at (replicate c (markIn (Reserves n))))) (entry-claims (Reserves n) h),
+)
 after-entry at bs m Finish h =
     let z : at + 0 ≡ at = omega arith in
     (bs ++ [], ap (after (placeAt at bs m)) (judged-in Finish h) ∙ ap (λ (n : ℕ). placeAt n (bs ++ []) m) z)
@@ -157,16 +175,16 @@ further-on : (m : List ℕ) (at n k : ℕ) → ((a : ℕ) → at ≤ a → getD 
 further-on m at n k f a l =
     sets-other (replicate n k) m at a (λ i h e. omega (arith, length-replicate n k)) ∙ f a (omega arith)
 
-module _ {memory marks : List ℕ} where
+module _ {memory marks : List ℕ} (most : length memory ≤ mostCells) where
   passed : {at : ℕ} {es : List Entry} → Good memory marks at es → (k : ℕ) (bs : List Bound) (m : List ℕ)
       → ((a : ℕ) → at ≤ a → getD m a free ≡ free)
       → Passed (length memory) k (placeAt at bs m) (map saidIn es)
   unfolding Passed does taken
-  passed {at} (ends-here f) k bs m z = (passes-line (length memory) k at bs m Finish tt refl refl, tt)
+  passed {at} (ends-here f) k bs m z = (passes-line (length memory) k at bs m Finish tt refl refl refl, tt)
   passed {at} (skips {es = es} n l h f g) k bs m z =
       let o = Origin (record { 0 = n }) in
       let a = after-entry at bs m o h in (
-        passes-line (length memory) k at bs m o h refl refl,
+        passes-line (length memory) k at bs m o h refl refl refl,
         subst (λ (p : Place). Passed (length memory) (k + 1) p (map saidIn es)) (sym (a .1)) (passed g (k + 1) (a .0) m (λ b t. z b (omega arith))),
       )
   passed {at} (gives {es = es} e c h l g) k bs m z =
@@ -175,7 +193,7 @@ module _ {memory marks : List ℕ} where
       let a = after-entry at bs m e w in
       let y = entry-claims e w in
       let m′ = sets m at (replicate n (markIn e)) in (
-        passes-line (length memory) k at bs m e w
+        passes-line (length memory) k at bs m e w (not-too-far at e (omega arith))
             (subst (λ (j : ℕ). (ltb 0 j && ltb (length memory) (at + j)) ≡ false) (sym y) (not-past (length memory) at n l))
             (subst (λ (j : ℕ). taken m at j ≡ false) (sym y) (untaken m at n (λ i t. z (at + i) (omega arith)))),
         subst (λ (p : Place). Passed (length memory) (k + 1) p (map saidIn es)) (sym (a .1))
@@ -199,6 +217,7 @@ unfolding usesBy
 no-use k at (Origin a) = refl
 no-use k at (Instructs i) = refl
 no-use k at (Holds x) = refl
+no-use k at (Reserves n) = refl
 no-use k at Finish = refl
 
 no-uses : (es : List Entry) → AllWritable es → (k at : ℕ) → usesOf k at (map judgedLine (map saidIn es)) ≡ []
@@ -258,8 +277,8 @@ module _ {memory marks : List ℕ} where
             (λ b m. n b (List·Memᴰ·tail (subst (λ (x : ℕ). List·Memᴰ b (entryBlocks x es)) (sym (claims-next at e c)) m)))
       ]
 
-  module _ (free-zero : (a : ℕ) → getD marks a free ≡ free → getD memory a 0 ≡ 0) (same-length : length marks ≡ length memory)
-      (some : 1 ≤ length memory) (most : length memory ≤ 65536) where
+  module _ (free-zero : HoldZero memory marks free) (same-length : length marks ≡ length memory)
+      (some : 1 ≤ length memory) (most : length memory ≤ mostCells) where
     good-image : (bs : List Bound) {es : List Entry} → Good memory marks 0 es → Image (length memory) (blocksOf bs 0 (map saidIn es)) memory marks
     good-image bs {es} g =
         subst (λ (cs : List Block). Image (length memory) cs memory marks) (sym (blocks-are bs es (good-writable g) 0))
@@ -283,7 +302,7 @@ module _ {memory marks : List ℕ} where
           passing = record {
             loans = (λ z. elim z [ inl e ↦ omega arith | inr x ↦ elim x [ inl e ↦ omega arith | inr f ↦ f same-length ] ], (λ z. omega arith, tt));
             text = good-text g;
-            lines = passed g 1 [] (replicate (length memory) free) (λ a l. zero-there (length memory) a);
+            lines = passed most g 1 [] (replicate (length memory) free) (λ a l. zero-there (length memory) a);
             labels = (
               λ z. let y = ap length p in omega (arith, z .0, y),
               subst (λ (us : List Use). Pass (useChecks (bindings late) us)) (sym (no-uses es w 1 0)) tt,

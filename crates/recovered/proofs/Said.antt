@@ -28,7 +28,7 @@ use Rattle.tokens.specs.declared.Token.{Token}
 use Rattle.names.specs.Names.{wordOf}
 use Rattle.names.specs.declared.Word.{Word}
 use Rattle.names.proofs.Exactly.{opcode-is-found}
-use Rattle.names.proofs.Own.{org-is-found, data-is-found, end-is-found}
+use Rattle.names.proofs.Own.{org-is-found, res-is-found, data-is-found, end-is-found}
 use Rattle.values.specs.Values.{plain}
 use Rattle.values.specs.declared.LabelIn.the-variants.{Absent}
 use Rattle.values.specs.declared.Name.{Name}
@@ -43,17 +43,19 @@ use Rattle.operands.proofs.Back.{writtenOf, plainly, listBy, writtenIn, judged-
 use Rattle.items.specs.Items as Items
 use Rattle.items.specs.Items.{cellsOf, allInRange}
 use Rattle.statements.specs.Statements as Rule
-use Rattle.statements.specs.Statements.{Reading, instruction, org, cells, end, Label, label, StatementWord, Body, unlabelled, Says}
+use Rattle.statements.specs.Statements.{Reading, instruction, org, res, cells, end, Label, label, StatementWord, Body, unlabelled, Says}
+use Rattle.statements.specs.Checks.{leastUnsigned}
 use Rattle.statements.specs.Judging.{judged, treeResult, resultOf}
+use Rattle.statements.specs.declared.Statement.{Statement}
 use Rattle.statements.specs.declared.Statement.the-variants as S
 use Rattle.statements.specs.declared.StatementRead.the-variants.{Passes}
 use Rattle.sources.specs.Placing.{Bound}
 use Rattle.sources.specs.Image.{givenBy, codeRead}
 use Rattle.listing.specs.Pieces.{Piece, word, number, mark, space, textOf}
 use Rattle.listing.specs.Lines.{operandPieces, present, fieldPieces, entryPieces, lineOf}
-use Rattle.listing.specs.declared.Entry.the-variants.{Origin, Instructs, Holds, Finish}
+use Rattle.listing.specs.declared.Entry.the-variants.{Origin, Instructs, Holds, Reserves, Finish}
 use Rattle.recovered.proofs.Pieces.{rowFrom, parted, Fine, row-of, row-append, behind, Stand, next-piece, next-pieces, first-pieces, word-there}
-use Rattle.recovered.proofs.Names.{IsWord, opcode-is-word, org-is-word, data-is-word, end-is-word}
+use Rattle.recovered.proofs.Names.{IsWord, opcode-is-word, org-is-word, res-is-word, data-is-word, end-is-word}
 use Rattle.recovered.proofs.Operands.{fine-operand, operand-text}
 
 -- ---- no label: the second token follows a blank
@@ -86,32 +88,37 @@ says : (ps : List Piece) (r : Reading) → Fine ps → secondDirectly (rowFrom 0
     → Says (textOf ps) Absent r
 says ps r f s b = record { tokens = rowFrom 0 true ps; row = row-of ps 0 true f; text = unlabelled (no-label s) b }
 
+-- a word and a number behind it
+pub number-fine : (name : String) (n : ℕ) → IsWord name → n < 65536 → Fine (word (bytes name) ∷ space ∷ number n ∷ [])
+unfolding Fine
+number-fine name n w h = (w .begins, w .all, tt, (omega arith, tt, tt))
+
 -- ---- `DATA n`
 
 abbrev pub dataReading : ℕ → Reading
 dataReading x = cells (Items.number (unsignedOf x) ∷ [])
 
-pub data-fine : (x : ℕ) → x < 65536 → Fine (entryPieces (Holds x))
-unfolding Fine
-data-fine x h = (data-is-word .begins, data-is-word .all, tt, (omega arith, tt, tt))
-
 pub data-says : (x : ℕ) → x < 65536 → Says (lineOf (Holds x)) Absent (dataReading x)
 unfolding rowFrom Fine secondDirectly
 data-says x h =
-    says (entryPieces (Holds x)) (dataReading x) (data-fine x h) refl
+    says (entryPieces (Holds x)) (dataReading x) (number-fine "DATA" x data-is-word h) refl
     (Rule.items (statement-word "DATA" (space ∷ number x ∷ []) data-is-word data-is-found) (Items.one (Items.is-number (plain refl))))
 
 -- ---- `ORG n`
 
-pub org-fine : (n : ℕ) → n < 65536 → Fine (entryPieces (Origin (record { 0 = n })))
-unfolding Fine
-org-fine n h = (org-is-word .begins, org-is-word .all, tt, (omega arith, tt, tt))
-
 pub org-says : (n : ℕ) → n < 65536 → Says (lineOf (Origin (record { 0 = n }))) Absent (org (literal n))
 unfolding rowFrom Fine secondDirectly
 org-says n h =
-    says (entryPieces (Origin (record { 0 = n }))) (org (literal n)) (org-fine n h) refl
+    says (entryPieces (Origin (record { 0 = n }))) (org (literal n)) (number-fine "ORG" n org-is-word h) refl
     (Rule.origin (statement-word "ORG" (space ∷ number n ∷ []) org-is-word org-is-found) (Grammar.one-product (Grammar.one-factor (Grammar.literal refl))))
+
+-- ---- `RES n`
+
+pub res-says : (n : ℕ) → n < 65536 → Says (lineOf (Reserves n)) Absent (res (literal n))
+unfolding rowFrom Fine secondDirectly
+res-says n h =
+    says (entryPieces (Reserves n)) (res (literal n)) (number-fine "RES" n res-is-word h) refl
+    (Rule.reserve (statement-word "RES" (space ∷ number n ∷ []) res-is-word res-is-found) (Grammar.one-product (Grammar.one-factor (Grammar.literal refl))))
 
 -- ---- `END`
 
@@ -134,9 +141,20 @@ pub data-judged : (x : ℕ) → x < 65536 → (judged (dataReading x) ≡ Passes
 unfolding judged allInRange cellsOf
 data-judged x h = (rw (le-leb x 65535 (omega arith)), ap (λ (n : ℕ). n ∷ []) (cell-number x h))
 
+-- an expression that is a number alone results in it
+number-result : (makes : ℕ → Statement) (n : ℕ) → n < 65536 → treeResult leastUnsigned makes (literal n) ≡ Passes (makes n)
+unfolding treeResult depth worthOf ofNumber resultOf
+number-result makes n h =
+    rw (le-leb n 65535 (omega arith))
+    (rw (le-leb 0 n (omega arith), le-leb n 65535 (omega arith)) (ap (λ (v : ℕ). Passes (makes v)) (cell-number n h)))
+
 pub org-judged : (n : ℕ) → n < 65536 → judged (org (literal n)) ≡ Passes (S.Org n)
-unfolding judged treeResult depth worthOf ofNumber resultOf
-org-judged n h = rw (le-leb n 65535 (omega arith)) (rw (le-leb 0 n (omega arith), le-leb n 65535 (omega arith)) (ap (λ (v : ℕ). Passes (S.Org v)) (cell-number n h)))
+unfolding judged
+org-judged = number-result S.Org
+
+pub res-judged : (n : ℕ) → n < 65536 → judged (res (literal n)) ≡ Passes (S.Res n)
+unfolding judged
+res-judged = number-result S.Res
 
 -- ---- an instruction
 

@@ -17,13 +17,14 @@ use super::replies::field;
 use super::replies::marks;
 use assembler::Reply;
 
-// Refusal, line and counts.
+// Refusal, line and counts: code, data, reserved.
 fn head(out: &mut [u8], a: Reply) -> usize {
     let line = a.line;
     let refusal = field(out, 0, a.refusal as usize);
     let place = field(out, refusal, line.0);
     let instructions = field(out, place, a.code);
-    field(out, instructions, a.data)
+    let items = field(out, instructions, a.data);
+    field(out, items, a.reserved)
 }
 
 // Every cell and mark that is not as it was before, or as it is kept.

@@ -1,4 +1,5 @@
--- What a line gives: as many cells as it claims; and the cells that are written of it, with its labels' words filled in, are those.
+-- What a line gives: as many cells as it claims; and the cells that are written of it over zeros, with its labels' words filled in, are
+-- those.
 use Prim.Native.Nat.{ℕ, suc, _+_, _≤_, _<_}
 use mathlib.Core.Bool.{Bool, true, false, cond}
 use mathlib.Core.List.{List, [], _∷_, _++_, append-nil}
@@ -6,7 +7,7 @@ use mathlib.Core.Path.{_≡_, refl, sym, ap, subst, _∙_}
 use native.Mathlib.Omega.{arith}
 use lib.Dec.{leb}
 use lib.IntN.{ℤ}
-use lib.ListN.{length, length-append}
+use lib.ListN.{length, getD, replicate, length-append, length-replicate}
 use lib.Seq.{sets}
 use mir.Syntax.{w16}
 use mir.Val.{ofZ}
@@ -42,16 +43,17 @@ use Rattle.statements.specs.declared.Failure.the-variants as F
 use Rattle.statements.specs.declared.LineRead.{LineRead}
 use Rattle.statements.specs.declared.Statement.{Statement}
 use Rattle.statements.specs.declared.Statement.the-variants as S
+use Rattle.statements.specs.declared.StatementRead.{StatementRead}
 use Rattle.statements.specs.declared.StatementRead.the-variants.{Passes, Fails}
 use Rattle.statements.proofs.Labelling.{never}
 use Rattle.statements.proofs.Passing.{instruction-from}
 use Rattle.statements.proofs.Top as statements
 use Rattle.codes.specs.Marks.{free}
-use Rattle.sources.specs.Placing.{does, movedBy, Bound}
+use Rattle.sources.specs.Placing.{does, doesRead, movedBy, Bound}
 use Rattle.sources.specs.Uses.{Use, useBy, useOf, secondCell, usesBy}
 use Rattle.sources.specs.Image.{wordBy, wordIn, codeOf, codeRead, givenBy}
 use Rattle.sources.specs.Inner.Assembling.{rawBy, filled}
-use Rattle.sources.proofs.Stores.{set-inside}
+use Rattle.sources.proofs.Stores.{set-inside, zeros-stay}
 
 -- ---- which reading passes as which statement
 
@@ -80,7 +82,7 @@ pub data PassesAs : Reading → Statement → Type 0 where
       → PassesAs (instruction op os) (S.Instruction op a b)
   as-org : {t : Tree} {v : ℕ} → PassesAs (org t) (S.Org v)
   as-equ : {t : Tree} {v : ℕ} → PassesAs (equ t) (S.Equ v)
-  as-res : {t : Tree} {v : ℕ} → PassesAs (res t) (S.Res v)
+  as-res : {t : Tree} {v : ℕ} → judged (res t) ≡ Passes (S.Res v) → PassesAs (res t) (S.Res v)
   as-cells : {is : List Item} → allInRange is ≡ true → PassesAs (cells is) (S.Data (length (cellsOf is)))
   as-end : PassesAs end S.End
 
@@ -96,7 +98,7 @@ passes-as (instruction op os) {s} e = go (Operands.judged op os) refl e
     go I.OutOfRange f q = never (cc)
 passes-as (org t) e = let h = tree-makes leastUnsigned S.Org t e in subst (PassesAs (org t)) (sym (h .1)) as-org
 passes-as (equ t) e = let h = tree-makes leastSigned S.Equ t e in subst (PassesAs (equ t)) (sym (h .1)) as-equ
-passes-as (res t) e = let h = tree-makes leastUnsigned S.Res t e in subst (PassesAs (res t)) (sym (h .1)) as-res
+passes-as (res t) e = let h = tree-makes leastUnsigned S.Res t e in subst (PassesAs (res t)) (sym (h .1)) (as-res (e ∙ ap Passes (h .1)))
 passes-as (cells is) {s} e = go (allInRange is) refl e
   where
     go : (b : Bool) → allInRange is ≡ b → cond b (Passes (S.Data (length (cellsOf is)))) (Fails F.OutOfRange) ≡ Passes s → PassesAs (cells is) s
@@ -313,8 +315,8 @@ module _ (bytes : List ℕ) {op : Opcode} {a b : Given} (e : lineRead bytes .sta
 -- what holds of the cells of a line at an address
 pub record LineCells (bs : List Bound) (k : ℕ) (bytes : List ℕ) (at : ℕ) (r : Reading) (s : Statement) : Type 0 where
   pub given-long : (next : ℕ) → length (givenBy bs bytes next r) ≡ claimOf s
-  pub raw-long : length (rawBy bytes s) ≡ claimOf s
-  pub fills : (m : List ℕ)
+  pub raw-within : length (rawBy bytes s) ≤ claimOf s
+  pub fills : (m : List ℕ) → ((i : ℕ) → i < claimOf s → getD m (at + i) 0 ≡ 0)
       → filled bs (usesBy k bytes at s) (sets m at (rawBy bytes s)) ≡ sets m at (givenBy bs bytes (movedBy (does s .moves) at) r)
   pub uses-inside : Inside at (claimOf s) (usesBy k bytes at s)
 
@@ -322,7 +324,7 @@ module _ (bs : List Bound) (k : ℕ) (bytes : List ℕ) (at : ℕ) where
   line-by : {l : LabelIn} {r : Reading} {s : Statement} → Says bytes l r → lineRead bytes .statement ≡ Passes s → PassesAs r s
       → LineCells bs k bytes at r s
   unfolding usesBy filled does
-  line-by x e as-nothing = record { given-long = λ next. refl; raw-long = refl; fills = λ m. refl; uses-inside = tt }
+  line-by x e as-nothing = record { given-long = λ next. refl; raw-within = omega arith; fills = λ m z. refl; uses-inside = tt }
   line-by x e (as-instruction {op} {os} {a} {b} f) =
       let next = at + claimOf (S.Instruction op a b) in
       let v = wordIn bs bytes next a in
@@ -333,19 +335,26 @@ module _ (bs : List Bound) (k : ℕ) (bytes : List ℕ) (at : ℕ) where
       λ n. ap (λ (i : InstructionRead). codeRead bs bytes n op i) (sym f) in
       record {
         given-long = λ n. ap length (sym (given n)) ∙ statements.words-claimed bytes e (wordIn bs bytes n a) (wordIn bs bytes n b);
-        raw-long = words-long (record { op = op; first = a .operand; second = b .operand }) ∙ c;
-        fills = λ m. code-filled bs k bytes at next op a b (h .0) (h .1) m ∙ ap (sets m at) (given next);
+        raw-within = omega (arith, words-long (record { op = op; first = a .operand; second = b .operand }), c);
+        fills = λ m z. code-filled bs k bytes at next op a b (h .0) (h .1) m ∙ ap (sets m at) (given next);
         uses-inside = code-inside bs k bytes at next op a b (h .0) (h .1) (claimOf (S.Instruction op a b)) c;
       }
-  line-by x e as-org = record { given-long = λ next. refl; raw-long = refl; fills = λ m. refl; uses-inside = tt }
-  line-by x e as-equ = record { given-long = λ next. refl; raw-long = refl; fills = λ m. refl; uses-inside = tt }
-  line-by x e as-res = record { given-long = λ next. refl; raw-long = refl; fills = λ m. refl; uses-inside = tt }
+  line-by x e as-org = record { given-long = λ next. refl; raw-within = omega arith; fills = λ m z. refl; uses-inside = tt }
+  line-by x e as-equ = record { given-long = λ next. refl; raw-within = omega arith; fills = λ m z. refl; uses-inside = tt }
+  line-by x e (as-res {t} {v} f) =
+      let n : doesRead (judged (res t)) .claims ≡ v = ap (λ (j : StatementRead). doesRead j .claims) f in
+      record {
+        given-long = λ next. length-replicate {A = ℕ} (doesRead (judged (res t)) .claims) 0 ∙ n;
+        raw-within = omega arith;
+        fills = λ m z. zeros-stay v m at z ∙ ap (λ (k : ℕ). sets m at (replicate k 0)) (sym n);
+        uses-inside = tt;
+      }
   line-by x e (as-cells {is} f) =
       let c = statements.cells-exactly bytes x f in
-      record { given-long = λ next. refl; raw-long = ap length c; fills = λ m. ap (sets m at) c; uses-inside = tt }
-  line-by x e as-end = record { given-long = λ next. refl; raw-long = refl; fills = λ m. refl; uses-inside = tt }
+      record { given-long = λ next. refl; raw-within = omega (arith, ap length c); fills = λ m z. ap (sets m at) c; uses-inside = tt }
+  line-by x e as-end = record { given-long = λ next. refl; raw-within = omega arith; fills = λ m z. refl; uses-inside = tt }
 
-  -- as many cells are given, and are written, as are claimed; the labels' words filled in, they are those that are given; and each
-  -- label's cell is among them
+  -- as many cells are given as are claimed, and no more are written; over zeros, with the labels' words filled in, they are those that are
+  -- given; and each label's cell is among them
   pub line-cells : {l : LabelIn} (r : Reading) {s : Statement} → Says bytes l r → judged r ≡ Passes s → LineCells bs k bytes at r s
   line-cells r x e = line-by x (statement-read bytes r x e) (passes-as r e)

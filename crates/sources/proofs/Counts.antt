@@ -9,7 +9,7 @@ use lib.ListN.{length, getD, replicate, set, length-set, length-replicate}
 use lib.Seq.{sets, getD-set-other}
 use borrow.Author.Tests.{ne-eqb}
 use Rattle.statements.specs.Judging.{judged}
-use Rattle.codes.specs.Marks.{free, codeMark, dataMark}
+use Rattle.codes.specs.Marks.{free, codeMark, dataMark, reservedMark}
 use Rattle.sources.specs.Sources.{Said}
 use Rattle.sources.specs.Placing.{doesRead, Bound, Place, start, acted, judgedLine, after, placeAfter, placeOf, bindings}
 use Rattle.sources.specs.Order.{Passed}
@@ -115,7 +115,7 @@ module _ (k : ℕ) (used : k ≡ free → ⊥) where
       let h = a .passing .lines in
       ap (cellsMarked k) (one-image (a .image) (image-there M (a .reading) s h) .1) ∙ marked-counted M (a .reading) s h
 
--- "the numbers of code and data cells": those of the instructions' blocks, and of DATA's
+-- "the numbers of code and data cells", and of reserved ones: those of the instructions' blocks, of DATA's and of RES's
 pub code-cells : {M N : ℕ} {source memory marks : List ℕ} (a : Accepted M N source memory marks)
     → cellsMarked codeMark marks ≡ cellsOfMark codeMark (blocks M (a .reading))
 code-cells = accepted-counted codeMark (λ e. omega arith)
@@ -123,3 +123,7 @@ code-cells = accepted-counted codeMark (λ e. omega arith)
 pub data-cells : {M N : ℕ} {source memory marks : List ℕ} (a : Accepted M N source memory marks)
     → cellsMarked dataMark marks ≡ cellsOfMark dataMark (blocks M (a .reading))
 data-cells = accepted-counted dataMark (λ e. omega arith)
+
+pub reserved-cells : {M N : ℕ} {source memory marks : List ℕ} (a : Accepted M N source memory marks)
+    → cellsMarked reservedMark marks ≡ cellsOfMark reservedMark (blocks M (a .reading))
+reserved-cells = accepted-counted reservedMark (λ e. omega arith)

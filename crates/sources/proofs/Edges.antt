@@ -5,13 +5,14 @@ use mathlib.Core.Bool.{true, false}
 use mathlib.Core.List.{List, [], _∷_}
 use mathlib.Core.Path.{_≡_, refl}
 use lib.ListN.{replicate}
-use Rattle.sources.specs.Placing.{Place, names, act}
+use Rattle.statements.specs.declared.Statement.the-variants.{Res}
+use Rattle.sources.specs.Placing.{Place, names, act, does}
 use Rattle.sources.specs.Uses.{known, plainly, from, countedWord}
 use Rattle.sources.specs.Order.{_on_}
 use Rattle.sources.specs.Image.{cellsMarked}
 use Rattle.sources.specs.Inner.Assembling.{passes, refused, firstOf, loanVerdict, among, nameVerdict, taken, actVerdict, endVerdict, tooFar}
 use Rattle.sources.specs.declared.Gives.the-variants.{Waits, Number, Start}
-use Rattle.sources.specs.declared.Moves.the-variants.{On, Reserving}
+use Rattle.sources.specs.declared.Moves.the-variants.{On}
 
 abbrev a : List ℕ
 a = 97 ∷ []
@@ -53,8 +54,8 @@ pub record Edges : Type 0 where
   pub none-waits : actVerdict 2 3 (near 65536 []) (act Start (On 0) 0 0) ≡ passes
   pub waits-on : actVerdict 2 3 (near 65536 (a ∷ [])) (act Waits (On 0) 0 0) ≡ passes
   pub a-number : actVerdict 2 3 (near 65536 (a ∷ [])) (act (Number 1) (On 0) 0 0) ≡ passes
-  pub reserves-all : actVerdict 2 3 (near 1 []) (act Start (Reserving 65535) 0 0) ≡ passes
-  pub reserves-past : actVerdict 2 3 (near 2 []) (act Start (Reserving 65535) 0 0) ≡ refused (6 on 3)
+  pub reserves-to-65536 : actVerdict 2 3 (near 1 []) (does (Res 65535)) ≡ refused (11 on 3)
+  pub reserves-past : actVerdict 2 3 (near 2 []) (does (Res 65535)) ≡ refused (6 on 3)
   pub end-binds : endVerdict 4 (near 65535 (a ∷ [])) ≡ passes
   pub end-past : endVerdict 4 (near 65536 (a ∷ [])) ≡ refused (6 on 4)
   pub end-none : endVerdict 4 (near 65536 []) ≡ passes
@@ -64,6 +65,13 @@ pub record Edges : Type 0 where
   pub claims-none : actVerdict 2 3 (near 7 []) (act Start (On 0) 0 0) ≡ passes
   pub taken-first : actVerdict 2 3 (near 0 []) (act Start (On 2) 2 2) ≡ refused (12 on 3)
   pub past-before-taken : actVerdict 2 3 (near 0 []) (act Start (On 3) 3 2) ≡ refused (11 on 3)
+  -- the same of RES
+  pub reserves-last : actVerdict 2 3 (near 1 []) (does (Res 1)) ≡ passes
+  pub reserves-past-last : actVerdict 2 3 (near 1 []) (does (Res 2)) ≡ refused (11 on 3)
+  pub reserves-none : actVerdict 2 3 (near 7 []) (does (Res 0)) ≡ passes
+  pub reserves-taken : actVerdict 2 3 (near 0 []) (does (Res 1)) ≡ refused (12 on 3)
+  pub reserves-none-of-taken : actVerdict 2 3 (near 0 []) (does (Res 0)) ≡ passes
+  pub reserves-past-before-taken : actVerdict 2 3 (near 0 []) (does (Res 3)) ≡ refused (11 on 3)
   -- 14: -32768 and 32767 are in, one past each is not
   pub lowest : tooFar (from 32768) (known 0) ≡ false
   pub too-low : tooFar (from 32769) (known 0) ≡ true
@@ -76,11 +84,12 @@ pub record Edges : Type 0 where
   pub the-end : countedWord (from 65536) (known 32768) ≡ 32768
   pub as-it-is : countedWord plainly (known 40000) ≡ 40000
   -- the counts
-  pub marked-1 : cellsMarked 1 (0 ∷ 1 ∷ 2 ∷ 1 ∷ 1 ∷ []) ≡ 3
-  pub marked-2 : cellsMarked 2 (0 ∷ 1 ∷ 2 ∷ 1 ∷ 1 ∷ []) ≡ 1
+  pub marked-1 : cellsMarked 1 (0 ∷ 1 ∷ 2 ∷ 1 ∷ 3 ∷ 1 ∷ 3 ∷ []) ≡ 3
+  pub marked-2 : cellsMarked 2 (0 ∷ 1 ∷ 2 ∷ 1 ∷ 3 ∷ 1 ∷ 3 ∷ []) ≡ 1
+  pub marked-3 : cellsMarked 3 (0 ∷ 1 ∷ 2 ∷ 1 ∷ 3 ∷ 1 ∷ 3 ∷ []) ≡ 2
 
 pub edges : Edges
-unfolding firstOf loanVerdict names among nameVerdict taken actVerdict endVerdict cellsMarked
+unfolding does firstOf loanVerdict names among nameVerdict taken actVerdict endVerdict cellsMarked
 edges =
     record {
       no-cell = refl;
@@ -107,7 +116,7 @@ edges =
       none-waits = refl;
       waits-on = refl;
       a-number = refl;
-      reserves-all = refl;
+      reserves-to-65536 = refl;
       reserves-past = refl;
       end-binds = refl;
       end-past = refl;
@@ -117,6 +126,12 @@ edges =
       claims-none = refl;
       taken-first = refl;
       past-before-taken = refl;
+      reserves-last = refl;
+      reserves-past-last = refl;
+      reserves-none = refl;
+      reserves-taken = refl;
+      reserves-none-of-taken = refl;
+      reserves-past-before-taken = refl;
       lowest = refl;
       too-low = refl;
       highest = refl;
@@ -128,4 +143,5 @@ edges =
       as-it-is = refl;
       marked-1 = refl;
       marked-2 = refl;
+      marked-3 = refl;
     }

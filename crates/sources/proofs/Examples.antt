@@ -5,7 +5,9 @@ use mathlib.Core.List.{List, [], _∷_, _++_}
 use mathlib.Core.Path.{_≡_, refl}
 use lib.ListN.{replicate}
 use Rattle.numerals.specs.Bytes.{bytes}
+use Rattle.codes.specs.Marks.{codeMark, dataMark, reservedMark}
 use Rattle.sources.specs.Order.{_on_}
+use Rattle.sources.specs.Image.{cellsMarked}
 use Rattle.sources.specs.Inner.Assembling.{passes, verdictOf, Assembled, accepted, refuses, assembleOf}
 use Rattle.sources.proofs.Computing.{computedSource}
 
@@ -21,6 +23,13 @@ Refuses ts n k = assembleOf 16 16 (sourceOf ts) ≡ refuses (n on k)
 abbrev Passes : List String → Type 0
 Passes ts = verdictOf 16 16 (sourceOf ts) ≡ passes
 
+-- the same of the largest memory
+abbrev RefusesAtMost : List String → ℕ → ℕ → Type 0
+RefusesAtMost ts n k = assembleOf 65536 65536 (sourceOf ts) ≡ refuses (n on k)
+
+abbrev PassesAtMost : List String → Type 0
+PassesAtMost ts = verdictOf 65536 65536 (sourceOf ts) ≡ passes
+
 -- the memory that an accepted source leaves
 abbrev cellsLeft : Assembled → List ℕ
 cellsLeft (accepted memory marks) = memory
@@ -29,6 +38,17 @@ cellsLeft (refuses why) = []
 -- a source leaves these words in a memory of M cells
 abbrev Leaves : ℕ → List String → List ℕ → Type 0
 Leaves M ts words = cellsLeft (assembleOf M M (sourceOf ts)) ≡ words
+
+-- the map that an accepted source leaves
+abbrev marksLeft : Assembled → List ℕ
+marksLeft (accepted memory marks) = marks
+marksLeft (refuses why) = []
+
+-- so many cells of code, of data, and reserved ones
+abbrev Counts : List String → ℕ → ℕ → ℕ → Type 0
+Counts ts code given reserved =
+    let marks = marksLeft (assembleOf 16 16 (sourceOf ts)) in
+    (cellsMarked codeMark marks ≡ code) × (cellsMarked dataMark marks ≡ given) × (cellsMarked reservedMark marks ≡ reserved)
 
 -- a line, below one with the label `a`: refused with this number where it has no label, for its label where it has `a` again
 abbrev Again : ℕ → String → Type 0
@@ -60,21 +80,21 @@ pub record Examples : Type 0 where
   pub again-before-6 : Again 6 "DATA 65536"
   pub again-before-7 : Again 7 "ORG 1/0"
   pub again-before-result : Again 6 "ORG 0-1"
-  pub again-before-address : Refuses ("a: NOP" ∷ "ORG 65535" ∷ "RES 1" ∷ "a: NOP" ∷ []) 9 4
+  pub again-before-address : RefusesAtMost ("a: NOP" ∷ "ORG 65535" ∷ "RES 1" ∷ "a: NOP" ∷ []) 9 4
   pub again-before-11 : Again 11 "DATA \"more than 16 cells\""
   pub again-before-12 : Refuses ("a: NOP" ∷ "ORG 0" ∷ "a: NOP" ∷ []) 9 3
   pub again-bound : Refuses ("a: EQU 5" ∷ "a: EQU 5" ∷ []) 9 2
   -- label addresses before 11; on the binding statement's line, whichever line has the label
-  pub address-6 : Refuses ("ORG 65535" ∷ "RES 1" ∷ "x: NOP" ∷ []) 6 3
-  pub past-11 : Refuses ("ORG 65535" ∷ "RES 1" ∷ "NOP" ∷ []) 11 3
-  pub binding-line : Refuses ("ORG 65535" ∷ "RES 1" ∷ "x:" ∷ "NOP" ∷ []) 6 4
-  pub data-6 : Refuses ("ORG 65535" ∷ "RES 1" ∷ "x: DATA 1" ∷ []) 6 3
-  pub reserve-6 : Refuses ("ORG 65535" ∷ "RES 1" ∷ "x: RES 0" ∷ []) 6 3
-  pub value-before-6 : Refuses ("ORG 65535" ∷ "RES 1" ∷ "x: RES 1/0" ∷ []) 7 3
+  pub address-6 : RefusesAtMost ("ORG 65535" ∷ "RES 1" ∷ "x: NOP" ∷ []) 6 3
+  pub past-11 : RefusesAtMost ("ORG 65535" ∷ "RES 1" ∷ "NOP" ∷ []) 11 3
+  pub binding-line : RefusesAtMost ("ORG 65535" ∷ "RES 1" ∷ "x:" ∷ "NOP" ∷ []) 6 4
+  pub data-6 : RefusesAtMost ("ORG 65535" ∷ "RES 1" ∷ "x: DATA 1" ∷ []) 6 3
+  pub reserve-6 : RefusesAtMost ("ORG 65535" ∷ "RES 1" ∷ "x: RES 0" ∷ []) 6 3
+  pub value-before-6 : RefusesAtMost ("ORG 65535" ∷ "RES 1" ∷ "x: RES 1/0" ∷ []) 7 3
   -- "or the last line for labels bound at the source's end, judged after every line and before 13", blank lines counted
-  pub last-line : Refuses ("ORG 65535" ∷ "RES 1" ∷ "x:" ∷ "" ∷ []) 6 4
-  pub after-every-line : Refuses ("ORG 65535" ∷ "RES 1" ∷ "x:" ∷ "FOO" ∷ []) 4 4
-  pub before-13 : Refuses ("BR /y" ∷ "ORG 65535" ∷ "RES 1" ∷ "x:" ∷ []) 6 4
+  pub last-line : RefusesAtMost ("ORG 65535" ∷ "RES 1" ∷ "x:" ∷ "" ∷ []) 6 4
+  pub after-every-line : RefusesAtMost ("ORG 65535" ∷ "RES 1" ∷ "x:" ∷ "FOO" ∷ []) 4 4
+  pub before-13 : RefusesAtMost ("BR /y" ∷ "ORG 65535" ∷ "RES 1" ∷ "x:" ∷ []) 6 4
   -- "Only if no line fails: 13 and 14 together, by line"; labels below END do not exist
   pub word-before-13 : Refuses ("BR /x" ∷ "FOO" ∷ []) 4 2
   pub past-before-13 : Refuses ("BR /x" ∷ "ORG 16" ∷ "NOP" ∷ []) 11 3
@@ -101,7 +121,7 @@ pub record Examples : Type 0 where
   pub at-once-end : Leaves 4 ("PUSH #a" ∷ "PUSH #b" ∷ "a: ORG 9" ∷ "b: END" ∷ []) (200 ∷ 9 ∷ 200 ∷ 9 ∷ [])
   pub at-once-source-end : Leaves 4 ("PUSH #a" ∷ "PUSH #b" ∷ "a: ORG 9" ∷ "b:" ∷ []) (200 ∷ 9 ∷ 200 ∷ 9 ∷ [])
   pub over-comments : Leaves 2 ("a: ; c" ∷ "; c" ∷ "" ∷ "EQU 5" ∷ "PUSH #a" ∷ []) (200 ∷ 5 ∷ [])
-  pub bound-once : Passes ("x: NOP" ∷ "ORG 65535" ∷ "RES 1" ∷ [])
+  pub bound-once : PassesAtMost ("x: NOP" ∷ "ORG 65535" ∷ "RES 1" ∷ [])
   -- a label in every kind of operand, forward and backward, two in one instruction; `$label` counts from the address after it
   pub kinds : Leaves 12 ("x: MOVE #x,/y" ∷ "MOVE #y[.IX],#x[.SP]" ∷ "BR $x" ∷ "y: CALL $y" ∷ "DATA 7" ∷ [])
       (139 ∷ 0 ∷ 8 ∷ 175 ∷ 8 ∷ 0 ∷ 1208 ∷ 65528 ∷ 2040 ∷ 65534 ∷ 7 ∷ 0 ∷ [])
@@ -113,17 +133,32 @@ pub record Examples : Type 0 where
   pub overlap : Refuses ("ORG 2" ∷ "DATA 1,2" ∷ "ORG 0" ∷ "DATA 3,4,5" ∷ []) 12 4
   pub twice : Refuses ("DATA 1" ∷ "ORG 0" ∷ "DATA 2" ∷ []) 12 3
   pub past-before-twice : assembleOf 2 2 (sourceOf ("DATA 1" ∷ "ORG 0" ∷ "DATA 1,2,3" ∷ [])) ≡ refuses (11 on 3)
-  -- "RES moves the address and claims no cell; an address above 65,536 after it is 6. ORG and RES alone never give 11"
-  pub reserved-free : Passes ("RES 4" ∷ "ORG 0" ∷ "DATA 1" ∷ [])
-  pub reserves-claimed : Passes ("DATA 1" ∷ "ORG 0" ∷ "RES 1" ∷ [])
+  -- "an address above 65,536 after it is 6" (01), before 11; "11 and 12 now cover reserved cells" (02, K2)
   pub reserves-too-far : Refuses ("ORG 65535" ∷ "RES 2" ∷ []) 6 2
+  pub reserves-past : Refuses ("ORG 65535" ∷ "RES 1" ∷ []) 11 2
+  pub reserves-all : Passes ("RES 16" ∷ [])
+  pub reserves-one-more : Refuses ("RES 17" ∷ []) 11 1
+  pub reserved-taken : Refuses ("RES 4" ∷ "ORG 0" ∷ "DATA 1" ∷ []) 12 3
+  pub reserved-taken-last : Refuses ("RES 4" ∷ "ORG 3" ∷ "NOP" ∷ []) 12 3
+  pub reserved-not-taken : Passes ("RES 4" ∷ "ORG 4" ∷ "NOP" ∷ [])
+  pub reserves-claimed : Refuses ("DATA 1" ∷ "ORG 0" ∷ "RES 1" ∷ []) 12 3
+  pub reserves-reserved : Refuses ("RES 4" ∷ "ORG 3" ∷ "RES 1" ∷ []) 12 3
+  pub reserves-past-before-12 : assembleOf 4 4 (sourceOf ("NOP" ∷ "ORG 0" ∷ "RES 5" ∷ [])) ≡ refuses (11 on 3)
+  -- `RES 0` has no cell, so it is never 11 or 12; "ORG .. alone never give[s] 11" (01)
+  pub none-over-claimed : Passes ("NOP" ∷ "ORG 0" ∷ "RES 0" ∷ [])
+  pub none-past : Passes ("ORG 60000" ∷ "RES 0" ∷ [])
+  pub org-past : Passes ("ORG 60000" ∷ [])
+  -- "marked 3 in the map, holding 0", "acceptance returns their number as a third count" (02, K2)
+  pub reserved-held : assembleOf 5 5 (sourceOf ("HALT" ∷ "RES 2" ∷ "DATA 5" ∷ [])) ≡ accepted (64 ∷ 0 ∷ 0 ∷ 5 ∷ 0 ∷ []) (1 ∷ 3 ∷ 3 ∷ 2 ∷ 0 ∷ [])
+  pub reserved-counted : Counts ("HALT" ∷ "RES 2" ∷ "DATA 5" ∷ []) 1 1 2
+  pub side-by-side : Counts ("RES 2" ∷ "RES 3" ∷ []) 0 0 5
   -- nothing is bound to 65,536
-  pub not-bound : Passes ("ORG 65535" ∷ "RES 1" ∷ "x: ORG 0" ∷ "HALT" ∷ [])
-  pub equ-binds : Passes ("ORG 65535" ∷ "RES 1" ∷ "x: EQU 4" ∷ [])
-  pub none-reserved : Passes ("ORG 65535" ∷ "RES 1" ∷ "RES 0" ∷ [])
-  pub org-there : Passes ("ORG 65535" ∷ "RES 1" ∷ "ORG 1" ∷ "HALT" ∷ [])
-  pub end-there : Passes ("ORG 65535" ∷ "RES 1" ∷ "END" ∷ [])
-  pub end-binds-6 : Refuses ("ORG 65535" ∷ "RES 1" ∷ "x: END" ∷ "" ∷ []) 6 3
+  pub not-bound : PassesAtMost ("ORG 65535" ∷ "RES 1" ∷ "x: ORG 0" ∷ "HALT" ∷ [])
+  pub equ-binds : PassesAtMost ("ORG 65535" ∷ "RES 1" ∷ "x: EQU 4" ∷ [])
+  pub none-reserved : PassesAtMost ("ORG 65535" ∷ "RES 1" ∷ "RES 0" ∷ [])
+  pub org-there : PassesAtMost ("ORG 65535" ∷ "RES 1" ∷ "ORG 1" ∷ "HALT" ∷ [])
+  pub end-there : PassesAtMost ("ORG 65535" ∷ "RES 1" ∷ "END" ∷ [])
+  pub end-binds-6 : RefusesAtMost ("ORG 65535" ∷ "RES 1" ∷ "x: END" ∷ "" ∷ []) 6 3
   pub size-before-13 : Refuses ("MOVE #x,/70000" ∷ []) 6 1
   -- a name of 65 bytes
   pub long-label : assembleOf 16 16 (long ++ bytes ": NOP") ≡ refuses (10 on 1)
@@ -133,7 +168,7 @@ pub record Examples : Type 0 where
   pub bad-loan : assembleOf 2 3 (sourceOf ("FOO" ∷ [])) ≡ refuses (1 on 0)
 
 pub examples : Examples
-unfolding computedSource
+unfolding computedSource cellsMarked
 examples =
     record {
       printed = refl;
@@ -196,9 +231,22 @@ examples =
       overlap = refl;
       twice = refl;
       past-before-twice = refl;
-      reserved-free = refl;
-      reserves-claimed = refl;
       reserves-too-far = refl;
+      reserves-past = refl;
+      reserves-all = refl;
+      reserves-one-more = refl;
+      reserved-taken = refl;
+      reserved-taken-last = refl;
+      reserved-not-taken = refl;
+      reserves-claimed = refl;
+      reserves-reserved = refl;
+      reserves-past-before-12 = refl;
+      none-over-claimed = refl;
+      none-past = refl;
+      org-past = refl;
+      reserved-held = refl;
+      reserved-counted = (refl, refl, refl);
+      side-by-side = (refl, refl, refl);
       not-bound = refl;
       equ-binds = refl;
       none-reserved = refl;

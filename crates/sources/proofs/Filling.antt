@@ -1,5 +1,5 @@
 -- Cells that are written with 0 in the places of labels, and filled at the end, come to the cells that each line gives, line by line: a
--- label's cell lies in its own line's block, which no later line touches.
+-- label's cell lies in its own line's block, which no later line touches; and a cell that RES reserves is 0, as is each that is free.
 use Prim.Native.Nat.{ℕ, _+_, _≤_, _<_}
 use mathlib.Core.List.{List, [], _∷_, map}
 use mathlib.Core.Path.{_≡_, refl, sym, ap, subst, _∙_}
@@ -21,7 +21,7 @@ use Rattle.sources.specs.Image.{givenBy, blockOf}
 use Rattle.sources.specs.Inner.Assembling.{rawRead, Work, startWork, worked, workAfter, filled, memoryOf}
 use Rattle.sources.proofs.Works.{place-of-work, uses-of-work}
 use Rattle.sources.proofs.Passing.{passing-says, passed-line}
-use Rattle.sources.proofs.Stores.{Outside, sets-other, sets-same, set-sets}
+use Rattle.sources.proofs.Stores.{Outside, sets-other, sets-same, set-sets, zero-there}
 use Rattle.sources.proofs.Contents.{claims-count, marked-cells, filled-append, Inside, line-cells}
 
 -- every line of a list has its reading
@@ -42,8 +42,8 @@ pub record FitsBy (M k : ℕ) (bs : List Bound) (p : Place) (bytes : List ℕ) (
   pub untaken : (i : ℕ) → i < doesRead j .claims → getD (p .marks) (p .at + i) free ≡ free
   pub marking : 0 < doesRead j .claims → doesRead j .mark ≡ free → ⊥
   pub given-long : length (givenBy bs bytes (movedBy (doesRead j .moves) (p .at)) r) ≡ doesRead j .claims
-  pub raw-long : length (rawRead bytes j) ≡ doesRead j .claims
-  pub fills : (m : List ℕ)
+  pub raw-within : length (rawRead bytes j) ≤ doesRead j .claims
+  pub fills : (m : List ℕ) → ((i : ℕ) → i < doesRead j .claims → getD m (p .at + i) 0 ≡ 0)
       → filled bs (usesRead k bytes (p .at) j) (sets m (p .at) (rawRead bytes j))
       ≡ sets m (p .at) (givenBy bs bytes (movedBy (doesRead j .moves) (p .at)) r)
   pub uses-inside : Inside (p .at) (doesRead j .claims) (usesRead k bytes (p .at) j)
@@ -67,8 +67,8 @@ module _ (M k : ℕ) (bs : List Bound) (p : Place) (x : Said) where
         untaken = f .1;
         marking = marked-cells s;
         given-long = l .given-long (movedBy (does s .moves) (p .at)) ∙ sym n;
-        raw-long = l .raw-long ∙ sym n;
-        fills = l .fills;
+        raw-within = omega (arith, l .raw-within, n);
+        fills = λ m z. l .fills m (λ i h. z i (omega (arith, n)));
         uses-inside = subst (λ (c : ℕ). Inside (p .at) c (usesBy k (x .bytes) (p .at) s)) (sym n) (l .uses-inside);
       })
 
@@ -95,6 +95,29 @@ module _ {M k : ℕ} {bs : List Bound} {p : Place} (x : Said) (f : Fits M k bs p
       let n = length-replicate {A = ℕ} (a .claims) (a .mark) in
       sets-same (replicate (a .claims) (a .mark)) (p .marks) (p .at) i (omega (arith, f .within (omega arith))) (omega arith)
       ∙ getD-replicate (a .claims) i (a .mark) 0 h
+
+  -- a cell that is free behind the line is none of its own
+  pub still-free : length (p .marks) ≡ M → (c : ℕ) → getD (after p (judgedLine x) .marks) c free ≡ free
+      → Outside c (p .at) (doesRead (judged (x .says)) .claims)
+  still-free l c e i h q =
+      f .marking (omega arith) (sym (gets-mark l i h) ∙ ap (λ (a : ℕ). getD (after p (judgedLine x) .marks) a free) (sym q) ∙ e)
+
+  -- and was free before it
+  pub was-free : length (p .marks) ≡ M → (c : ℕ) → getD (after p (judgedLine x) .marks) c free ≡ free → getD (p .marks) c free ≡ free
+  unfolding after acted
+  was-free l c e =
+      let a = doesRead (judged (x .says)) in
+      let o = still-free l c e in
+      let n = length-replicate {A = ℕ} (a .claims) (a .mark) in
+      sym (sets-other (replicate (a .claims) (a .mark)) (p .marks) (p .at) c (λ i h q. o i (omega (arith, n)) q)) ∙ e
+
+  -- where free cells are 0 before the line, they are behind it
+  pub still-zero : length (p .marks) ≡ M → (m : List ℕ) → ((a : ℕ) → getD (p .marks) a free ≡ free → getD m a 0 ≡ 0) → (a : ℕ)
+      → getD (after p (judgedLine x) .marks) a free ≡ free
+      → getD (sets m (p .at) (blockOf bs (p .at) x .given)) a 0 ≡ 0
+  still-zero l m z a e =
+      let o = still-free l a e in
+      sets-other (blockOf bs (p .at) x .given) m (p .at) a (λ i h q. o i (omega (arith, f .given-long)) q) ∙ z a (was-free l a e)
 
 -- the map stays as long
 pub marks-long : (p : Place) (x : Judged) → length (after p x .marks) ≡ length (p .marks)
@@ -127,7 +150,7 @@ module _ (M : ℕ) (bs : List Bound) where
       let raw = rawRead (x .bytes) (judged (x .says)) in
       let o = not-its x f c t in
       set-before (k + 1) q xs (s .1) (h .1) c v (λ e. t (sym (keeps-mark x f c t) ∙ e)) (sets m (p .at) raw)
-      ∙ ap (rawWritten (q .at) (map judgedLine xs)) (set-sets raw m (p .at) c v (λ i l e. o i (omega (arith, f .raw-long)) e))
+      ∙ ap (rawWritten (q .at) (map judgedLine xs)) (set-sets raw m (p .at) c v (λ i l e. o i (omega (arith, f .raw-within)) e))
 
   -- so can filling labels' cells that are marked
   filled-before : (k : ℕ) (p : Place) (xs : List Said) → Read xs → Passed M k p xs → (at n : ℕ)
@@ -145,12 +168,13 @@ module _ (M : ℕ) (bs : List Bound) where
       (set-before k p xs s h (u .cell) v (λ e. t (c .0) (c .1) (ap (λ (a : ℕ). getD (p .marks) a free) (sym (c .2)) ∙ e)) m)
       ∙ filled-before k p xs s h at n t us (i .1) (set m (u .cell) v)
 
-  -- lines that pass: filling at the end is giving line by line
+  -- lines that pass, over cells that are 0 where they are free: filling at the end is giving line by line
   pub filling : (k : ℕ) (p : Place) (xs : List Said) → length (p .marks) ≡ M → Read xs → Passed M k p xs → (m : List ℕ)
+      → ((a : ℕ) → getD (p .marks) a free ≡ free → getD m a 0 ≡ 0)
       → filled bs (usesOf k (p .at) (map judgedLine xs)) (rawWritten (p .at) (map judgedLine xs) m) ≡ written bs (p .at) xs m
   unfolding rawWritten written usesOf filled Passed after acted
-  filling k p [] l s h m = refl
-  filling k p (x ∷ xs) l s h m =
+  filling k p [] l s h m z = refl
+  filling k p (x ∷ xs) l s h m z =
       let f = fits M k bs p x (s .0) (h .0) in
       let q = after p (judgedLine x) in
       let a = doesRead (judged (x .says)) in
@@ -162,8 +186,8 @@ module _ (M : ℕ) (bs : List Bound) where
       filled-before (k + 1) q xs (s .1) (h .1) (p .at) (a .claims)
       (λ i t e. f .marking (omega arith) (sym (gets-mark x f l i t) ∙ e)) us (f .uses-inside) raw in
       filled-append bs us vs (rawWritten (q .at) js raw)
-      ∙ ap (filled bs vs) (own ∙ ap (rawWritten (q .at) js) (f .fills m))
-      ∙ filling (k + 1) q xs (marks-long p (judgedLine x) ∙ l) (s .1) (h .1) (sets m (p .at) (blockOf bs (p .at) x .given))
+      ∙ ap (filled bs vs) (own ∙ ap (rawWritten (q .at) js) (f .fills m (λ i t. z (p .at + i) (f .untaken i t))))
+      ∙ filling (k + 1) q xs (marks-long p (judgedLine x) ∙ l) (s .1) (h .1) (sets m (p .at) (blockOf bs (p .at) x .given)) (still-zero x f l m z)
 
 -- ---- the walk over the lines
 
@@ -187,7 +211,7 @@ memory-written M xs s h =
     ap (λ (b : List Bound). filled b (workAfter 1 w js .uses) (workAfter 1 w js .cells)) p
     ∙ ap (λ (us : List Use). filled bs us (workAfter 1 w js .cells)) u
     ∙ ap (filled bs (usesOf 1 0 js)) c
-    ∙ filling M bs 1 (start M) xs (length-replicate {A = ℕ} M 0) s h zeros
+    ∙ filling M bs 1 (start M) xs (length-replicate {A = ℕ} M 0) s h zeros (λ a e. zero-there M a)
 
 -- and the map is that of the lines' place
 pub work-marks : (M : ℕ) (xs : List Said) → workAfter 1 (startWork M) (map judgedLine xs) .place .marks ≡ placeOf M xs .marks

@@ -6,7 +6,7 @@ use mathlib.Core.Logic.{_⊎_, inl, inr}
 use mathlib.Core.Path.{_≡_, refl, sym, ap, subst, _∙_}
 use native.Mathlib.Omega.{arith}
 use lib.Dec.{ltb}
-use lib.ListN.{length, getD, replicate, length-replicate, getD-replicate, List·getD-eq-default}
+use lib.ListN.{length, getD, replicate, length-replicate, getD-replicate}
 use lib.Seq.{sets, length-sets, ext-getD}
 use borrow.Author.Tests.{ltb-true, ltb-false}
 use Rattle.statements.specs.FirstFailing.{Pass}
@@ -18,8 +18,8 @@ use Rattle.sources.specs.Placing.{doesRead, Bound, Place, start, acted, 
 use Rattle.sources.specs.Order.{lineChecks, Passed}
 use Rattle.sources.specs.Image.{Block, blockOf, blocksOf, blocks, Has, Apart, Image}
 use Rattle.sources.specs.Inner.Assembling.{startWork, workAfter, memoryOf}
-use Rattle.sources.proofs.Stores.{Outside, sets-other, sets-same}
-use Rattle.sources.proofs.Filling.{Read, fits, gets-mark, marks-long, written, memory-written, work-marks}
+use Rattle.sources.proofs.Stores.{Outside, sets-other, sets-same, zero-there}
+use Rattle.sources.proofs.Filling.{Read, fits, still-free, was-free, marks-long, written, memory-written, work-marks}
 
 -- ---- from a place on, over a memory
 
@@ -124,13 +124,6 @@ lines-fill M n bs p m (x ∷ xs) lm lk s h =
 
 -- ---- the image is there
 
-pub zero-there : (n a : ℕ) → getD {A = ℕ} (replicate n 0) a 0 ≡ 0
-zero-there n a = go (ltb a n) refl
-  where
-    go : (b : Bool) → ltb a n ≡ b → getD {A = ℕ} (replicate n 0) a 0 ≡ 0
-    go true e = getD-replicate n a 0 0 (ltb-true a n e)
-    go false e = List·getD-eq-default (replicate n 0) 0 (omega (arith, ltb-false a n e, length-replicate {A = ℕ} n 0))
-
 -- what the lines give over zeros, with any values for the labels
 image-given : (M : ℕ) (bs : List Bound) (xs : List Said) → Read xs → Passed M 1 (start M) xs
     → Image M (blocksOf bs 0 xs) (written bs 0 xs (replicate M 0)) (placeOf M xs .marks)
@@ -219,19 +212,11 @@ record Behind (p : Place) (b : Block) (marks : List ℕ) : Type 0 where
 module _ (M : ℕ) (bs : List Bound) where
   behind : (n : ℕ) (p : Place) (x : Said) → length (p .marks) ≡ M → Says (x .bytes) (x .label) (x .says) → Pass (lineChecks M n p (x .bytes))
       → Behind p (blockOf bs (p .at) x) (after p (judgedLine x) .marks)
-  unfolding after acted
   behind n p x l s h =
       let f = fits M n bs p x s h in
-      let count = doesRead (judged (x .says)) .claims in
-      let mark = doesRead (judged (x .says)) .mark in
-      let k = length-replicate {A = ℕ} count mark in
-      let marks = after p (judgedLine x) .marks in
-      let taken : (a i : ℕ) → i < count → a ≡ p .at + i → getD marks a free ≡ free → ⊥ =
-      λ a i t q e. f .marking (omega arith) (sym (gets-mark x f l i t) ∙ ap (λ (j : ℕ). getD marks j free) (sym q) ∙ e) in
       record {
-        taken-now = λ a u e. taken a (u .0) (omega (arith, u .1, f .given-long)) (u .2) e;
-        free-before = λ a e.
-            sym (sets-other (replicate count mark) (p .marks) (p .at) a (λ i t q. taken a i (omega (arith, k)) q e)) ∙ e;
+        taken-now = λ a u e. still-free x f l a e (u .0) (omega (arith, u .1, f .given-long)) (u .2);
+        free-before = λ a e. was-free x f l a e;
       }
 
   untaken-block : (n : ℕ) (p : Place) (x : Said) → Says (x .bytes) (x .label) (x .says) → Pass (lineChecks M n p (x .bytes)) → (a : ℕ)

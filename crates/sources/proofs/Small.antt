@@ -1,5 +1,6 @@
--- An accepted image is a memory of 16-bit cells, and its free cells hold 0. A line gives numbers in range, register codes and labels' values; a
--- label's value is an expression's result or an address that was checked; and a line that gives cells marks them.
+-- An accepted image is a memory of 16-bit cells, and its free and its reserved cells hold 0. A line gives numbers in range, register codes,
+-- labels' values and RES's zeros; a label's value is an expression's result or an address that was checked; and a line that gives cells marks
+-- them, RES alone with 3.
 use Prim.Native.Nat.{ℕ, _+_, _<_, _≤_}
 use mathlib.Core.Bool.{Bool, true, false, cond}
 use mathlib.Core.List.{List, [], _∷_, _++_, map, List·Memᴰ, List·Memᴰ·head, List·Memᴰ·tail}
@@ -14,7 +15,7 @@ use mir.Syntax.{w16}
 use mir.Val.{ofZ}
 use borrow.Author.Tests.{ltb-true}
 use Rattle.codes.specs.Limits.{mostCells, deepest}
-use Rattle.codes.specs.Marks.{free}
+use Rattle.codes.specs.Marks.{free, reservedMark}
 use Rattle.numerals.specs.Numbers.{valueOf, inRange, keptOf}
 use Rattle.numerals.specs.declared.Kept.{Kept}
 use Rattle.numerals.specs.declared.Kept.the-variants as N
@@ -52,10 +53,11 @@ use Rattle.statements.specs.Checks.{leastSigned, resultIn}
 use Rattle.statements.specs.FirstFailing.{Pass}
 use Rattle.statements.specs.Judging.{resultOf, worthResult, treeResult, judged}
 use Rattle.statements.specs.Reading.{lineRead}
-use Rattle.statements.specs.Statements.{Reading, Says}
+use Rattle.statements.specs.Statements.{Reading, res, Says}
 use Rattle.statements.specs.declared.Failure.the-variants as F
 use Rattle.statements.specs.declared.Statement.{Statement}
 use Rattle.statements.specs.declared.Statement.the-variants as S
+use Rattle.statements.specs.declared.StatementRead.{StatementRead}
 use Rattle.statements.specs.declared.StatementRead.the-variants.{Passes, Fails}
 use Rattle.statements.proofs.Labelling.{never}
 use Rattle.statements.proofs.Passing.{instruction-from}
@@ -73,6 +75,7 @@ use Rattle.sources.proofs.Contents.{PassesAs, as-nothing, as-instructio
 use Rattle.sources.proofs.Filling.{Read, all-read, fits}
 use Rattle.sources.proofs.Images.{Somewhere, Nowhere, somewhere}
 use Rattle.sources.proofs.Passing.{passing-says}
+use Rattle.sources.proofs.Stores.{zero-there}
 
 -- ---- an operand's word
 
@@ -211,11 +214,23 @@ given-small bs h bytes x e (as-instruction {op} {os} {a} {b} f) next =
     (label-small bs h bytes next (b .label) (b .operand)))
 given-small bs h bytes x e as-org next = none-small
 given-small bs h bytes x e as-equ next = none-small
-given-small bs h bytes x e as-res next = none-small
+given-small bs h bytes x e (as-res {t} f) next = λ k. let z = zero-there (doesRead (judged (res t)) .claims) k in omega (arith, z)
 given-small bs h bytes x e (as-cells {is} f) next =
     let i = items-from bytes x in
     subst Small (items.written-exactly bytes (i .0) (i .1) f) (items.cells-small bytes (i .0))
 given-small bs h bytes x e as-end next = none-small
+
+-- a line that marks its cells as reserved gives zeros
+reserved-given : (bs : List Bound) (bytes : List ℕ) (next : ℕ) {r : Reading} {s : Statement} → PassesAs r s → does s .mark ≡ reservedMark
+    → (i : ℕ) → getD (givenBy bs bytes next r) i 0 ≡ 0
+unfolding does
+reserved-given bs bytes next as-nothing e i = refl
+reserved-given bs bytes next (as-instruction f) e i = absurd (omega arith)
+reserved-given bs bytes next as-org e i = refl
+reserved-given bs bytes next as-equ e i = refl
+reserved-given bs bytes next (as-res {t} f) e i = zero-there (doesRead (judged (res t)) .claims) i
+reserved-given bs bytes next (as-cells f) e i = absurd (omega arith)
+reserved-given bs bytes next as-end e i = refl
 
 -- ---- what a line binds
 
@@ -243,7 +258,7 @@ number-given e as-nothing v q = never (cc)
 number-given e (as-instruction f) v q = never (cc)
 number-given e as-org v q = never (cc)
 number-given e (as-equ {t = t} {v = u}) v q = let z : u ≡ v = cc in subst (λ (x : ℕ). x < 65536) z (equ-small t u e)
-number-given e as-res v q = never (cc)
+number-given e (as-res f) v q = never (cc)
 number-given e (as-cells f) v q = never (cc)
 number-given e as-end v q = never (cc)
 
@@ -304,6 +319,7 @@ bindings-small {M} a =
 record SmallBlock (b : Block) : Type 0 where
   cells : Small (b .given)
   marking : 0 < length (b .given) → b .mark ≡ free → ⊥
+  reserving : b .mark ≡ reservedMark → (i : ℕ) → getD (b .given) i 0 ≡ 0
 
 blocks-small : (bs : List Bound) → ValuesSmall bs → (M k : ℕ) (p : Place) (xs : List Said) → Read xs → Passed M k p xs → (b : Block)
     → List·Memᴰ b (blocksOf bs (p .at) xs)
@@ -314,10 +330,12 @@ blocks-small bs v M k p (x ∷ xs) s h b (List·Memᴰ·head e) =
     let t = passing M k p x (s .0) (h .0) in
     let f = fits M k bs p x (s .0) (h .0) in
     let q = statement-read (x .bytes) (x .says) (s .0) (t .comes-to) in
+    let r = passes-as (x .says) (t .comes-to) in
     subst SmallBlock (sym e)
     (record {
-      cells = given-small bs v (x .bytes) (s .0) q (passes-as (x .says) (t .comes-to)) _;
+      cells = given-small bs v (x .bytes) (s .0) q r _;
       marking = λ l. f .marking (omega (arith, f .given-long, l));
+      reserving = λ k. reserved-given bs (x .bytes) _ r (ap (λ (j : StatementRead). doesRead j .mark) (sym (t .comes-to)) ∙ k);
     })
 blocks-small bs v M k p (x ∷ xs) s h b (List·Memᴰ·tail m) = blocks-small bs v M (k + 1) (after p (judgedLine x)) xs (s .1) (h .1) b m
 
@@ -349,4 +367,15 @@ module _ {M N : ℕ} {source memory marks : List ℕ} (a : Accepted M N source m
       go (inl (b, m, (i, l, e))) =
           let g = a .image .given b m i l .1 in
           absurd (small-block b m .marking (omega arith) (sym g ∙ ap (λ (x : ℕ). getD marks x free) (sym e) ∙ f))
+      go (inr n) = a .image .elsewhere j n .0
+
+  -- and where it is reserved
+  pub image-reserved : (j : ℕ) → getD marks j free ≡ reservedMark → getD memory j 0 ≡ 0
+  image-reserved j f = go (somewhere (blocks M (a .reading)) j)
+    where
+      go : Somewhere (blocks M (a .reading)) j ⊎ Nowhere (blocks M (a .reading)) j → getD memory j 0 ≡ 0
+      go (inl (b, m, (i, l, e))) =
+          let g = a .image .given b m i l in
+          let k : b .mark ≡ reservedMark = sym (g .1) ∙ ap (λ (x : ℕ). getD marks x free) (sym e) ∙ f in
+          ap (λ (x : ℕ). getD memory x 0) e ∙ g .0 ∙ small-block b m .reserving k i
       go (inr n) = a .image .elsewhere j n .0

@@ -15,7 +15,7 @@ use Rattle.statements.specs.Statements.{HasWord}
 use Rattle.statements.specs.FirstFailing.{Pass}
 use Rattle.statements.proofs.Labelling.{never}
 use Rattle.codes.specs.Limits.{longestSource}
-use Rattle.codes.specs.Marks.{free, codeMark, dataMark}
+use Rattle.codes.specs.Marks.{free, codeMark, dataMark, reservedMark}
 use Rattle.sources.specs.Sources.{Said, SourceText}
 use Rattle.sources.specs.Placing.{Judged, judgedLine}
 use Rattle.sources.specs.Order.{Refusal, loanChecks, FirstFailing, Passing}
@@ -154,19 +154,26 @@ module _ (M N : ℕ) (source : List ℕ) where
   pub no-cell-twice : {memory marks : List ℕ} (a : Accepted M N source memory marks) → Apart (blocks M (a .reading))
   no-cell-twice a = Images.apart M (a .reading) (all-read (a .passing .text .read)) (a .passing .lines)
 
-  -- Each cell of its image is below 65536, and its free cells hold 0.
+  -- Each cell of its image is below 65536, and its free cells and its reserved cells hold 0.
   pub cells-small : {memory marks : List ℕ} → Accepted M N source memory marks → (a : ℕ) → getD memory a 0 < 65536
   cells-small a = Small.image-small a
 
   pub free-hold-zero : {memory marks : List ℕ} → Accepted M N source memory marks → (a : ℕ) → getD marks a free ≡ free → getD memory a 0 ≡ 0
   free-hold-zero a = Small.image-free a
 
-  -- The numbers of cells marked 1 and 2 are those of the cells that its instructions and its DATA give.
+  pub reserved-hold-zero : {memory marks : List ℕ} → Accepted M N source memory marks → (a : ℕ) → getD marks a free ≡ reservedMark → getD memory a 0 ≡ 0
+  reserved-hold-zero a = Small.image-reserved a
+
+  -- The numbers of cells marked 1, 2 and 3 are those of the cells that its instructions, its DATA and its RES give.
   pub code-counted : {memory marks : List ℕ} (a : Accepted M N source memory marks) → cellsMarked codeMark marks ≡ cellsOfMark codeMark (blocks M (a .reading))
   code-counted a = Counts.code-cells a
 
   pub data-counted : {memory marks : List ℕ} (a : Accepted M N source memory marks) → cellsMarked dataMark marks ≡ cellsOfMark dataMark (blocks M (a .reading))
   data-counted a = Counts.data-cells a
+
+  pub reserved-counted : {memory marks : List ℕ} (a : Accepted M N source memory marks)
+      → cellsMarked reservedMark marks ≡ cellsOfMark reservedMark (blocks M (a .reading))
+  reserved-counted a = Counts.reserved-cells a
 
 -- A refusal's number is one of 1 to 14, and never 0.
 pub refusal-numbered : {M N : ℕ} {source : List ℕ} {why : Refusal} → FirstFailing M N source why → (1 ≤ why .number) × (why .number ≤ 14)

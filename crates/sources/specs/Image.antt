@@ -5,7 +5,7 @@ use mathlib.Core.Bool.{cond}
 use mathlib.Core.List.{List, [], _∷_, List·Memᴰ}
 use mathlib.Core.Path.{_≡_}
 use lib.Dec.{eqb}
-use lib.ListN.{length, getD}
+use lib.ListN.{length, getD, replicate}
 use Rattle.isa.specs.Encoding.{wordsOf}
 use Rattle.isa.specs.declared.Opcode.{Opcode}
 use Rattle.isa.specs.declared.Operand.{Operand}
@@ -18,6 +18,7 @@ use Rattle.operands.specs.declared.InstructionRead.{InstructionRead}
 use Rattle.operands.specs.declared.InstructionRead.the-variants as I
 use Rattle.items.specs.Items.{cellsOf}
 use Rattle.statements.specs.Statements.{Reading, nothing, instruction, org, equ, res, cells, end}
+use Rattle.statements.specs.Judging.{judged}
 use Rattle.codes.specs.Marks.{free}
 use Rattle.sources.specs.Sources.{spelled, Said}
 use Rattle.sources.specs.Placing.{Bound, judgedLine, doesRead, nextFrom, placeOf, bindings}
@@ -46,14 +47,14 @@ module _ (bs : List Bound) (bytes : List ℕ) (next : ℕ) where
   codeRead op I.WrongOperands = []
   codeRead op I.OutOfRange = []
 
-  -- ---- what each line gives: an instruction its words, DATA its items' cells
+  -- ---- what each line gives: an instruction its words, DATA its items' cells; RES the cells that it claims, "holding 0" (02, K2)
 
   abbrev pub givenBy : Reading → List ℕ
   givenBy nothing = []
   givenBy (instruction op os) = codeRead op (Operands.judged op os)
   givenBy (org e) = []
   givenBy (equ e) = []
-  givenBy (res e) = []
+  givenBy (res e) = replicate (doesRead (judged (res e)) .claims) 0
   givenBy (cells is) = cellsOf is
   givenBy end = []
 
@@ -107,7 +108,7 @@ pub record Accepted (M N : ℕ) (source memory marks : List ℕ) : Type 0 where
   pub passing : Passing M N source reading
   pub image : Image M (blocks M reading) memory marks
 
--- "the numbers of code and data cells": how many cells have a mark
+-- "the numbers of code and data cells" (01), and of reserved ones "as a third count" (02, K2): how many cells have a mark
 unfoldable pub cellsMarked : ℕ → List ℕ → ℕ
 cellsMarked k [] = 0
 cellsMarked k (m ∷ ms) = cond (eqb m k) (suc (cellsMarked k ms)) (cellsMarked k ms)

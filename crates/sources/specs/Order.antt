@@ -47,7 +47,7 @@ loanChecks M N source =
 abbrev pub LabelOut : Place → Act → Type 0
 LabelOut p a = (a .gives ≡ Start) × (0 < length (p .waiting)) × (mostCells ≤ p .at)
 
--- "RES moves the address ..; an address above 65,536 after it is 6"
+-- RES: "an address above 65,536 after it is 6"
 abbrev pub ReservesTooFar : Moves → ℕ → Type 0
 ReservesTooFar (On n) at = ⊥
 ReservesTooFar (Reserving n) at = mostCells < at + n

@@ -11,7 +11,7 @@ use Rattle.statements.specs.declared.Statement.{Statement}
 use Rattle.statements.specs.declared.Statement.the-variants.{Nothing, Instruction, Org, Equ, Res, Data, End}
 use Rattle.statements.specs.declared.StatementRead.{StatementRead}
 use Rattle.statements.specs.declared.StatementRead.the-variants.{Passes, Fails}
-use Rattle.codes.specs.Marks.{free, codeMark, dataMark}
+use Rattle.codes.specs.Marks.{free, codeMark, dataMark, reservedMark}
 use Rattle.sources.specs.Sources.{Said, spelled}
 use Rattle.sources.specs.declared.Act.{Act}
 use Rattle.sources.specs.declared.Gives.{Gives}
@@ -32,14 +32,14 @@ idle = act Waits (On 0) 0 free
 abbrev pub claiming : Statement → ℕ → Act
 claiming s k = act Start (On (claimOf s)) (claimOf s) k
 
--- "EQU gives its value; an instruction, DATA or RES its start; ORG lets it wait on; END .. gives the current address. .. RES moves the
--- address and claims no cell"
+-- "EQU gives its value; an instruction, DATA or RES its start; ORG lets it wait on; END .. gives the current address" (01); "RES must
+-- claim its cells, marked 3 in the map" (02, K2)
 unfoldable pub does : Statement → Act
 does Nothing = idle
 does (Instruction op a b) = claiming (Instruction op a b) codeMark
 does (Org v) = act Waits (To v) 0 free
 does (Equ v) = act (Number v) (On 0) 0 free
-does (Res v) = act Start (Reserving v) (claimOf (Res v)) free
+does (Res v) = act Start (Reserving v) (claimOf (Res v)) reservedMark
 does (Data n) = claiming (Data n) dataMark
 does End = act Start (On 0) 0 free
 

@@ -124,11 +124,12 @@ pub record Examples : Type 0 where
   pub deepest-origin : Line (deepOrg 32 "5") Absent (Org 5)
   pub too-deep : Refused 8 (deepOrg 33 "1/0")
   pub form-first : Refused 3 (deepOrg 33 "x")
-  -- "RES moves the address and claims no cell"
-  pub claim-none : Claims 0 ("" ∷ "x:" ∷ "ORG 5" ∷ "EQU 5" ∷ "RES 5" ∷ "END" ∷ [])
-  pub claim-one : Claims 1 ("HALT" ∷ "DATA 7" ∷ "DATA \"\"" ∷ [])
-  pub claim-two : Claims 2 ("BR /x" ∷ "PUSH #-1" ∷ "DATA 7,8" ∷ [])
-  pub claim-three : Claims 3 ("MOVE #x,.A" ∷ "DATA \"a\",-1" ∷ [])
+  -- "RES must claim its cells" (02, K2); `RES 0` has none
+  pub claim-none : Claims 0 ("" ∷ "x:" ∷ "ORG 5" ∷ "EQU 5" ∷ "RES 0" ∷ "END" ∷ [])
+  pub claim-one : Claims 1 ("HALT" ∷ "DATA 7" ∷ "DATA \"\"" ∷ "RES 1" ∷ [])
+  pub claim-two : Claims 2 ("BR /x" ∷ "PUSH #-1" ∷ "DATA 7,8" ∷ "RES 5-3" ∷ [])
+  pub claim-three : Claims 3 ("MOVE #x,.A" ∷ "DATA \"a\",-1" ∷ "x: RES 3" ∷ [])
+  pub claim-most : Claims 65535 ("RES 65535" ∷ [])
 
 pub examples : Examples
 unfolding computedLine
@@ -177,7 +178,8 @@ examples =
       too-deep = (refl, refl);
       form-first = (refl, refl);
       claim-none = (refl, (refl, (refl, (refl, (refl, (refl, tt))))));
-      claim-one = (refl, (refl, (refl, tt)));
-      claim-two = (refl, (refl, (refl, tt)));
-      claim-three = (refl, (refl, tt));
+      claim-one = (refl, (refl, (refl, (refl, tt))));
+      claim-two = (refl, (refl, (refl, (refl, tt))));
+      claim-three = (refl, (refl, (refl, tt)));
+      claim-most = (refl, tt);
     }

@@ -169,13 +169,16 @@ module _ (line : List ℕ) {op : Opcode} {a b : Given} (e : lineRead line .state
   pub operand-labels-within : LabelWithin (length line) (a .label) × LabelWithin (length line) (b .label)
   operand-labels-within = Passing.operand-labels-within line e
 
--- "RES moves the address and claims no cell", and no other statement but an instruction and DATA claims one.
+-- "RES must claim its cells" (02, K2): as many as it reserves.
+pub reserved-claimed : (v : ℕ) → claimOf (Res v) ≡ v
+reserved-claimed v = refl
+
+-- No other statement claims one.
 pub claims-none : (claimOf Nothing ≡ 0)
     × ((v : ℕ) → claimOf (Org v) ≡ 0)
     × ((v : ℕ) → claimOf (Equ v) ≡ 0)
-    × ((v : ℕ) → claimOf (Res v) ≡ 0)
     × (claimOf End ≡ 0)
-claims-none = (refl, λ v. refl, λ v. refl, λ v. refl, refl)
+claims-none = (refl, λ v. refl, λ v. refl, refl)
 
 -- ---- numbers
 

@@ -73,12 +73,12 @@ judged (res e) = treeResult leastUnsigned Res e
 judged (cells is) = cond (allInRange is) (Passes (Data (length (cellsOf is)))) (Fails OutOfRange)
 judged end = Passes End
 
--- how many cells a statement claims: an instruction its words, DATA its items'; "RES moves the address and claims no cell"
+-- how many cells a statement claims: an instruction its words, DATA its items'; "RES must claim its cells" (02, K2)
 abbrev pub claimOf : Statement → ℕ
 claimOf Nothing = 0
 claimOf (Instruction op a b) = suc (countOf op)
 claimOf (Org v) = 0
 claimOf (Equ v) = 0
-claimOf (Res v) = 0
+claimOf (Res v) = v
 claimOf (Data n) = n
 claimOf End = 0

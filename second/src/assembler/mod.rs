@@ -57,11 +57,13 @@ pub struct Refused {
     pub line: Line,
 }
 
-/// "acceptance returns 0, line 0 and the numbers of code and data cells."
+/// "acceptance returns 0, line 0 and the numbers of code and data cells", and by document 02, K2,
+/// that of reserved cells "as a third count".
 #[derive(Clone, Copy, Debug, PartialEq, Eq)]
 pub struct Accepted {
     pub code: u32,
     pub data: u32,
+    pub reserved: u32,
 }
 
 /// Assembles. Acceptance rewrites the whole memory and the whole map; a refusal touches neither.

@@ -4,7 +4,7 @@
 use super::labels::Labels;
 use super::settling::{Image, Late, Placed};
 use super::{Address, Line, Refusal, Refused};
-use crate::image::{CODE, DATA, FREE};
+use crate::image::{CODE, DATA, FREE, RESERVED};
 use crate::isa::encode;
 use crate::text::{Fault, Statement, Written};
 
@@ -83,19 +83,22 @@ impl<'s> Placing<'s> {
         }
     }
 
-    /// "RES moves the address and claims no cell; an address above 65,536 after it is 6."
+    /// "RES must claim its cells, marked 3 in the map, holding 0" (document 02, K2); "an address
+    /// above 65,536 after it is 6", and that comes before 11.
     fn reserve(&mut self, cells: u16) -> Result<(), Refused> {
         self.bind_here()?;
-        let after = self.address.0 + u32::from(cells);
-        if after > 65_536 {
+        if self.address.0 + u32::from(cells) > 65_536 {
             return Err(self.refused(Refusal::OfLine(Fault::OutOfRange)));
         }
-        self.address = Address(after);
-        Ok(())
+        self.claim(&vec![0; usize::from(cells)], RESERVED)
     }
 
-    /// Claims the cells from the current address on: 11 over all of them, then 12.
+    /// Claims the cells from the current address on: 11 over all of them, then 12. Where there are
+    /// none (`RES 0`) it is neither, at any address.
     fn claim(&mut self, words: &[u16], mark: u8) -> Result<(), Refused> {
+        if words.is_empty() {
+            return Ok(());
+        }
         let start = self.address.0 as usize;
         let cells = start..start + words.len();
         if cells.end > self.image.cells.len() {

@@ -3,7 +3,7 @@
 
 use super::labels::Labels;
 use super::{Accepted, Address, Line, Refusal, Refused};
-use crate::image::{CODE, DATA};
+use crate::image::{CODE, DATA, RESERVED};
 use crate::isa::Operand;
 
 /// A memory and a map in the making.
@@ -16,7 +16,7 @@ pub struct Image {
 impl Image {
     pub fn counts(&self) -> Accepted {
         let marked = |wanted: u8| self.marks.iter().filter(|mark| **mark == wanted).count() as u32;
-        Accepted { code: marked(CODE), data: marked(DATA) }
+        Accepted { code: marked(CODE), data: marked(DATA), reserved: marked(RESERVED) }
     }
 }
 

@@ -1,12 +1,17 @@
 //! Cases for the assembler.
 
 use super::random::Random;
-use super::{blocks, draw, edges, faulty, large, late, mutate, nasty, source, values, whole};
+use super::{blocks, draw, edges, faulty, large, late, mutate, nasty};
+use super::{reserved, source, values, whole};
 use crate::case::{Case, LentMemory, LentSource, CELLS_LIMIT};
 
 pub fn assemble_case(random: &mut Random) -> Case {
-    let cells = source_cells(random);
-    let mut source = drawn(random, cells);
+    let (cells, mut source) = if random.one_in(40) {
+        (65_536, reserved::at_the_top(random))
+    } else {
+        let cells = source_cells(random);
+        (cells, drawn(random, cells))
+    };
     if random.one_in(20) {
         source = late::late(random, &source);
     }
@@ -21,7 +26,7 @@ pub fn assemble_case(random: &mut Random) -> Case {
 
 /// A source for a memory of so many cells.
 pub fn drawn(random: &mut Random, cells: usize) -> Vec<u8> {
-    match random.below(44) {
+    match random.below(52) {
         0..=6 => source::source(random, cells),
         7..=17 => whole::source(random, cells),
         18..=23 => {
@@ -40,8 +45,9 @@ pub fn drawn(random: &mut Random, cells: usize) -> Vec<u8> {
             let text = late::told_late(random);
             late::late(random, &text)
         }
-        39 | 40 => values::source(random),
-        41 | 42 => edges::addresses::drawn_reach(random, cells),
+        39..=42 => values::source(random),
+        43 | 44 => edges::addresses::drawn_reach(random, cells),
+        45..=50 => reserved::source(random, cells),
         _ => nasty::bytes(random),
     }
 }

@@ -12,7 +12,8 @@ pub fn source(random: &mut Random, cells: usize) -> Vec<u8> {
     text.into_bytes()
 }
 
-/// A statement with the number of cells that it claims.
+/// A statement with the number of cells that are left for it: none for RES, so that the next block
+/// often lies over what it reserved.
 const STATEMENTS: [(&str, usize); 8] = [
     ("HALT", 1),
     ("PUSH #1", 2),

@@ -109,6 +109,7 @@ fn many_operands(random: &mut Random) -> String {
 }
 
 /// Addresses at 65,535 and 65,536, with labels that are or are not bound there, and far `$label`.
+/// Memories of fewer cells refuse all but the last of these starts with 11 (document 02, K2).
 fn edge_of_addresses(random: &mut Random) -> String {
     let start = random.text(&[
         "ORG 65535\nRES 1\n",
@@ -116,7 +117,12 @@ fn edge_of_addresses(random: &mut Random) -> String {
         "RES 65535\nRES 1\n",
         "ORG 65535\n",
     ]);
-    let rest = random.text(&[
+    format!("{}{}", start, behind_the_last_cell(random))
+}
+
+/// What may stand there.
+pub fn behind_the_last_cell(random: &mut Random) -> &'static str {
+    random.text(&[
         "x: NOP\n",
         "NOP\n",
         "x:\n\n",
@@ -143,6 +149,5 @@ fn edge_of_addresses(random: &mut Random) -> String {
         "ORG 40000\nx: BR $y\ny: EQU 1\n",
         "ORG 0\nMOVE #q,#x[.IX]\nx: EQU 40000\n",
         "DATA \"\"\nx:\n",
-    ]);
-    format!("{}{}", start, rest)
+    ])
 }

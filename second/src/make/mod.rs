@@ -17,6 +17,7 @@ pub mod nasty;
 pub mod ports;
 pub mod programs;
 pub mod random;
+pub mod reserved;
 pub mod source;
 pub mod states;
 pub mod values;

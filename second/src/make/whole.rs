@@ -50,7 +50,7 @@ struct Program<'r> {
     /// The current address, and the first one above all blocks.
     address: usize,
     top: usize,
-    /// Cells that RES or ORG left free below the top: start and length.
+    /// Cells that ORG left free below the top: start and length.
     holes: Vec<(usize, usize)>,
     /// All labels, and how many of them have been written.
     names: Vec<String>,
@@ -144,10 +144,10 @@ impl Program<'_> {
         }
         match self.random.below(24) {
             0 | 1 => self.equ(),
-            2 => self.reserve(),
-            3 => self.go_up(),
-            4 if !self.holes.is_empty() => self.fill_a_hole(),
-            5..=8 if self.room() > 0 => self.data(),
+            2 | 3 => self.reserve(),
+            4 => self.go_up(),
+            5 if !self.holes.is_empty() => self.fill_a_hole(),
+            6..=9 if self.room() > 0 => self.data(),
             _ => self.instruction(),
         }
         self.end_line();
@@ -165,11 +165,14 @@ impl Program<'_> {
         self.put(&value);
     }
 
-    /// RES that leaves a hole.
+    /// RES within the room that is left, seldom of many cells.
     fn reserve(&mut self) {
-        let cells = self.random.below(5.min(self.room() + 1));
-        self.put(&format!("RES {}", cells));
-        self.leave(cells);
+        let most = if self.random.one_in(12) { 120 } else { 4 };
+        let cells = self.random.below(most.min(self.room()) + 1);
+        let word = self.random.text(&["RES ", "RES ", "res\t"]);
+        self.put(word);
+        self.put(&cells.to_string());
+        self.claim(cells);
     }
 
     /// ORG to a place above all blocks.
@@ -204,9 +207,14 @@ impl Program<'_> {
         let start =
             if self.random.one_in(2) { start } else { start + length.saturating_sub(cells) };
         self.put(&format!("ORG {}\n", start));
-        let values: Vec<String> =
-            (0..cells).map(|_| (draw::word(self.random) as i16).to_string()).collect();
-        self.put(&format!("DATA {}\nORG {}", values.join(","), self.top.min(65_535)));
+        let filled = if self.random.one_in(3) {
+            format!("RES {}", cells)
+        } else {
+            let values: Vec<String> =
+                (0..cells).map(|_| (draw::word(self.random) as i16).to_string()).collect();
+            format!("DATA {}", values.join(","))
+        };
+        self.put(&format!("{}\nORG {}", filled, self.top.min(65_535)));
         self.address = self.top.min(65_535);
     }
 

@@ -46,7 +46,8 @@ fn list_cases() {
     check("list", 800);
 }
 
-fn committed(name: &str) -> Vec<Case> {
+/// The committed cases of a kind.
+pub fn committed(name: &str) -> Vec<Case> {
     let path = format!("{}/cases/{}.cases", env!("CARGO_MANIFEST_DIR"), name);
     let cases = read_to_string(path).expect("the cases");
     cases.lines().map(|line| case::read(line).expect(line)).collect()

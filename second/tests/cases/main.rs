@@ -4,3 +4,4 @@ mod back;
 mod committed;
 mod format;
 mod made;
+mod reserved;

@@ -18,9 +18,10 @@ fn last_cell_and_one_past_it() {
     assert_eq!(reply(16, "ORG 14\nPUSH #1"), (0, 0));
 }
 
+/// K2 takes "ORG and RES alone never give 11" back for RES: it holds for ORG and `RES 0`.
 #[test]
-fn org_and_res_alone_never_give_11() {
-    assert_eq!(reply(16, "ORG 65535\nRES 1"), (0, 0));
+fn org_and_res_0_alone_never_give_11() {
+    assert_eq!(reply(16, "ORG 65535\nRES 0"), (0, 0));
     assert_eq!(reply(1, "ORG 65535"), (0, 0));
 }
 

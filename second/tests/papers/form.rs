@@ -68,7 +68,9 @@ fn form_first_then_size() {
         6,
         &["ORG 0-1", "RES 0-1", "ORG 65535+1", "EQU 0-32769", "EQU 65535+1", "PUSH /-32769"],
     );
-    all_are(0, &["EQU 0-32768", "EQU 65535", "ORG 65535", "RES 65535"]);
+    all_are(0, &["EQU 0-32768", "EQU 65535", "ORG 65535"]);
+    // in range, but since K2 its cells are claimed
+    assert_eq!(refusal("RES 65535"), 11);
 }
 
 #[test]

@@ -36,7 +36,7 @@ fn room_equal_to_the_length_is_enough() {
 
 #[test]
 fn bad_lengths_or_marks_come_before_short_room() {
-    assert_eq!(print(&[0; 2], &[0, 3], &mut []), Err(NotPrinted::BadLoan));
+    assert_eq!(print(&[0; 2], &[0, 4], &mut []), Err(NotPrinted::BadLoan));
     assert_eq!(print(&[0; 2], &[0; 3], &mut []), Err(NotPrinted::BadLoan));
     assert_eq!(print(&[], &[], &mut []), Err(NotPrinted::BadLoan));
     assert_eq!(print(&[0; 2], &[0; 2], &mut []), Err(NotPrinted::RoomShort));

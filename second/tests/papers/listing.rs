@@ -197,7 +197,7 @@ fn bad_lengths_and_marks_come_first() {
         assert_eq!(refused(&vec![1; cells], &vec![1; marks], 0), NotListed::BadLoan);
         assert_eq!(refused(&vec![0; cells], &vec![0; marks], 9), NotListed::BadLoan);
     }
-    for mark in [3, 4, 255] {
+    for mark in [4, 5, 255] {
         assert_eq!(refused(&[1, 0], &[1, mark], 0), NotListed::BadLoan);
         assert_eq!(refused(&[1, 0], &[mark, 1], 40), NotListed::BadLoan);
     }

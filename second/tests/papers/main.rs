@@ -9,6 +9,7 @@ mod lines;
 mod listing;
 mod loans;
 mod order;
+mod reserved;
 mod runs;
 mod sources;
 mod steps;

@@ -68,10 +68,15 @@ fn lines_past_the_hundredth() {
         ("ORG 16\nHALT", 11, 122),
         ("HALT\nBR /x\nHALT", 13, 122),
         ("x: EQU 40000\nBR $x\nBR /y", 14, 122),
-        ("ORG 65535\nRES 1\nx:\n\n\n", 6, 125),
-        ("ORG 65535\nRES 1\nx:\nNOP\n\n", 6, 124),
+        ("ORG 16\nRES 1", 11, 122),
+        ("HALT\nORG 0\n\nRES 1", 12, 124),
+        ("RES 1\nORG 0\n\nHALT", 12, 124),
     ] {
         assert_eq!(reply(16, format!("{}{}", above, source)), (refusal, line), "{}", source);
+    }
+    for (end, line) in [("x:\n\n\n", 125), ("x:\nNOP\n\n", 124)] {
+        let source = format!("{}ORG 65535\nRES 1\n{}", above, end);
+        assert_eq!(reply(65_536, source), (6, line), "{}", end);
     }
 }
 
@@ -79,7 +84,7 @@ fn lines_past_the_hundredth() {
 #[test]
 fn labels_wait_over_lines_that_bind_nothing() {
     let source = "a:\n;\nb:\n\nc: ORG 7\nd:\n ORG 9\ne: RES 2\nMOVE #a,/b\nMOVE #c,/d\nPUSH #e";
-    assert_eq!(claimed(source), [139, 9, 9, 139, 9, 9, 200, 9]);
+    assert_eq!(claimed(source), [0, 0, 139, 9, 9, 139, 9, 9, 200, 9]);
     // EQU without a label binds the waiting ones too, and moves nothing
     assert_eq!(claimed("ORG 3\na:\nEQU 60\nb: PUSH #a\nPUSH #b"), [200, 60, 200, 3]);
 }
@@ -130,9 +135,10 @@ fn blocks_that_touch_or_share_a_cell() {
         let source = format!("ORG 20\nDATA 1,2,3\nORG {}\nMOVE .A,.R1", start);
         assert_eq!(reply(64, source), expected, "at {}", start);
     }
-    // RES claims nothing: what it passes over may be claimed later
-    assert_eq!(reply(64, "HALT\nRES 3\nHALT\nORG 1\nDATA 1,2,3"), (0, 0));
-    assert_eq!(reply(64, "HALT\nRES 3\nHALT\nORG 1\nDATA 1,2,3,4"), (12, 5));
+    // since K2 RES claims what it passes over
+    assert_eq!(reply(64, "HALT\nRES 3\nHALT\nORG 1\nDATA 1,2,3"), (12, 5));
+    assert_eq!(reply(64, "HALT\nORG 4\nHALT\nORG 1\nDATA 1,2,3"), (0, 0));
+    assert_eq!(reply(64, "HALT\nORG 4\nHALT\nORG 1\nDATA 1,2,3,4"), (12, 5));
 }
 
 /// "label 10, 9; word 4; form 3; 5; 8; 6 or 7 ..; then .. label addresses ..; 11; 12".
@@ -158,7 +164,7 @@ fn one_line_fails_in_several_ways() {
         ("x: EQU 1/0", 7),
         ("x: DATA 1,", 3),
     ] {
-        assert_eq!(reply(16, format!("{}{}", top, line)).0, expected, "{}", line);
+        assert_eq!(reply(65_536, format!("{}{}", top, line)).0, expected, "{}", line);
     }
 }
 

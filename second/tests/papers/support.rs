@@ -28,7 +28,8 @@ pub fn assembled(cells: usize, source: impl AsRef<[u8]>) -> (Vec<u16>, Vec<u8>) 
     let mut map = vec![7; cells];
     let accepted = assemble(source.as_ref(), &mut memory, &mut map).expect("accepted");
     let marked = |wanted: u8| map.iter().filter(|mark| **mark == wanted).count() as u32;
-    assert_eq!((accepted.code, accepted.data), (marked(1), marked(2)));
+    let counts = (accepted.code, accepted.data, accepted.reserved);
+    assert_eq!(counts, (marked(1), marked(2), marked(3)));
     (memory, map)
 }
 

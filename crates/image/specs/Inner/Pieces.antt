@@ -7,7 +7,7 @@ use Rattle.numerals.specs.Bytes.{LF, bytes}
 use Rattle.numerals.specs.Writing.{decimal}
 use Rattle.codes.specs.Marks.{free}
 use Rattle.texts.specs.Lines.{textOf}
-use Rattle.image.specs.Image.{kind, cellLine, cellLines}
+use Rattle.image.specs.Image.{kind, shown, cellLine, cellLines}
 
 -- a cell's line with its LF, and nothing for a free cell
 unfoldable pub piece : ℕ → ℕ → ℕ → List ℕ
@@ -15,7 +15,7 @@ piece at mark value = cond (eqb mark free) [] (cellLine at mark value ++ (LF ∷
 
 -- what stands behind the address in a cell's line
 unfoldable pub kindAndValue : ℕ → ℕ → List ℕ
-kindAndValue mark value = bytes "," ++ (kind mark ++ (bytes "," ++ decimal value))
+kindAndValue mark value = bytes "," ++ (kind mark ++ (bytes "," ++ decimal (shown mark value)))
 
 -- the text of a memory's claimed cells
 abbrev pub cellsText : List ℕ → List ℕ → List ℕ

@@ -5,7 +5,7 @@ use mathlib.Core.List.{List, [], _∷_, _++_, map}
 use lib.Dec.{eqb, ltb}
 use lib.ListN.{length}
 use Rattle.codes.specs.Limits.{longestSource}
-use Rattle.codes.specs.Marks.{free, codeMark}
+use Rattle.codes.specs.Marks.{free, codeMark, reservedMark}
 use Rattle.isa.specs.Decoding.{decodeOf}
 use Rattle.isa.specs.declared.Decoded.{Decoded}
 use Rattle.isa.specs.declared.Decoded.the-variants.{Read, NoOpcode, NoMode, NoRegister, PastMemory}
@@ -13,7 +13,7 @@ use Rattle.isa.specs.declared.Instruction.{Instruction}
 use Rattle.image.specs.Printing.{goodLoan}
 use Rattle.listing.specs.Lines.{textOfLines}
 use Rattle.listing.specs.Runs.{Run, run}
-use Rattle.listing.specs.Listing.{originAt, Leaves, refused, given}
+use Rattle.listing.specs.Listing.{originAt, reservedLines, Leaves, refused, given}
 use Rattle.listing.specs.declared.Entry.{Entry}
 use Rattle.listing.specs.declared.Entry.the-variants.{Instructs, Holds, Finish}
 
@@ -67,7 +67,10 @@ codeLines (whole is) = found (map Instructs is)
 codeLines (fails a) = failing a
 
 unfoldable pub runLines : Run → Found
-runLines r = cond (eqb (r .mark) codeMark) (codeLines (partsFrom (r .cells) 0 (r .from))) (found (map Holds (r .cells)))
+runLines r =
+    cond (eqb (r .mark) codeMark)
+    (codeLines (partsFrom (r .cells) 0 (r .from)))
+    (cond (eqb (r .mark) reservedMark) (found (reservedLines (length (r .cells)))) (found (map Holds (r .cells))))
 
 abbrev pub joinedBy : List Entry → Found → Found → Found
 joinedBy os (found es) (found fs) = found (os ++ (es ++ fs))

@@ -150,7 +150,7 @@ unfoldable pub walkLines : ℕ → ℕ → Place → List (List ℕ) → Verdict
 walkLines M k p [] = passes
 walkLines M k p (b ∷ bs) = andThen (lineVerdict M k p (readLine b)) (walkLines M (k + 1) (after p (readLine b)) bs)
 
--- ---- cells, with 0 in the places of labels, and the labels that operands name
+-- ---- cells, with 0 in the places of labels, and the labels that operands name; nothing is written of RES, as every cell is 0 at the start
 
 abbrev pub rawBy : List ℕ → Statement → List ℕ
 rawBy bytes Nothing = []

@@ -4,29 +4,56 @@ use super::case;
 use crate::case::Case;
 use crate::make::random::Random;
 
+/// What may follow where the address is 65,536.
+pub const ENDS: [&str; 22] = [
+    "x:",
+    "x:\n",
+    "x:\n\n\n",
+    "x: ; c\n\n;",
+    "x:\ny:\nz:",
+    "x: END",
+    "x: END\n\n\n",
+    "x:\nEND\nFOO",
+    "x: NOP",
+    "x:\n\nDATA 1",
+    "x: DATA \"\"",
+    "x: RES 0",
+    "x: EQU 4\nORG 0\nPUSH #x",
+    "x:\ny:\nEQU 65535\nORG 0\nMOVE #x,/y",
+    "x: ORG 0\nPUSH #x",
+    "x: ORG 65535\nORG 9\ny: PUSH #x\nPUSH #y",
+    "x: ORG 65535",
+    "END",
+    "NOP",
+    "x: EQU 5\ny:",
+    "BR /q\nx:",
+    "ORG 0\nBR /q\nORG 65535\nRES 1\nx:",
+];
+
 pub fn add(random: &mut Random, cases: &mut Vec<Case>) {
     reserved(random, cases);
     bound_at_the_end(random, cases);
     reaching(random, cases);
 }
 
-/// RES that ends below, at and past 65,536.
+/// RES that ends below, at and past 65,536. All cells reserved are an accepted reply of 512 KB: two
+/// of these have it.
 fn reserved(random: &mut Random, cases: &mut Vec<Case>) {
     for source in [
         "RES 0",
         "x: RES 0\ny: PUSH #x\nPUSH #y",
-        "RES 65535",
+        "RES 65535\nORG 65534\nHALT",
         "RES 65536",
         "RES 65535\nRES 1",
         "RES 65535\nRES 2",
-        "RES 65535\nRES 1\nRES 0",
+        "ORG 65534\nRES 1\nRES 1\nRES 0",
         "RES 65535\nRES 1\nRES 1",
         "RES 65535\nRES 1\nORG 0\nHALT",
         "ORG 65535\nRES 1",
         "ORG 65535\nRES 2",
         "ORG 65534\nRES 2\nRES 0",
         "ORG 65534\nRES 3",
-        "ORG 1\nRES 65535",
+        "ORG 1\nHALT\nORG 1\nRES 65535",
         "ORG 2\nRES 65535",
         "ORG 65535\nx: RES 1\nORG 0\nPUSH #x",
         "ORG 65535\nRES 0\nx: RES 1\nORG 0\nPUSH #x",
@@ -54,33 +81,9 @@ fn bound_at_the_end(random: &mut Random, cases: &mut Vec<Case>) {
         "ORG 65535\nHALT\n",
         "ORG 65533\nDATA \"ab\"\n",
     ];
-    let ends = [
-        "x:",
-        "x:\n",
-        "x:\n\n\n",
-        "x: ; c\n\n;",
-        "x:\ny:\nz:",
-        "x: END",
-        "x: END\n\n\n",
-        "x:\nEND\nFOO",
-        "x: NOP",
-        "x:\n\nDATA 1",
-        "x: DATA \"\"",
-        "x: RES 0",
-        "x: EQU 4\nORG 0\nPUSH #x",
-        "x:\ny:\nEQU 65535\nORG 0\nMOVE #x,/y",
-        "x: ORG 0\nPUSH #x",
-        "x: ORG 65535\nORG 9\ny: PUSH #x\nPUSH #y",
-        "x: ORG 65535",
-        "END",
-        "NOP",
-        "x: EQU 5\ny:",
-        "BR /q\nx:",
-        "ORG 0\nBR /q\nORG 65535\nRES 1\nx:",
-    ];
-    for (at, end) in ends.iter().enumerate() {
+    for (at, end) in ENDS.iter().enumerate() {
         for way in 0..2 {
-            // a statement in the last cell fits only the largest memory
+            // a statement in the last cell fits only the largest memory; RES 1 there is 11 in others
             let way = ways[(2 * at + 3 * way + at / 2) % ways.len()];
             let cells = if way.contains("RES") { *random.pick(&[16, 65_536]) } else { 65_536 };
             cases.push(case(random, cells, format!("{}{}", way, end)));

@@ -43,7 +43,7 @@ fn labels(random: &mut Random, cases: &mut Vec<Case>) {
     // all wait at 65,536
     let all = labelled(512, "");
     for end in ["", "NOP", "EQU 5\nORG 0\nMOVE #aa,/tr", "END"] {
-        cases.push(case(random, 16, format!("ORG 65535\nRES 1\n{}{}", all, end)));
+        cases.push(case(random, 65_536, format!("ORG 65535\nRES 1\n{}{}", all, end)));
     }
 }
 
@@ -89,7 +89,8 @@ fn lengths(random: &mut Random, cases: &mut Vec<Case>) {
         ("x: HALT\nEND\n", 255, 32_769),
         ("", b';', 32_770),
     ] {
-        cases.push(case(random, 16, filled(start, byte, length)));
+        let cells = if start.contains("RES") { 65_536 } else { 16 };
+        cases.push(case(random, cells, filled(start, byte, length)));
     }
     cases.push(with_map(random, 16, 17, filled("END", b' ', 32_769)));
 }

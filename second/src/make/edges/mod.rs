@@ -1,5 +1,5 @@
 //! Sources that no draw may leave out: every set of assemble cases begins with them (document 01,
-//! "What is lent", "Rules of writing" and "Refusing a source").
+//! "What is lent", "Rules of writing" and "Refusing a source"; document 02, K2).
 
 pub mod addresses;
 mod blocks;
@@ -8,6 +8,7 @@ pub mod kinds;
 mod limits;
 mod loans;
 mod names;
+mod reserved;
 mod together;
 
 use super::draw;
@@ -28,6 +29,7 @@ pub fn all(random: &mut Random) -> Vec<Case> {
     together::add(random, &mut cases);
     kinds::add(random, &mut cases);
     limits::add(random, &mut cases);
+    reserved::add(random, &mut cases);
     cases
 }
 

@@ -32,12 +32,13 @@ const STATEMENTS: [&str; 20] = [
 pub fn add(random: &mut Random, cases: &mut Vec<Case>) {
     let long = "L".repeat(65);
     let labels = ["", "a: ", "b: ", long.as_str()];
-    for before in ["a: NOP\n", "a:\nORG 65535\nRES 1\n"] {
+    for (cells, before) in [(16, "a: NOP\n"), (65_536, "a:\nORG 65535\nRES 1\n")] {
         for label in labels {
             let label = if label.len() == 65 { format!("{}: ", label) } else { label.to_string() };
             for statement in STATEMENTS {
                 let after = random.text(&["", "\n", "\nFOO", "\nEND", "\nc: ORG 9\n", "\n\n\n"]);
-                cases.push(case(random, 16, format!("{}{}{}{}", before, label, statement, after)));
+                let source = format!("{}{}{}{}", before, label, statement, after);
+                cases.push(case(random, cells, source));
             }
         }
     }

@@ -1,16 +1,16 @@
 //! An image by its claimed cells, before it is lent.
 
 use crate::case::{LentImage, LentMemory};
-use crate::image::{CODE, FREE};
+use crate::image::{CODE, FREE, RESERVED};
 use crate::isa::{encode, Instruction};
 use crate::make::draw;
 use crate::make::random::Random;
 use std::collections::BTreeMap;
 
-/// Above so many claimed cells a case says one value for all and names the others.
+/// Above so many cells of code and data a case says one value for all and names the others.
 const MANY: usize = 1_000;
 
-/// M, and each claimed cell's value and mark by its address.
+/// M, and each claimed cell's value and mark by its address. A reserved cell's value is not kept.
 #[derive(Clone, Debug)]
 pub struct Claims {
     pub cells: usize,
@@ -46,15 +46,16 @@ impl Claims {
         Claims { cells: 65_536, claimed: claimed.collect() }
     }
 
-    /// As a loan without room yet. Free cells hold anything.
+    /// As a loan without room yet. Free and reserved cells hold anything.
     pub fn lent(&self, random: &mut Random) -> LentImage {
         let mut memory = draw::memory(random, self.cells);
-        if self.claimed.len() > MANY {
-            let fill = commonest(self.claimed.values().map(|(value, _)| *value));
+        let kept = self.claimed.iter().filter(|(_, (_, mark))| *mark != RESERVED);
+        if kept.clone().count() > MANY {
+            let fill = commonest(kept.clone().map(|(_, (value, _))| *value));
             memory = LentMemory { fill, step: 0, ..memory };
         }
         let held = memory.row();
-        let others = self.claimed.iter().filter(|(at, (value, _))| held[**at] != *value);
+        let others = kept.filter(|(at, (value, _))| held[**at] != *value);
         memory.overwritten = others.map(|(at, (value, _))| (*at, *value)).collect();
         let (map_fill, marks) = self.marks();
         LentImage {

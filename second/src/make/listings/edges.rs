@@ -1,7 +1,7 @@
 //! Images that no draw may leave out: every set of list cases begins with them.
 
 use super::claims::{all_code, words_of, Claims};
-use super::{length, long, with_room};
+use super::{length, long, reserved, with_room};
 use crate::case::{Case, LentImage, LentMemory, ROOM_LIMIT};
 use crate::image::{CODE, DATA, FREE};
 use crate::isa::{opcode, Instruction, Opcode, Operand, Place};
@@ -30,11 +30,12 @@ pub fn edges(random: &mut Random) -> Vec<Case> {
     refused_twice(random, &mut cases);
     written(random, &mut cases);
     texts(random, &mut cases);
+    reserved::add(random, &mut cases);
     cases
 }
 
 /// Cells from address 0 on with their marks, and behind them free ones.
-fn row(cells: usize, words: &[u16], marks: &[u8]) -> Claims {
+pub fn row(cells: usize, words: &[u16], marks: &[u8]) -> Claims {
     let mut claims = Claims::none(cells);
     for (at, (word, mark)) in words.iter().zip(marks).enumerate() {
         if *mark != FREE {
@@ -49,13 +50,13 @@ fn document_01() -> Claims {
 }
 
 /// An image with room for its text and so much more, or less.
-fn with_more(random: &mut Random, claims: &Claims, more: isize) -> Case {
+pub fn with_more(random: &mut Random, claims: &Claims, more: isize) -> Case {
     let lent = claims.lent(random);
     let room = length(&lent) as isize + more;
     Case::List(LentImage { room: room.max(0) as usize, ..lent })
 }
 
-fn with(random: &mut Random, claims: &Claims, room: usize) -> Case {
+pub fn with(random: &mut Random, claims: &Claims, room: usize) -> Case {
     Case::List(LentImage { room, ..claims.lent(random) })
 }
 
@@ -117,7 +118,7 @@ fn lengths(random: &mut Random, cases: &mut Vec<Case>) {
         (65_537, 65_537),
         (65_600, 65_600),
     ] {
-        for (map_fill, fill) in [(FREE, 0), (CODE, 1), (3, 0)] {
+        for (map_fill, fill) in [(FREE, 0), (CODE, 1), (4, 0)] {
             let mut lent = Claims::none(1).lent(random);
             lent.memory = LentMemory { cells, fill, step: 0, overwritten: Vec::new() };
             (lent.map_length, lent.map_fill) = (map_length, map_fill);
@@ -126,10 +127,10 @@ fn lengths(random: &mut Random, cases: &mut Vec<Case>) {
     }
 }
 
-/// A mark above 2 at the first and at the last cell, over code that decodes or does not.
+/// A mark above 3 at the first and at the last cell, over code that decodes or does not.
 fn marks(random: &mut Random, cases: &mut Vec<Case>) {
     for cells in [1, 2, 16, 65_535, 65_536] {
-        for mark in [3, 4, 255] {
+        for mark in [4, 5, 255] {
             for at in [0, cells - 1] {
                 let mut lent = Claims::none(cells).lent(random);
                 lent.memory.fill = *random.pick(&[0, 1]);
@@ -241,13 +242,13 @@ fn refused_twice(random: &mut Random, cases: &mut Vec<Case>) {
         ([2, 1, 0, 1, 1], 40),
         ([0, 0, 2, 0, 1], 0),
         ([1, 2, 1, 2, 1], 0),
-        ([1, 1, 1, 1, 3], 0),
-        ([3, 1, 1, 1, 1], 40),
+        ([1, 1, 1, 1, 4], 0),
+        ([4, 1, 1, 1, 1], 40),
     ] {
         cases.push(with(random, &row(5, &[64, 1, 64, 2_496, 200], &marks), room));
     }
     // a text far too long, and the last cell of all that does not decode or is badly marked
-    for (value, mark) in [(0, CODE), (1, CODE), (200, CODE), (0, DATA), (0, 3)] {
+    for (value, mark) in [(0, CODE), (1, CODE), (200, CODE), (0, DATA), (0, 4)] {
         let mut claims = Claims::none(65_536);
         claims.lay(0, &vec![0; 65_536], CODE);
         claims.lay(65_535, &[value], mark);

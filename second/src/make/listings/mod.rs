@@ -1,14 +1,15 @@
-//! Cases for listing an image as source (document 02, K1).
+//! Cases for listing an image as source (document 02, K1 and K2).
 
 pub mod claims;
 mod edges;
 mod long;
+mod reserved;
 
 use super::random::Random;
 use super::{assemble, draw, images, source, whole, words};
 use crate::assembler;
 use crate::case::{Case, LentImage, CELLS_LIMIT, ROOM_LIMIT};
-use crate::image::{CODE, DATA, FREE};
+use crate::image::{CODE, DATA, FREE, RESERVED};
 use crate::isa::{opcode, Instruction, Operand, Place};
 use crate::listing;
 use claims::{words_of, Claims};
@@ -80,7 +81,8 @@ fn assembled(random: &mut Random) -> Claims {
     Claims::of(&memory, &map)
 }
 
-/// Blocks of code and of data, following on or parted by free cells, the last often at M-1.
+/// Blocks of code, of data and of reserved cells, following on or parted by free cells, the last
+/// often at M-1.
 fn laid(random: &mut Random) -> Claims {
     let mut claims = Claims::none(image_cells(random));
     let mut address = if random.one_in(3) { random.below(claims.cells) } else { 0 };
@@ -112,6 +114,10 @@ fn gap(random: &mut Random) -> usize {
 /// Words of one mark.
 fn block(random: &mut Random) -> (Vec<u16>, u8) {
     let count = random.between(1, 4);
+    if random.one_in(4) {
+        let many = *random.pick(&[5, 9, 10, 99, 100, 101, 250]);
+        return (vec![0; if random.one_in(8) { many } else { count }], RESERVED);
+    }
     if random.one_in(3) {
         return ((0..count).map(|_| draw::word(random)).collect(), DATA);
     }
@@ -169,14 +175,14 @@ fn place(random: &mut Random, claims: &Claims) -> usize {
 
 fn spoil(random: &mut Random, claims: &mut Claims, at: usize) {
     let (value, mark) = claims.claimed.get(&at).copied().unwrap_or((0, FREE));
-    let other_mark = *random.pick(&[CODE, DATA, DATA]);
+    let other_mark = *random.pick(&[CODE, DATA, DATA, RESERVED, RESERVED]);
     let changed = match random.below(12) {
         0..=3 => (value, other_mark),
         4 | 5 => (draw::word(random), mark.max(CODE)),
         6 => (*random.pick(&[1, 7, 65, 144, 2_495, 2_496, 2_559, 65_535]), mark.max(CODE)),
         7 => (*random.pick(&[16, 17, 255, 65_535]), mark.max(CODE)),
         8 => (*random.pick(&[0, 64, 2_048]), CODE),
-        9 if random.one_in(4) => (value, *random.pick(&[3, 4, 128, 255])),
+        9 if random.one_in(4) => (value, images::bad_mark(random)),
         _ => {
             claims.claimed.remove(&at);
             return;
@@ -185,7 +191,7 @@ fn spoil(random: &mut Random, claims: &mut Claims, at: usize) {
     claims.claimed.insert(at, changed);
 }
 
-/// Lengths that do not fit each other or document 01, or a mark above 2, over any image.
+/// Lengths that do not fit each other or document 01, or a mark above 3, over any image.
 fn badly_lent(random: &mut Random) -> LentImage {
     let mut lent = match random.below(2) {
         0 => laid(random).lent(random),
@@ -199,10 +205,10 @@ fn badly_lent(random: &mut Random) -> LentImage {
             let cells = *random.pick(&[0, 65_537, 65_537, CELLS_LIMIT]);
             (lent.memory.cells, lent.map_length) = (cells, cells);
         }
-        4 => lent.map_fill = 3 + random.below(253) as u8,
+        4 => lent.map_fill = images::bad_mark(random),
         _ => {
             let at = random.below(lent.map_length);
-            lent.marks.push((at, 3 + random.below(253) as u8));
+            lent.marks.push((at, images::bad_mark(random)));
         }
     }
     images::drop_past_the_end(&mut lent);

@@ -24,6 +24,10 @@ counted-requires c κs = search needs
 counted-requires-2 : tie.Need-counted-requires-2
 counted-requires-2 c κs = search needs
 
+-- src/assemble.rt:48:9
+counted-requires-3 : tie.Need-counted-requires-3
+counted-requires-3 c κs = search needs
+
 -- src/assemble.rt:39:1
 same-length : tie.Need-same-length
 same-length c = search needs
@@ -34,7 +38,14 @@ same-length-2 c = search needs
 
 -- src/assemble.rt:39:1
 returns : tie.Need-returns
-returns c = accepted-as (c .before .before .before .before .before .before .before .before .before .before .before .before .before .before .args .memory .now) (c .before .before .before .before .before .before .before .before .before .before .before .before .before .before .args .map .now) (c .before .counted .result) (c .counted2 .result) (c .before .before .before .before .before .before .before .before .copy-cells .last .1 .0) (c .before .before .before .before .copy-marks .last .1 .0) (c .before .before .before .before .before .before .before .before .before .before .before .before .before .before .args .cells .now) (c .before .before .before .before .before .before .before .before .before .before .before .before .before .before .args .marks .now) (c .before .counted .ensures) (c .counted2 .ensures) (c .before .before .before .before .before .before .before .before .copy-cells .ensures) (c .before .before .before .before .copy-marks .ensures)
+returns c =
+    let code = c .before .before in
+    let map = code .before .before .before in
+    let memory = map .before .before .before .before in
+    let a = memory .before .before .before .before .before .before .args in
+    accepted-as (a .memory .now) (a .map .now) (code .counted .result) (c .before .counted2 .result) (c .counted3 .result)
+    (memory .copy-cells .last .1 .0) (map .copy-marks .last .1 .0) (a .cells .now) (a .marks .now) (code .counted .ensures)
+    (c .before .counted2 .ensures) (c .counted3 .ensures) (memory .copy-cells .ensures) (map .copy-marks .ensures)
 
 pub accept-spec : {M : Type 1} → statement M
 accept-spec =
@@ -44,6 +55,7 @@ accept-spec =
     copy-marks-requires
     counted-requires
     counted-requires-2
+    counted-requires-3
     same-length
     same-length-2
     returns)

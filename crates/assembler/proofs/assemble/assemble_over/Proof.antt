@@ -90,7 +90,7 @@ settle-and-accept-requires c κs =
 
 -- src/assemble.rt:105:13
 same-length-8 : tie.Need-same-length-8
-same-length-8 c = search needs
+same-length-8 c = c .before .before .before .before .before .before .before .before .before .before .before .before .before .before .before .before .before .before .before .before .before .before .before .before .before .before .before .before .before .before .before .before .before .walk .kept .1 .0
 
 -- src/assemble.rt:105:13
 same-length-9 : tie.Need-same-length-9

@@ -1,4 +1,4 @@
--- What is left is known exactly when all is, as long as no mark above 2 was met.
+-- What is left is known exactly when all is, as long as no mark above the largest was met.
 use borrow.Author.Needs.{needs}
 use native.Mathlib.Omega.{arith}
 use mathlib.Core.Path.{_≡_, sym, _∙_}

@@ -6,7 +6,7 @@ use lib.ListN.{length}
 use Rattle.texts.proofs.Rooms.{wrote-as}
 use Rattle.listing.specs.Lines.{lineOf}
 use Rattle.listing.specs.Inner.Begins.{Addressed}
-use Rattle.listing.proofs.Texts.{origin-text, holds-text, finish-text}
+use Rattle.listing.proofs.Texts.{origin-text, holds-text, reserves-text, finish-text}
 use borrow.Author.Needs.{needs}
 use Rattle.listing.proofs.lines.entry.Statement.{statement}
 use Rattle.listing.proofs.lines.entry.Tie as tie
@@ -41,6 +41,18 @@ cast-field-2 c = search needs
 field-requires-2 : tie.Need-field-requires-2
 field-requires-2 c κs = omega (arith, ap length (holds-text _ ∙ ap lineOf (sym (c .before .before .before .e3 .given .1))))
 
+enum-known-e-4 : tie.Need-enum-known-e-4
+enum-known-e-4 c = search needs
+
+slice-aggregate-field-3 : tie.Need-slice-aggregate-field-3
+slice-aggregate-field-3 c = search needs
+
+cast-field-3 : tie.Need-cast-field-3
+cast-field-3 c = search needs
+
+field-requires-3 : tie.Need-field-requires-3
+field-requires-3 c κs = omega (arith, ap length (reserves-text _ ∙ ap lineOf (sym (c .before .before .before .e4 .given .1))))
+
 enum-told : tie.Need-enum-told
 enum-told c = search needs
 
@@ -72,7 +84,13 @@ same-length-4 : tie.Need-same-length-4
 same-length-4 c = search needs
 
 returns-4 : tie.Need-returns-4
-returns-4 c = wrote-as _ _ _ _ (finish-text ∙ ap lineOf (sym (c .before .before .before .before .before .enum-told .given .1))) (c .before .before .piece .ensures)
+returns-4 c = wrote-as _ _ _ _ (reserves-text _ ∙ ap lineOf (sym (c .before .before .before .before .before .before .e4 .given .1))) (c .before .before .field3 .ensures)
+
+same-length-5 : tie.Need-same-length-5
+same-length-5 c = search needs
+
+returns-5 : tie.Need-returns-5
+returns-5 c = wrote-as _ _ _ _ (finish-text ∙ ap lineOf (sym (c .before .before .before .before .before .enum-told .given .1))) (c .before .before .piece .ensures)
 
 pub entry-spec : {M : Type 1} → statement M
 entry-spec =
@@ -88,6 +106,10 @@ entry-spec =
     slice-aggregate-field-2
     cast-field-2
     field-requires-2
+    enum-known-e-4
+    slice-aggregate-field-3
+    cast-field-3
+    field-requires-3
     enum-told
     slice-aggregate-piece
     piece-requires
@@ -98,4 +120,6 @@ entry-spec =
     same-length-3
     returns-3
     same-length-4
-    returns-4)
+    returns-4
+    same-length-5
+    returns-5)

@@ -1,5 +1,5 @@
 -- The mark decides: one law for each way out.
-use Rattle.listing.proofs.Walks.{begins-free, begins-code, begins-data}
+use Rattle.listing.proofs.Walks.{begins-free, begins-code, begins-reserved, begins-data}
 use borrow.Author.Needs.{needs}
 use Rattle.listing.proofs.walking.begins_at.Statement.{statement}
 use Rattle.listing.proofs.walking.begins_at.Tie as tie
@@ -16,6 +16,12 @@ code-at-requires c κs = search needs
 returns-2 : tie.Need-returns-2
 returns-2 c = begins-code _ _ _ (c .before .before .if1 .left) (c .before .if2 .taken) (c .code-at .ensures)
 
+reserved-at-requires : tie.Need-reserved-at-requires
+reserved-at-requires c κs = search needs
+
+returns-3 : tie.Need-returns-3
+returns-3 c = begins-reserved _ _ _ (c .before .if3 .taken) (c .reserved-at .ensures)
+
 mul-t8 : tie.Need-mul-t8
 mul-t8 c = search needs
 
@@ -25,8 +31,8 @@ shared-slice-read-t10 c = search needs
 add-t12 : tie.Need-add-t12
 add-t12 c = search needs
 
-returns-3 : tie.Need-returns-3
-returns-3 c = begins-data _ _ _ (c .before .before .if1 .left) (c .before .if2 .left)
+returns-4 : tie.Need-returns-4
+returns-4 c = begins-data _ _ _ (c .before .before .before .if1 .left) (c .before .before .if2 .left) (c .before .if3 .left)
 
 pub begins-at-spec : {M : Type 1} → statement M
 begins-at-spec =
@@ -36,7 +42,9 @@ begins-at-spec =
     returns
     code-at-requires
     returns-2
+    reserved-at-requires
+    returns-3
     mul-t8
     shared-slice-read-t10
     add-t12
-    returns-3)
+    returns-4)

@@ -20,7 +20,7 @@ loop-holds c = measuring-start (c .before .before .args .memory .now) (c .before
 begins-at-requires : tie.Need-begins-at-requires Inv-loop μ-loop
 begins-at-requires c κs =
     let s = c .before .before .before .before in
-    (loan-good (s .args .memory .now) (s .args .map .now) (s .pre) .0, c .loop-test .taken)
+    (loan-good (s .args .memory .now) (s .args .map .now) (s .pre) .0, c .loop-test .taken, most (s .args .memory .now) (s .args .map .now) (s .pre))
 
 enum-told : tie.Need-enum-told Inv-loop μ-loop
 enum-told c = search needs

@@ -4,7 +4,7 @@ use Prim.Native.Nat.{_-_}
 use lib.ListN.{length}
 use borrow.Author.Needs.{needs}
 use Rattle.image.proofs.Outcomes.{loan-good}
-use Rattle.listing.proofs.Loops.{Writing, writing-start, writing-skip, writing-fits, writing-line, writing-fails, end-fits, writing-end, onward, line-good}
+use Rattle.listing.proofs.Loops.{Writing, writing-start, writing-skip, writing-fits, writing-line, writing-fails, end-fits, writing-end, onward, line-good, most}
 use Rattle.listing.proofs.walking.write.Statement.{statement}
 use Rattle.listing.proofs.walking.write.Tie as tie
 
@@ -22,7 +22,7 @@ loop-holds c =
 begins-at-requires : tie.Need-begins-at-requires Inv-loop μ-loop
 begins-at-requires c κs =
     let s = c .before .before .before .before .before in
-    (loan-good (s .args .memory .now) (s .args .map .now) (s .pre .0) .0, c .loop-test .taken)
+    (loan-good (s .args .memory .now) (s .args .map .now) (s .pre .0) .0, c .loop-test .taken, most (s .args .memory .now) (s .args .map .now) (s .pre .0))
 
 enum-told : tie.Need-enum-told Inv-loop μ-loop
 enum-told c = search needs

@@ -7,8 +7,8 @@ use Rattle.placing.proofs.ActLaws.{count-small, row-of, instruction-row
 use Rattle.placing.proofs.acts.act.Statement.{statement}
 use Rattle.placing.proofs.acts.act.Tie as tie
 
-add-claiming : tie.Need-add-claiming
-add-claiming c = omega (arith, c .operand-count .ensures, count-small (c .before .before .s .given .0 .0))
+add-n : tie.Need-add-n
+add-n c = omega (arith, c .operand-count .ensures, count-small (c .before .before .s .given .0 .0))
 
 returns : tie.Need-returns
 unfolding does
@@ -30,15 +30,15 @@ returns-4 c = row-of (c .moving3 .ensures) (c .before .before .s3 .given .1) ref
 
 returns-5 : tie.Need-returns-5
 unfolding does
-returns-5 c = row-of (c .moving4 .ensures) (c .before .before .s4 .given .1) refl tt
+returns-5 c = row-of (c .claiming2 .ensures) (c .before .before .s4 .given .1) refl tt
 
 returns-6 : tie.Need-returns-6
 unfolding does
-returns-6 c = row-of (c .claiming2 .ensures) (c .before .before .s5 .given .1) refl refl
+returns-6 c = row-of (c .claiming3 .ensures) (c .before .before .s5 .given .1) refl refl
 
 returns-7 : tie.Need-returns-7
 unfolding does
-returns-7 c = row-of (c .moving5 .ensures) (c .before .enum-told2 .given .1) refl refl
+returns-7 c = row-of (c .moving4 .ensures) (c .before .enum-told2 .given .1) refl refl
 
 pub act-spec : {M : Type 1} → statement M
 act-spec =
@@ -48,7 +48,7 @@ act-spec =
     (λ c κs. search needs)
     (λ c. search needs)
     (λ c κs. search needs)
-    add-claiming
+    add-n
     (λ c κs. search needs)
     (λ c. search needs)
     (λ c. search needs)

@@ -52,7 +52,22 @@ replied-requires : tie.Need-replied-requires
 replied-requires c κs = search needs
 
 same-length : tie.Need-same-length
-same-length c = omega arith
+same-length c =
+    let cleared = c .before .before .before .before in
+    let made = cleared .before .before .before .before .before .before .before .before in
+    let kept = made .before .before .before .before .before .before .before .before .before .before in
+    let first = kept .before .before .before in
+    omega (
+      arith,
+      cleared .m4 .given,
+      cleared .before .fill2 .kept,
+      cleared .before .before .fill-arg2 .given,
+      made .m3 .given,
+      made .before .assemble .kept,
+      kept .keep .kept,
+      first .m .given,
+      first .before .fill .kept,
+    )
 
 same-length-2 : tie.Need-same-length-2
 same-length-2 c = search needs
