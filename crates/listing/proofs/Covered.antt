@@ -206,7 +206,7 @@ module _ (memory marks : List ℕ) where
       same-length e k (no n) (yes l) = absurd (not-shorter d c (sym e) (sym k) l)
       same-length e k (no n) (no m) = omega arith
 
-  -- "a longest row of cells with one mark": memory and map have one list of runs
+  -- a longest row of cells with one mark: memory and map have one list of runs
   pub one-list : {at : ℕ} {rs ss : List Run} → Runs memory marks at rs → Runs memory marks at ss → rs ≡ ss
   one-list (over f) (over g) = refl
   one-list (over f) (next {r = s} d y) = absurd (d .claimed (sym (first-mark d) ∙ f (s .from) (d .further)))

@@ -24,7 +24,7 @@ abbrev text : List String → List ℕ
 text [] = []
 text (t ∷ ts) = bytes t ++ (LF ∷ text ts)
 
--- a row at M 16: "all further cells are free and 0"
+-- a row at M 16: all further cells are free and 0
 abbrev row : List ℕ → List ℕ
 row xs = take 16 (xs ++ replicate 16 0)
 
@@ -51,7 +51,7 @@ abbrev code : ℕ → List ℕ
 code n = replicate n 1
 
 pub record Examples : Type 0 where
-  -- "K1's worked listing is 52 bytes: room 52 lists, 51 is 3"; the room behind the text is as it was
+  -- the paper's listing is 52 bytes: room 52 lists, 51 is 3; the room behind the text is as it was
   pub worked : listOf memory marks (replicate 52 7) ≡ left 0 0 52 (text lines)
   pub one-short : Refuses memory marks 51 3 0
   pub larger : listOf memory marks (replicate 54 7) ≡ left 0 0 52 (text lines ++ (7 ∷ 7 ∷ []))
@@ -88,7 +88,7 @@ pub record Examples : Type 0 where
   pub long-map : Refuses (1 ∷ []) (1 ∷ 1 ∷ []) 60 1 0
   pub short-map : Refuses (1 ∷ 1 ∷ []) (1 ∷ []) 60 1 0
   pub no-cell : Refuses [] [] 60 1 0
-  -- Reserved cells (02, K2): "one run, one `RES n`", whatever they hold; ORG as before any run
+  -- Reserved cells (02, K2): one run, one `RES n`, whatever they hold; ORG as before any run
   pub reserved : Lists (row (7 ∷ [])) (row (3 ∷ [])) ("RES 1" ∷ "END" ∷ [])
   pub side-by-side : Lists (row []) (row (3 ∷ 3 ∷ 3 ∷ 3 ∷ 3 ∷ [])) ("RES 5" ∷ "END" ∷ [])
   pub reserved-3 : Lists (row (0 ∷ 7 ∷ 64 ∷ [])) (row (3 ∷ 3 ∷ 3 ∷ [])) ("RES 3" ∷ "END" ∷ [])

@@ -134,7 +134,7 @@ module _ {M N : ℕ} {source memory marks : List ℕ} (image : Accepted M N sour
   pub filed-comes-back : {room text : List ℕ} → Gives memory marks room text → Accepted (length memory) (length marks) text memory marks
   filed-comes-back h = comes-back h filed-cells filed-zeros
 
--- "the same counts": a source is assembled, its image listed, the listing assembled at the same M: the same memory and map, and the same reply.
+-- The same counts: a source is assembled, its image listed, the listing assembled at the same M: the same memory and map, and the same reply.
 pub same-reply : {source text memory marks memory₀ map₀ memory₁ map₁ memory′ map′ room : List ℕ} {r r′ : Reply}
     → assembler.Replies source memory₀ map₀ r memory marks
     → r .refusal ≡ 0
