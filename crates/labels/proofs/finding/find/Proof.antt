@@ -10,7 +10,7 @@ use Rattle.labels.proofs.finding.find.Statement.{statement}
 use Rattle.labels.proofs.finding.find.Tie as tie
 use Rattle.labels.proofs.finding.find.Reads as reads
 use Rattle.labels.proofs.finding.find.Lts as lts
-use Rattle.labels.proofs.finding.key.Reads as key-reads
+use Rattle.labels.proofs.chains.key.Reads as key-reads
 use Rattle.labels.proofs.finding.of_key.Reads as of-key-reads
 use Rattle.labels.proofs.finding.same_rest.Reads as same-rest-reads
 

@@ -9,7 +9,7 @@ use Rattle.labels.proofs.finding.same_rest.Statement.{statement}
 use Rattle.labels.proofs.finding.same_rest.Tie as tie
 use Rattle.labels.proofs.finding.same_rest.Reads as reads
 use Rattle.labels.proofs.finding.same_rest.Lts as lts
-use Rattle.labels.proofs.finding.byte.Reads as byte-reads
+use Rattle.labels.proofs.chains.byte.Reads as byte-reads
 
 abbrev Inv-loop : tie.InvT-loop
 Inv-loop s a t b n i₀ i = (1 ≤ i) × (same (window s (a + 1) (n - 1)) (window t (b + 1) (n - 1)) ≡ same (window s (a + i) (n - i)) (window t (b + i) (n - i)))

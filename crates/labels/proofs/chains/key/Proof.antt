@@ -2,11 +2,11 @@ use Prim.Native.Nat.{ℕ, _+_, _*_, _-_}
 use mathlib.Core.Path.{_≡_, sym, ap, _∙_}
 use Rattle.labels.proofs.Laws.{key-none, key-some}
 use borrow.Author.Needs.{needs}
-use Rattle.labels.proofs.finding.key.Statement.{statement}
-use Rattle.labels.proofs.finding.key.Tie as tie
-use Rattle.labels.proofs.finding.key.Reads as reads
-use Rattle.labels.proofs.finding.key.Lts as lts
-use Rattle.labels.proofs.finding.byte.Reads as byte-reads
+use Rattle.labels.proofs.chains.key.Statement.{statement}
+use Rattle.labels.proofs.chains.key.Tie as tie
+use Rattle.labels.proofs.chains.key.Reads as reads
+use Rattle.labels.proofs.chains.key.Lts as lts
+use Rattle.labels.proofs.chains.byte.Reads as byte-reads
 
 -- src/finding.rt:40:9
 returns : tie.Need-returns
