@@ -6,12 +6,12 @@ use mathlib.Core.Path.{_≡_, refl, sym, ap, ap₂, subst, _∙_}
 use native.Mathlib.Numerals.{add-one}
 use native.Mathlib.Omega.{arith}
 use lib.Dec.{eqb, ltb}
-use lib.ListN.{length, getD, drop, set, length-set}
-use lib.Seq.{getD-set-same, getD-set-other}
+use lib.ListN.{length, getD, drop, set}
+use lib.Seq.{lt-length-set, getD-set-same, getD-set-other}
 use borrow.Author.Tests.{eq-eqb, ne-eqb, eqb-true, eqb-false, lt-ltb, le-ltb, ltb-true, ltb-false}
 use Rattle.codes.specs.Limits.{mostLabels}
 use Rattle.labels.specs.Inner.Labels.{window, keyOf, wordBy, chainOf, chains, numbersFrom, linksFrom, lastsFrom, keyCells, onward, leads, leadsTo, noWord, heldAt, listed, words, TakesWord}
-use Rattle.labels.proofs.Laws.{word-held}
+use Rattle.labels.proofs.Laws.{word-held, chain-small}
 
 -- ---- chains go down
 
@@ -159,11 +159,14 @@ module _ (ks ks′ : List ℕ) (n k c : ℕ) (l : Longer ks ks′ n k c) where
 -- ---- what `hold` writes
 
 -- a new label's key and chain; then the label before it there, and itself as the last
-abbrev numbered : List ℕ → ℕ → ℕ → ℕ → List ℕ
+abbrev pub numbered : List ℕ → ℕ → ℕ → ℕ → List ℕ
 numbered ks n k c = set (set ks n k) (numbersFrom + n) c
 
-abbrev ended : List ℕ → ℕ → ℕ → ℕ → ℕ → List ℕ
+abbrev pub ended : List ℕ → ℕ → ℕ → ℕ → ℕ → List ℕ
 ended ks n k c before = set (set (numbered ks n k c) (linksFrom + n) before) (lastsFrom + c) (n + 1)
+
+pub lt-numbered : (ks : List ℕ) (n k c : ℕ) {i : ℕ} → i < length ks → i < length (numbered ks n k c)
+lt-numbered ks n k c h = lt-length-set (set ks n k) (numbersFrom + n) c (lt-length-set ks n k h)
 
 module _ (ks : List ℕ) (n k c before : ℕ) (long : length ks ≡ keyCells) (few : n < mostLabels) (small : c < chains) where
   abbrev keyed : List ℕ
@@ -177,9 +180,6 @@ module _ (ks : List ℕ) (n k c before : ℕ) (long : length ks ≡ keyCells) (f
 
   abbrev all-four : List ℕ
   all-four = ended ks n k c before
-
-  long-two : length first-two ≡ keyCells
-  long-two = length-set keyed (numbersFrom + n) c ∙ length-set ks n k ∙ long
 
   two-kept : (i : ℕ) → (i ≡ n → ⊥) → (i ≡ numbersFrom + n → ⊥) → getD first-two i 0 ≡ getD ks i 0
   two-kept i p q = getD-set-other keyed (numbersFrom + n) i c 0 q ∙ getD-set-other ks n i k 0 p
@@ -196,14 +196,14 @@ module _ (ks : List ℕ) (n k c before : ℕ) (long : length ks ≡ keyCells) (f
             ∙ getD-set-same ks n k 0 (omega (arith, few, long));
         number =
             four-kept (numbersFrom + n) (λ q. omega (arith, q)) (λ q. omega (arith, q, few))
-            ∙ getD-set-same keyed (numbersFrom + n) c 0 (omega (arith, few, long, length-set ks n k));
+            ∙ getD-set-same keyed (numbersFrom + n) c 0 (lt-length-set ks n k (omega (arith, few, long)));
         link =
             getD-set-other linked (lastsFrom + c) (linksFrom + n) (n + 1) 0 (λ q. omega (arith, q, few))
-            ∙ getD-set-same first-two (linksFrom + n) before 0 (omega (arith, few, long-two))
+            ∙ getD-set-same first-two (linksFrom + n) before 0 (lt-numbered ks n k c (omega (arith, few, long)))
             ∙ e
             ∙ two-kept (lastsFrom + c) (λ q. omega (arith, q, few)) (λ q. omega (arith, q, few));
         last =
-            getD-set-same linked (lastsFrom + c) (n + 1) 0 (omega (arith, small, long-two, length-set first-two (linksFrom + n) before))
+            getD-set-same linked (lastsFrom + c) (n + 1) 0 (lt-length-set first-two (linksFrom + n) before (lt-numbered ks n k c (omega (arith, small, long))))
             ∙ add-one n;
         keys-kept = λ j h. four-kept j (λ q. omega (arith, q, h)) (λ q. omega (arith, q, h, few))
             ∙ two-kept j (λ q. omega (arith, q, h)) (λ q. omega (arith, q, h));
@@ -222,10 +222,6 @@ word-there s t a b zero h e = refl
 word-there s t a b (suc n) h e =
     let first : getD t b 0 ≡ getD s a 0 = ap (λ (l : List ℕ). getD l 0 0) e in
     ap (λ (w : List ℕ). wordBy s a (keyOf w)) e ∙ word-held s a (suc n) (omega (arith, first, h)) ∙ sym e
-
-pub chain-small : (w : List ℕ) → chainOf w < chains
-unfolding chainOf
-chain-small w = omega arith
 
 -- the rows of `hold`
 pub takes-word : (xs ks line : List ℕ) (n place start size k c before : ℕ) → n < mostLabels → length xs ≡ mostLabels → length ks ≡ keyCells
