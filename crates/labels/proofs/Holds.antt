@@ -223,6 +223,9 @@ word-there s t a b (suc n) h e =
     let first : getD t b 0 ≡ getD s a 0 = ap (λ (l : List ℕ). getD l 0 0) e in
     ap (λ (w : List ℕ). wordBy s a (keyOf w)) e ∙ word-held s a (suc n) (omega (arith, first, h)) ∙ sym e
 
+pub chain-below : (w : List ℕ) {c : ℕ} → c ≡ chainOf w → c < chains
+chain-below w e = omega (arith, e, chain-small w)
+
 -- the rows of `hold`
 pub takes-word : (xs ks line : List ℕ) (n place start size k c before : ℕ) → n < mostLabels → length xs ≡ mostLabels → length ks ≡ keyCells
     → getD line start 0 < 256 → k ≡ keyOf (window line start size) → c ≡ chainOf (window line start size)
@@ -231,7 +234,6 @@ pub takes-word : (xs ks line : List ℕ) (n place start size k c before : ℕ) �
 takes-word xs ks line n place start size k c before few xs-long ks-long byte key-is chain-is before-is s there =
     let w = window line start size in
     let e : wordBy s place k ≡ w = ap (wordBy s place) key-is ∙ word-there s line place start size byte there in
-    let small = chain-small w in
-    let l = longer ks n k c before ks-long few (omega (arith, small, chain-is)) before-is in
+    let l = longer ks n k c before ks-long few (chain-below w chain-is) before-is in
     words-longer ks (ended ks n k c before) n k c l s xs place (omega (arith, few, xs-long)) (chain-is ∙ ap chainOf (sym e))
     ∙ ap (λ (u : List ℕ). words s xs ks n ++ (u ∷ [])) e
