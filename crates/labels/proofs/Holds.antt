@@ -12,31 +12,7 @@ use borrow.Author.Tests.{eq-eqb, ne-eqb, eqb-true, eqb-false, lt-ltb, le-ltb, lt
 use Rattle.codes.specs.Limits.{mostLabels}
 use Rattle.labels.specs.Inner.Labels.{window, keyOf, wordBy, chainOf, chains, numbersFrom, linksFrom, lastsFrom, keyCells, onward, leads, leadsTo, noWord, heldAt, listed, words, TakesWord}
 use Rattle.labels.proofs.Laws.{word-held, chain-small}
-
--- ---- chains go down
-
-pub onward-below : (ks : List ℕ) (c n named : ℕ) → onward ks c n named ≤ n
-unfolding onward
-onward-below ks c n zero = omega arith
-onward-below ks c n (suc j) = go (ltb j n) (eqb (getD ks (numbersFrom + j) 0) c) refl
-  where
-    go : (t u : Bool) → ltb j n ≡ t → cond (t && u) (suc j) 0 ≤ n
-    go true true e = let h = ltb-true j n e in omega (arith, h)
-    go true false e = omega arith
-    go false u e = omega arith
-
--- more steps than the chain has labels lead no further
-pub leads-steps : (ks : List ℕ) (c j f g named : ℕ) → named ≤ f → named ≤ g → leads ks c j f named ≡ leads ks c j g named
-unfolding leads
-leads-steps ks c j zero zero named h k = refl
-leads-steps ks c j zero (suc g) zero h k = refl
-leads-steps ks c j zero (suc g) (suc i) h k = absurd (omega arith)
-leads-steps ks c j (suc f) zero zero h k = refl
-leads-steps ks c j (suc f) zero (suc i) h k = absurd (omega arith)
-leads-steps ks c j (suc f) (suc g) zero h k = refl
-leads-steps ks c j (suc f) (suc g) (suc i) h k =
-    let b = onward-below ks c i (getD ks (linksFrom + i) 0) in
-    ap (λ (t : Bool). eqb i j || t) (leads-steps ks c j f g (onward ks c i (getD ks (linksFrom + i) 0)) (omega (arith, b, h)) (omega (arith, b, k)))
+use Rattle.labels.proofs.Walks.{onward-within, steps}
 
 listed-alike : (f g : ℕ → List ℕ) (m : ℕ) → ((j : ℕ) → j < m → f j ≡ g j) → listed f m ≡ listed g m
 unfolding listed
@@ -73,7 +49,7 @@ module _ (ks ks′ : List ℕ) (n k c : ℕ) (l : Longer ks ks′ n k c) where
   leads-kept d j zero named h = refl
   leads-kept d j (suc f) zero h = refl
   leads-kept d j (suc f) (suc i) h =
-      let b = onward-below ks d i (getD ks (linksFrom + i) 0) in
+      let b = onward-within ks d i (getD ks (linksFrom + i) 0) in
       let e : onward ks′ d i (getD ks′ (linksFrom + i) 0) ≡ onward ks d i (getD ks (linksFrom + i) 0) =
       onward-kept d i (getD ks′ (linksFrom + i) 0) (omega arith) ∙ ap (onward ks d i) (l .links-kept i (omega arith)) in
       ap (λ (t : Bool). eqb i j || t)
@@ -109,16 +85,16 @@ module _ (ks ks′ : List ℕ) (n k c : ℕ) (l : Longer ks ks′ n k c) where
       onward-kept c n (getD ks′ (linksFrom + n) 0) (omega arith) ∙ ap (onward ks c n) (l .link) in
       ap (leads ks′ c j (suc n)) onward-new
       ∙ ap (λ (t : Bool). eqb n j || t)
-      (ap (leads ks′ c j n) e ∙ leads-kept c j n (onward ks c n (getD ks (lastsFrom + c) 0)) (onward-below ks c n (getD ks (lastsFrom + c) 0)))
+      (ap (leads ks′ c j n) e ∙ leads-kept c j n (onward ks c n (getD ks (lastsFrom + c) 0)) (onward-within ks c n (getD ks (lastsFrom + c) 0)))
 
   leads-other : (d j : ℕ) → (d ≡ c → ⊥) → leadsTo ks′ (suc n) d j ≡ leadsTo ks n d j
   leads-other d j h =
       let last = getD ks (lastsFrom + d) 0 in
-      let b = onward-below ks d n last in
+      let b = onward-within ks d n last in
       ap (λ (x : ℕ). leads ks′ d j (suc n) (onward ks′ d (suc n) x)) (l .lasts-kept d h)
       ∙ ap (leads ks′ d j (suc n)) (onward-other d last h)
       ∙ leads-kept d j (suc n) (onward ks d n last) b
-      ∙ leads-steps ks d j (suc n) n (onward ks d n last) (omega (arith, b)) b
+      ∙ steps ks d j (suc n) n (onward ks d n last) (omega (arith, b)) b
 
   leads-before : (d j : ℕ) → j < n → leadsTo ks′ (suc n) d j ≡ leadsTo ks n d j
   leads-before d j h = go (eqb d c) refl
