@@ -72,7 +72,7 @@ pub(crate) fn chain_of(s: &[u8], a: usize, n: usize, k: usize) -> usize
 
 // The label that is named, by its number and 1, if it is one of the first n and on this chain; else 0.
 pub(crate) fn onward(keys: &[u16], chain: usize, n: usize, named: usize) -> usize
-    requires { ⌜ n < farthest ⌝ }
+    requires { ⌜ InCell named ⌝ }
     ensures { λ r. ⌜ r ≡ Labels.onward (now (keys .entry)) chain n named ⌝ }
 {
     if named == 0 {
