@@ -70,7 +70,7 @@ key-some s a zero h = absurd (h refl)
 key-some s a (suc n) h = let e = length-window s (a + 1) n in omega (arith, e)
 
 -- the word by a key has that key
-pub key-of-word : (s : List ℕ) (a k : ℕ) → keyOf (wordBy s a k) ≡ k
+key-of-word : (s : List ℕ) (a k : ℕ) → keyOf (wordBy s a k) ≡ k
 unfolding keyOf wordBy
 key-of-word s a zero = refl
 key-of-word s a (suc k) = ap (λ (n : ℕ). suc (n * 256 + k % 256)) (length-window s (a + 1) (k / 256)) ∙ ap suc (parted k)
@@ -103,6 +103,10 @@ key-same s t a b (suc n) k e h =
     let q = parts n (getD t b 0) h in
     let z : suc n - 1 ≡ n = omega arith in
     rw (e, length-window t (b + 1) n, q .0, q .1, z, eq-eqb (getD t b 0) (getD t b 0) refl)
+
+-- a word with another key is another
+pub key-other : (s w : List ℕ) (a k : ℕ) → (k ≡ keyOf w → ⊥) → false ≡ same (wordBy s a k) w
+key-other s w a k h = sym (same-other-by keyOf (wordBy s a k) w (λ q. h (sym (key-of-word s a k) ∙ q)))
 
 -- ---- the same bytes
 
@@ -193,7 +197,7 @@ module _ (ks : List ℕ) (c n : ℕ) where
 
 -- ---- the words held
 
-length-listed : (f : ℕ → List ℕ) (n : ℕ) → length (listed f n) ≡ n
+pub length-listed : (f : ℕ → List ℕ) (n : ℕ) → length (listed f n) ≡ n
 unfolding listed
 length-listed f zero = refl
 length-listed f (suc n) = length-append (listed f n) (f n ∷ []) ∙ add-one (length (listed f n)) ∙ ap suc (length-listed f n)

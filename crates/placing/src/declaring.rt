@@ -54,7 +54,15 @@ pub(crate) fn declare(
     if find(s, starts, keys, count, line, start, size) < count {
         return Did::No(9);
     }
-    hold(starts, keys, count, (from + start) as u16, line, start, size);
+    hold(
+        starts,
+        keys,
+        count,
+        (from + start) as u16,
+        line,
+        start,
+        size,
+    );
     Did::Go(Counters {
         at: at,
         bound: bound,
