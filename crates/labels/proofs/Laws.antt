@@ -85,10 +85,6 @@ unfolding keyOf wordBy window
 word-held s a zero h = refl
 word-held s a (suc n) h = let q = parts n (getD s a 0) h in rw (length-window s (a + 1) n, q .0, q .1)
 
--- a name of a line, kept by its place in the source and its key
-pub word-kept : (s t : List ℕ) (a b n k : ℕ) → getD s a 0 < 256 → window t b n ≡ window s a n → k ≡ keyOf (window t b n) → window t b n ≡ wordBy s a k
-word-kept s t a b n k h e q = e ∙ sym (word-held s a n h) ∙ ap (λ (w : List ℕ). wordBy s a (keyOf w)) (sym e) ∙ ap (wordBy s a) (sym q)
-
 pub key-small : (s : List ℕ) (a n : ℕ) → n ≤ 64 → getD s a 0 < 256 → keyOf (window s a n) < 65536
 unfolding keyOf window
 key-small s a zero h k = omega arith

@@ -20,7 +20,7 @@ use Rattle.sources.specs.Inner.Assembling.{Verdict, passes, refused, firstOf, a
 use Rattle.sources.specs.Inner.Assembling.{pastEnd, actVerdict, lineVerdict, walkLines, rawRead, Work, startWork, worked, workAfter}
 use Rattle.sources.specs.declared.Act.{Act}
 use Rattle.sources.proofs.Loop.{lineAt, linesFrom, goesOn, lines-over, lines-on}
-use Rattle.labels.specs.Inner.Labels.{words, zipped, Part, keyCells}
+use Rattle.labels.specs.Inner.Labels.{listed, words, zipped, Part, keyCells}
 use Rattle.labels.proofs.Laws.{window-part}
 use Rattle.uses.specs.Inner.Held.{usesHeld, mostUses}
 use Rattle.placing.specs.Inner.State.{placeIn, Fair, FairDid, Tells}
@@ -165,7 +165,7 @@ pub record Left (M : ℕ) (s starts keys values marks cells row aways : List ℕ
 start-work : (s starts keys values marks cells row aways : List ℕ) → marks ≡ replicate (length marks) 0 → cells ≡ replicate (length marks) 0
     → startWork (length marks)
     ≡ workIn s starts keys values marks cells row aways (record { at = record { 0 = 0 }; bound = 0; waiting = 0 }) 0
-unfolding startWork start words zipped usesHeld
+unfolding startWork start words listed zipped usesHeld
 start-work s starts keys values marks cells row aways e f =
     of-parts (ap (λ (m : List ℕ). record { at = 0; bound = []; waiting = []; marks = m }) (sym e)) (sym f) refl
 
