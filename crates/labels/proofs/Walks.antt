@@ -61,7 +61,7 @@ module _ (w : List ℕ) where
     one-not n e = rw e
 
     -- the first that is the word, or none of n
-    pub first-listed : (n r : ℕ) → r ≤ n → ((j : ℕ) → j < r → same (f j) w ≡ false) → (r < n → same (f r) w ≡ true) → labelsBefore w (listed f n) ≡ r
+    first-listed : (n r : ℕ) → r ≤ n → ((j : ℕ) → j < r → same (f j) w ≡ false) → (r < n → same (f r) w ≡ true) → labelsBefore w (listed f n) ≡ r
     unfolding listed labelsBefore
     first-listed zero r h others here = omega (arith, h)
     first-listed (suc n) r h others here = go (ltb r n) refl (ltb n r) refl (first-listed n)
@@ -217,7 +217,7 @@ module _ (s xs ks w : List ℕ) (n c : ℕ) where
           subst (λ (x : ℕ). leads ks c j x x ≡ leads ks c j next next) e
           (leads-next ks c j label d ∙ ap (λ (x : ℕ). leads ks c j x x) (sym q))
 
-      pub next-less : next < named
+      next-less : next < named
       next-less = let l = onward-within ks c label (getD ks (linksFrom + label) 0) in omega (arith, q, l, h)
 
       ahead-next : (j : ℕ) → leads ks c j next next ≡ true → leadsTo ks n c j ≡ true
@@ -228,7 +228,7 @@ module _ (s xs ks w : List ℕ) (n c : ℕ) where
           go false d = g .ahead j (led-next j (eqb-false label j d) ∙ e)
 
       -- a label that is the word's is the one found now; another is passed
-      pub walk-finds : same (wordAt label) w ≡ true → Walked label next
+      walk-finds : same (wordAt label) w ≡ true → Walked label next
       walk-finds e =
           record {
             below = omega (arith, next-less, h);
@@ -238,7 +238,7 @@ module _ (s xs ks w : List ℕ) (n c : ℕ) where
             others = λ j u p. sym (led-next j (λ d. omega (arith, d, u))) ∙ g .others j (omega (arith, u, g .below)) p;
           }
 
-      pub walk-passes : same (wordAt label) w ≡ false → Walked found next
+      walk-passes : same (wordAt label) w ≡ false → Walked found next
       walk-passes e =
           let other : (j : ℕ) → same (held j) w ≡ true → label ≡ j → ⊥ =
           λ j p d. false≢true (sym e ∙ subst (λ (x : ℕ). same (wordAt x) w ≡ true) (sym d) (held-led j p .1)) in
@@ -249,3 +249,10 @@ module _ (s xs ks w : List ℕ) (n c : ℕ) where
             ahead = ahead-next;
             others = λ j u p. sym (led-next j (other j p)) ∙ g .others j u p;
           }
+
+      pub walk-on : (r : ℕ)
+          → (same (wordAt label) w ≡ true → r ≡ label → Walked r next) × (same (wordAt label) w ≡ false → r ≡ found → Walked r next)
+      walk-on r = (
+        λ e f. subst (λ (x : ℕ). Walked x next) (sym f) (walk-finds e),
+        λ e f. subst (λ (x : ℕ). Walked x next) (sym f) (walk-passes e),
+      )

@@ -23,38 +23,47 @@ from-end-requires-3 c κs = search needs
 -- src/chains.rt:70:6
 add-result : tie.Need-add-result
 add-result c =
-    let p = chain-parts (c .before .before .before .before .args .s .now) (c .before .before .before .before .args .a) (c .before .before .before .before .args .n) (λ j. omega (arith, (c .before .before .before .shared-slice-known .given) j)) in
-    omega (arith, p .0, p .1, p .2, p .3, (c .before .before .before .before .pre) .2, (c .before .before .from-end .ensures), (c .before .from-end2 .ensures), (c .from-end3 .ensures))
+    let st = c .before .before .before .before in
+    let p = chain-parts (st .args .s .now) (st .args .a) (st .args .n) (λ j. omega (arith, c .before .before .before .shared-slice-known .given j)) in
+    omega (arith, p .0, p .1, p .2, p .3, st .pre .2, c .before .before .from-end .ensures, c .before .from-end2 .ensures, c .from-end3 .ensures)
 
 -- src/chains.rt:70:14
 mul-result : tie.Need-mul-result
 mul-result c =
-    let p = chain-parts (c .before .before .before .before .args .s .now) (c .before .before .before .before .args .a) (c .before .before .before .before .args .n) (λ j. omega (arith, (c .before .before .before .shared-slice-known .given) j)) in
-    omega (arith, p .0, p .1, p .2, p .3, (c .before .before .before .before .pre) .2, (c .before .before .from-end .ensures), (c .before .from-end2 .ensures), (c .from-end3 .ensures))
+    let st = c .before .before .before .before in
+    let p = chain-parts (st .args .s .now) (st .args .a) (st .args .n) (λ j. omega (arith, c .before .before .before .shared-slice-known .given j)) in
+    omega (arith, p .0, p .1, p .2, p .3, st .pre .2, c .before .before .from-end .ensures, c .before .from-end2 .ensures, c .from-end3 .ensures)
 
 -- src/chains.rt:70:6
 add-result-2 : tie.Need-add-result-2
 add-result-2 c =
-    let p = chain-parts (c .before .before .before .before .args .s .now) (c .before .before .before .before .args .a) (c .before .before .before .before .args .n) (λ j. omega (arith, (c .before .before .before .shared-slice-known .given) j)) in
-    omega (arith, p .0, p .1, p .2, p .3, (c .before .before .before .before .pre) .2, (c .before .before .from-end .ensures), (c .before .from-end2 .ensures), (c .from-end3 .ensures))
+    let st = c .before .before .before .before in
+    let p = chain-parts (st .args .s .now) (st .args .a) (st .args .n) (λ j. omega (arith, c .before .before .before .shared-slice-known .given j)) in
+    omega (arith, p .0, p .1, p .2, p .3, st .pre .2, c .before .before .from-end .ensures, c .before .from-end2 .ensures, c .from-end3 .ensures)
 
 -- src/chains.rt:70:23
 mul-result-2 : tie.Need-mul-result-2
 mul-result-2 c =
-    let p = chain-parts (c .before .before .before .before .args .s .now) (c .before .before .before .before .args .a) (c .before .before .before .before .args .n) (λ j. omega (arith, (c .before .before .before .shared-slice-known .given) j)) in
-    omega (arith, p .0, p .1, p .2, p .3, (c .before .before .before .before .pre) .2, (c .before .before .from-end .ensures), (c .before .from-end2 .ensures), (c .from-end3 .ensures))
+    let st = c .before .before .before .before in
+    let p = chain-parts (st .args .s .now) (st .args .a) (st .args .n) (λ j. omega (arith, c .before .before .before .shared-slice-known .given j)) in
+    omega (arith, p .0, p .1, p .2, p .3, st .pre .2, c .before .before .from-end .ensures, c .before .from-end2 .ensures, c .from-end3 .ensures)
 
 -- src/chains.rt:70:6
 add-result-3 : tie.Need-add-result-3
 add-result-3 c =
-    let p = chain-parts (c .before .before .before .before .args .s .now) (c .before .before .before .before .args .a) (c .before .before .before .before .args .n) (λ j. omega (arith, (c .before .before .before .shared-slice-known .given) j)) in
-    omega (arith, p .0, p .1, p .2, p .3, (c .before .before .before .before .pre) .2, (c .before .before .from-end .ensures), (c .before .from-end2 .ensures), (c .from-end3 .ensures))
+    let st = c .before .before .before .before in
+    let p = chain-parts (st .args .s .now) (st .args .a) (st .args .n) (λ j. omega (arith, c .before .before .before .shared-slice-known .given j)) in
+    omega (arith, p .0, p .1, p .2, p .3, st .pre .2, c .before .before .from-end .ensures, c .before .from-end2 .ensures, c .from-end3 .ensures)
 
 -- src/chains.rt:63:1
 returns : tie.Need-returns
 returns c =
-    let w = window (c .before .before .before .before .args .s .now) (c .before .before .before .before .args .a) (c .before .before .before .before .args .n) in
-    chain-is w (c .before .before .before .before .args .k) (c .before .before .from-end .result) (c .before .from-end2 .result) (c .from-end3 .result) ((c .before .before .before .before .pre) .2) (c .before .before .from-end .ensures) (c .before .from-end2 .ensures) (c .from-end3 .ensures)
+    let st = c .before .before .before .before in
+    let x = c .before .before .from-end in
+    let y = c .before .from-end2 in
+    let z = c .from-end3 in
+    let w = window (st .args .s .now) (st .args .a) (st .args .n) in
+    chain-is w (st .args .k) (x .result) (y .result) (z .result) (st .pre .2) (x .ensures) (y .ensures) (z .ensures)
 
 pub chain-of-spec : {M : Type 1} → statement M
 chain-of-spec =

@@ -9,7 +9,9 @@ use Rattle.labels.proofs.chains.byte.Reads as byte-reads
 
 -- src/chains.rt:57:9
 returns : tie.Need-returns
-returns c = end-none (c .before .before .args .s .now) (c .before .before .args .a) (c .before .before .args .n) (c .before .before .args .i) (c .if1 .taken)
+returns c =
+    let a = c .before .before .args in
+    end-none (a .s .now) (a .a) (a .n) (a .i) (c .if1 .taken)
 
 -- src/chains.rt:59:13
 add-byte : tie.Need-add-byte
@@ -25,7 +27,10 @@ cast-result c = search needs
 
 -- src/chains.rt:52:1
 returns-2 : tie.Need-returns-2
-returns-2 c = (c .byte .ensures) ∙ end-some (c .before .before .before .args .s .now) (c .before .before .before .args .a) (c .before .before .before .args .n) (c .before .before .before .args .i) ((c .before .before .before .pre) .2) (c .before .if1 .left)
+returns-2 c =
+    let st = c .before .before .before in
+    let a = st .args in
+    c .byte .ensures ∙ end-some (a .s .now) (a .a) (a .n) (a .i) (st .pre .2) (c .before .if1 .left)
 
 pub from-end-spec : {M : Type 1} → statement M
 from-end-spec = tie.close (tie.spec returns add-byte byte-requires cast-result returns-2)

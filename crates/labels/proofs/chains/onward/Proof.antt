@@ -9,11 +9,15 @@ use Rattle.labels.proofs.chains.cell.Reads as cell-reads
 
 -- src/chains.rt:79:9
 returns : tie.Need-returns
-returns c = onward-none (c .before .before .args .keys .now) (c .before .before .args .chain) (c .before .before .args .n) (c .before .before .args .named) (c .if1 .taken)
+returns c =
+    let a = c .before .before .args in
+    onward-none (a .keys .now) (a .chain) (a .n) (a .named) (c .if1 .taken)
 
 -- src/chains.rt:82:9
 returns-2 : tie.Need-returns-2
-returns-2 c = onward-out (c .before .before .before .args .keys .now) (c .before .before .before .args .chain) (c .before .before .before .args .n) (c .before .before .before .args .named) (c .if2 .taken)
+returns-2 c =
+    let a = c .before .before .before .args in
+    onward-out (a .keys .now) (a .chain) (a .n) (a .named) (c .if2 .taken)
 
 -- src/chains.rt:84:35
 sub-cell : tie.Need-sub-cell
@@ -29,11 +33,15 @@ cell-requires c κs = search needs
 
 -- src/chains.rt:85:9
 returns-3 : tie.Need-returns-3
-returns-3 c = onward-other (c .before .before .before .before .before .args .keys .now) (c .before .before .before .before .before .args .chain) (c .before .before .before .before .before .args .n) (c .before .before .before .before .before .args .named) (λ e. (c .if3 .taken) ((c .before .cell .ensures) ∙ e))
+returns-3 c =
+    let a = c .before .before .before .before .before .args in
+    onward-other (a .keys .now) (a .chain) (a .n) (a .named) (λ e. c .if3 .taken (c .before .cell .ensures ∙ e))
 
 -- src/chains.rt:74:1
 returns-4 : tie.Need-returns-4
-returns-4 c = onward-here (c .before .before .before .before .before .args .keys .now) (c .before .before .before .before .before .args .chain) (c .before .before .before .before .before .args .n) (c .before .before .before .before .before .args .named) (c .before .before .if2 .left) (sym (c .before .cell .ensures) ∙ (c .if3 .left))
+returns-4 c =
+    let a = c .before .before .before .before .before .args in
+    onward-here (a .keys .now) (a .chain) (a .n) (a .named) (c .before .before .if2 .left) (sym (c .before .cell .ensures) ∙ c .if3 .left)
 
 pub onward-spec : {M : Type 1} → statement M
 onward-spec =

@@ -1,12 +1,12 @@
 use borrow.Author.Needs.{needs}
-use Prim.Native.Nat.{ℕ, _+_, _-_, _<_}
-use mathlib.Core.Path.{_≡_, sym, ap, subst, _∙_}
+use Prim.Native.Nat.{_+_, _-_}
+use mathlib.Core.Path.{_≡_, sym, ap, _∙_}
 use native.Mathlib.Omega.{arith}
 use lib.ListN.{getD}
 use mathlib.Core.Logic.{⊎-elim}
 use Rattle.labels.specs.Inner.Labels.{window, onward, lastsFrom, linksFrom, InCell}
 use Rattle.labels.proofs.Laws.{chain-small}
-use Rattle.labels.proofs.Walks.{Walked, onward-within, onward-below, no-word, walk-starts, walk-finds, walk-passes, walk-ends}
+use Rattle.labels.proofs.Walks.{Walked, onward-within, onward-below, no-word, walk-starts, walk-on, walk-ends}
 use Rattle.labels.proofs.finding.find.Statement.{statement}
 use Rattle.labels.proofs.finding.find.Tie as tie
 use Rattle.labels.proofs.finding.find.Reads as reads
@@ -64,12 +64,12 @@ sub-j c = search needs
 
 is-named-requires : tie.Need-is-named-requires Inv-loop μ-loop
 is-named-requires c κs =
-    let a = c .before .before .before .before .before .before .before .before .before .before .args in
-    let inv = c .before .loop .inv in
     let pre = c .before .before .before .before .before .before .before .before .before .before .pre in
-    let j = inv .0 .below in
-    let k = inv .0 .within in
-    (pre .0, pre .1, omega (arith, c .loop-test .taken, j, k, pre .2), omega (arith, c .loop-test .taken, j, k, pre .3), c .before .before .before .before .before .key .ensures)
+    let p = c .before in
+    let h = c .loop-test .taken in
+    let j = p .loop .inv .0 .below in
+    let k = p .loop .inv .0 .within in
+    (pre .0, pre .1, omega (arith, h, j, k, pre .2), omega (arith, h, j, k, pre .3), p .before .before .before .before .key .ensures)
 
 add-cell-2 : tie.Need-add-cell-2 Inv-loop μ-loop
 add-cell-2 c = omega (arith, c .before .before .before .loop .inv .1)
@@ -78,46 +78,44 @@ cell-requires-2 : tie.Need-cell-requires-2 Inv-loop μ-loop
 cell-requires-2 c κs = search needs
 
 onward-requires-2 : tie.Need-onward-requires-2 Inv-loop μ-loop
-onward-requires-2 c κs = omega (arith, c .cell2 .ensures, c .before .before .before .before .before .before .before .before .before .before .shared-slice-known3 .given (linksFrom + (c .before .before .before .before .loop .named - 1)))
+onward-requires-2 c κs =
+    let p = c .before .before .before .before in
+    let links = p .before .before .before .before .before .before .shared-slice-known3 .given (linksFrom + (p .loop .named - 1)) in
+    omega (arith, c .cell2 .ensures, links)
 
 loop-less : tie.Need-loop-less Inv-loop μ-loop
 loop-less c =
     let p = c .before .before .before .before .before in
-    let a = c .before .before .before .before .before .before .before .before .before .before .before .before .before .before .args in
+    let a = p .before .before .before .before .before .before .before .before .before .args in
     let h = onward-within (a .keys .now) (p .before .before .before .chain-of .result) (p .loop .named - 1) (c .before .cell2 .result) in
     omega (arith, h, c .onward2 .ensures, c .before .before .before .before .loop-test .taken)
 
 loop-again : tie.Need-loop-again Inv-loop μ-loop
 loop-again c =
     let p = c .before .before .before .before .before in
-    let st = c .before .before .before .before .before .before .before .before .before .before .before .before .before .before in
-    let a = st .args in
-    let chain = p .before .before .before .chain-of .result in
-    let on = p .before .before .before .chain-of .ensures in
-    let w = window (a .line .now) (a .start) (a .size) in
-    let none = no-word (a .line .now) (a .start) (a .size) (omega (arith, c .before .before .before .before .before .before .before .before .before .before .shared-slice-known4 .given (a .start))) in
-    let next : c .onward2 .result ≡ onward (a .keys .now) chain (p .loop .named - 1) (getD (a .keys .now) (linksFrom + (p .loop .named - 1)) 0) =
-    c .onward2 .ensures ∙ ap (onward (a .keys .now) chain (p .loop .named - 1)) (c .before .cell2 .ensures) in
-    let taken = c .before .before .before .before .loop-test .taken in
-    let named = c .before .before .before .is-named .ensures in
-    let h = onward-within (a .keys .now) chain (p .loop .named - 1) (c .before .cell2 .result) in
-    let walk : Walked (a .s .now) (a .starts .now) (a .keys .now) w (a .count) chain (c .before .before .if1 .found) (c .onward2 .result) =
-    ⊎-elim
-    (λ b. subst (λ (f : ℕ). Walked (a .s .now) (a .starts .now) (a .keys .now) w (a .count) chain f (c .onward2 .result)) (sym (b .1))
-    (walk-finds (a .s .now) (a .starts .now) (a .keys .now) w (a .count) chain on none (p .loop .found) (p .loop .named) taken (p .loop .inv .0)
-    (c .onward2 .result) next (sym named ∙ b .0 .taken)))
-    (λ b. subst (λ (f : ℕ). Walked (a .s .now) (a .starts .now) (a .keys .now) w (a .count) chain f (c .onward2 .result)) (sym (b .1))
-    (walk-passes (a .s .now) (a .starts .now) (a .keys .now) w (a .count) chain on none (p .loop .found) (p .loop .named) taken (p .loop .inv .0)
-    (c .onward2 .result) next (sym named ∙ b .0 .left)))
-    (c .before .before .if1 .came) in
-    (walk, omega (arith, h, c .onward2 .ensures, p .loop .inv .1))
+    let a = p .before .before .before .before .before .before .before .before .before .args in
+    let i = p .loop .named - 1 in
+    let q = p .before .before .before .chain-of in
+    let first = p .before .before .before .before .before .shared-slice-known4 .given (a .start) in
+    let none = no-word (a .line .now) (a .start) (a .size) (omega (arith, first)) in
+    let next : c .onward2 .result ≡ onward (a .keys .now) (q .result) i (getD (a .keys .now) (linksFrom + i) 0) =
+    c .onward2 .ensures ∙ ap (onward (a .keys .now) (q .result) i) (c .before .cell2 .ensures) in
+    let h = onward-within (a .keys .now) (q .result) i (c .before .cell2 .result) in
+    let walk = walk-on (a .s .now) (a .starts .now) (a .keys .now) (window (a .line .now) (a .start) (a .size)) (a .count) (q .result)
+    (q .ensures) none (p .loop .found) (p .loop .named) (c .before .before .before .before .loop-test .taken) (p .loop .inv .0) (c .onward2 .result) next
+    (c .before .before .if1 .found) in
+    let named = sym (c .before .before .before .is-named .ensures) in (
+      ⊎-elim (λ b. walk .0 (named ∙ b .0 .taken) (b .1)) (λ b. walk .1 (named ∙ b .0 .left) (b .1)) (c .before .before .if1 .came),
+      omega (arith, h, c .onward2 .ensures, p .loop .inv .1),
+    )
 
 returns : tie.Need-returns Inv-loop μ-loop
 returns c =
     let p = c .before in
-    let a = c .before .before .before .before .before .before .before .before .before .before .args in
+    let a = p .before .before .before .before .before .before .before .before .before .args in
     let w = window (a .line .now) (a .start) (a .size) in
-    walk-ends (a .s .now) (a .starts .now) (a .keys .now) w (a .count) (c .before .before .before .before .chain-of .result) (p .loop .found) (p .loop .named) (c .loop-test .left) (p .loop .inv .0)
+    let chain = p .before .before .before .chain-of .result in
+    walk-ends (a .s .now) (a .starts .now) (a .keys .now) w (a .count) chain (p .loop .found) (p .loop .named) (c .loop-test .left) (p .loop .inv .0)
 
 pub find-spec : {M : Type 1} → statement M
 find-spec =
