@@ -31,7 +31,7 @@ slice-read-keys c =
     let start = chained .before .before .before .before .before in
     let a = start .args in
     lt-numbered (a .keys .now) (a .count) (chained .before .key .result) (chained .chain-of .result)
-    (omega (arith, start .pre .2, chain-below _ (chained .chain-of .ensures)))
+    (omega (arith, start .pre .0, start .pre .2, chain-below _ (chained .chain-of .ensures)))
 
 slice-write-keys-3 : tie.Need-slice-write-keys-3
 slice-write-keys-3 c =
