@@ -188,7 +188,7 @@ module _ (ks : List ℕ) (n k c before : ℕ) (long : length ks ≡ keyCells) (f
         links-kept = λ j h. four-kept (linksFrom + j) (λ q. omega (arith, q, h)) (λ q. omega (arith, q, h, few))
             ∙ two-kept (linksFrom + j) (λ q. omega (arith, q, few)) (λ q. omega (arith, q, few));
         lasts-kept = λ d h. four-kept (lastsFrom + d) (λ q. omega (arith, q, few)) (λ q. h (omega (arith, q)))
-            ∙ two-kept (lastsFrom + d) (λ q. omega (arith, q, few)) (λ q. omega (arith, q, few))
+            ∙ two-kept (lastsFrom + d) (λ q. omega (arith, q, few)) (λ q. omega (arith, q, few));
       }
 
 -- a name of a line, held by its place in a source and its key

@@ -23,32 +23,29 @@ slice-write-keys-2 : tie.Need-slice-write-keys-2
 slice-write-keys-2 c =
     let start = c .before .before .before .before .before in
     let a = start .args in
-    lt-length-set (a .keys .now) (a .count) (c .before .key .result) (omega (arith, start .pre .0, start .pre .2))
+    lt-length-set (a .keys .now) (a .count) _ (omega (arith, start .pre .0, start .pre .2))
 
 slice-read-keys : tie.Need-slice-read-keys
 slice-read-keys c =
     let chained = c .before in
     let start = chained .before .before .before .before .before in
     let a = start .args in
-    lt-numbered (a .keys .now) (a .count) (chained .before .key .result) (chained .chain-of .result)
-    (omega (arith, start .pre .2, chain-below _ (chained .chain-of .ensures)))
+    lt-numbered (a .keys .now) (a .count) _ _ (omega (arith, start .pre .0, start .pre .2, chain-below _ (chained .chain-of .ensures)))
 
 slice-write-keys-3 : tie.Need-slice-write-keys-3
 slice-write-keys-3 c =
     let chained = c .before in
     let start = chained .before .before .before .before .before in
     let a = start .args in
-    lt-numbered (a .keys .now) (a .count) (chained .before .key .result) (chained .chain-of .result) (omega (arith, start .pre .0, start .pre .2))
+    lt-numbered (a .keys .now) (a .count) _ _ (omega (arith, start .pre .0, start .pre .2))
 
 slice-write-keys-4 : tie.Need-slice-write-keys-4
 slice-write-keys-4 c =
     let chained = c .before in
     let start = chained .before .before .before .before .before in
     let a = start .args in
-    let k = chained .before .key .result in
-    let chain = chained .chain-of .result in
-    lt-length-set (numbered (a .keys .now) (a .count) k chain) (linksFrom + a .count) _
-    (lt-numbered (a .keys .now) (a .count) k chain (omega (arith, start .pre .2, chain-below _ (chained .chain-of .ensures))))
+    lt-length-set (numbered (a .keys .now) (a .count) _ _) (linksFrom + a .count) _
+    (lt-numbered (a .keys .now) (a .count) _ _ (omega (arith, start .pre .2, chain-below _ (chained .chain-of .ensures))))
 
 returns : tie.Need-returns
 returns c =
