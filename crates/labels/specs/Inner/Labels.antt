@@ -76,7 +76,8 @@ leadsTo ks n c j = leads ks c j n (onward ks c n (getD ks (lastsFrom + c) 0))
 abbrev pub noWord : List ℕ
 noWord = 256 ∷ []
 
--- the j-th of n words
+-- the j-th of n words. One that its chain does not lead to stands for none: so a look-up down one chain is right whatever a row holds, and
+-- nobody has to say that chains are in order.
 abbrev pub heldAt : List ℕ → List ℕ → List ℕ → ℕ → ℕ → List ℕ
 heldAt s xs ks n j =
     cond (leadsTo ks n (chainOf (wordBy s (getD xs j 0) (getD ks j 0))) j) (wordBy s (getD xs j 0) (getD ks j 0)) noWord
