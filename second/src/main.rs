@@ -2,9 +2,12 @@
 
 #![forbid(unsafe_code)]
 
+use second::assembler::labels::LABELS_LIMIT;
 use second::case::{self, Case};
+use second::make::lookup;
 use second::{answer, back, count, make, program, show, speed};
 use std::io::{self, BufRead, BufWriter, Read, Write};
+use std::path::Path;
 use std::process::ExitCode;
 
 const USAGE: &str = "usage:
@@ -18,7 +21,10 @@ const USAGE: &str = "usage:
   second back COUNT SEED
   second bench LABELS > source
       LABELS: 20 500
+  second bench NAMES LABELS > source
+      NAMES: alike mixed; LABELS: 1 to 512
   second speed [WORK]
+  second speed source FILE..
 ";
 
 fn main() -> ExitCode {
@@ -40,8 +46,10 @@ fn main() -> ExitCode {
         ["bench", labels @ ("20" | "500")] => {
             put(&make::bench::source(labels.parse().unwrap_or(0)), ExitCode::SUCCESS)
         }
+        ["bench", names, labels] => lookup_source(names, labels),
         ["speed"] => speed_all(|_| true),
         ["speed", work] => speed_all(|name| name == *work),
+        ["speed", "source", _, ..] => speed_files(),
         _ => Err(USAGE.to_string()),
     };
     match done {
@@ -115,6 +123,30 @@ fn speed_all(wanted: impl Fn(&str) -> bool) -> Done {
         return Err(USAGE.to_string());
     }
     Ok(ExitCode::SUCCESS)
+}
+
+/// Does the work of "Speed" on each file that the third word and those behind it name, under the
+/// file's own name without its ending; each line is printed as soon as its work is done.
+fn speed_files() -> Done {
+    let mut out = io::stdout().lock();
+    for file in std::env::args_os().skip(3) {
+        let source = std::fs::read(&file).map_err(failed)?;
+        let name = Path::new(&file).file_stem().unwrap_or_default().to_string_lossy();
+        let times = speed::SOURCE_TIMES;
+        let work = speed::SourceWork { name: &name, source: &source, times };
+        writeln!(out, "{}", work.line()).map_err(failed)?;
+    }
+    Ok(ExitCode::SUCCESS)
+}
+
+/// A source by which the look-up of labels is measured.
+fn lookup_source(names: &str, labels: &str) -> Done {
+    let names = lookup::Names::of_name(names).ok_or_else(|| USAGE.to_string())?;
+    let labels = number(labels)? as usize;
+    if !(1..=LABELS_LIMIT).contains(&labels) {
+        return Err(USAGE.to_string());
+    }
+    put(lookup::source(names, labels), ExitCode::SUCCESS)
 }
 
 /// Prints bytes and ends with a code.

@@ -1,5 +1,5 @@
 //! Fixed work, to be timed beside the proved programs (docs/COMPARED.md, "Speed"): three programs
-//! without an end, so many steps of each, and two sources, assembled so many times.
+//! without an end, so many steps of each, and two sources, assembled so many times; or any source.
 
 use crate::assembler::{assemble, Accepted};
 use crate::machine::{run, Machine, Ran, Registers, Stop};
@@ -78,21 +78,28 @@ impl Work {
 /// What each source is lent: memory cells, and as many bytes of map.
 pub const SOURCE_CELLS: usize = 16_384;
 
+/// How often each source is assembled.
+pub const SOURCE_TIMES: u32 = 100;
+
 /// A source, and how often it is assembled.
 #[derive(Clone, Copy, Debug, PartialEq, Eq)]
-pub struct SourceWork {
-    pub name: &'static str,
-    pub source: &'static str,
+pub struct SourceWork<'s> {
+    pub name: &'s str,
+    pub source: &'s [u8],
     pub times: u32,
 }
 
 /// Few labels that are used often, and many; 1,500 lines and about 30,000 bytes each.
 pub const SOURCES: [SourceWork; 2] = [
-    SourceWork { name: "labels_20", source: include_str!("../../bench/labels_20.ens"), times: 100 },
+    SourceWork {
+        name: "labels_20",
+        source: include_bytes!("../../bench/labels_20.ens"),
+        times: SOURCE_TIMES,
+    },
     SourceWork {
         name: "labels_500",
-        source: include_str!("../../bench/labels_500.ens"),
-        times: 100,
+        source: include_bytes!("../../bench/labels_500.ens"),
+        times: SOURCE_TIMES,
     },
 ];
 
@@ -106,14 +113,14 @@ pub struct Assembled {
     pub checksum: u32,
 }
 
-impl SourceWork {
+impl SourceWork<'_> {
     /// Assembles into the same memory and map again and again, as a host would lend them.
     pub fn perform(&self) -> Assembled {
         let mut memory = vec![0; SOURCE_CELLS];
         let mut map = vec![0; SOURCE_CELLS];
         let mut done = Assembled { times: 0, code: 0, data: 0, checksum: 0 };
         for _ in 0..self.times {
-            if let Ok(accepted) = assemble(self.source.as_bytes(), &mut memory, &mut map) {
+            if let Ok(accepted) = assemble(self.source, &mut memory, &mut map) {
                 let Accepted { code, data, .. } = accepted;
                 done = Assembled { times: done.times + 1, code, data, ..done };
             }

@@ -20,6 +20,7 @@ use codes::limits::MOST_LABELS;
 use codes::marks::CODE;
 use codes::marks::DATA;
 use codes::marks::RESERVED;
+use labels::chains::KEY_CELLS;
 use settling::Settled;
 use settling::settle::settle;
 use sources::Line;
@@ -157,7 +158,7 @@ fn assemble_lent(s: &[u8], memory: &mut [u16], map: &mut [u8]) -> Reply
 {
     let m = memory.len();
     let mut starts = [0u16; MOST_LABELS];
-    let mut keys = [0u16; MOST_LABELS];
+    let mut keys = [0u16; KEY_CELLS];
     let mut values = [0u16; MOST_LABELS];
     let mut marks = [0u8; MOST_CELLS];
     let mut cells = [0u16; MOST_CELLS];

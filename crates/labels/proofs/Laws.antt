@@ -1,19 +1,20 @@
--- Laws of windows, of `same`, of the words held and of a word's place among them.
+-- Laws of windows, of keys and chains of names, of `same`, of the words held and of the values filled in.
 use mathlib.Core.Path.{_≡_, refl, sym, ap, ap₂, subst, _∙_}
 use mathlib.Core.List.{List, [], _∷_, _++_, append-assoc}
 use mathlib.Core.Bool.{Bool, true, false}
 use Prim.Native.Nat.{ℕ, zero, suc, _+_, _*_, _/_, _%_, _-_, _≤_, _<_}
 use native.Mathlib.Numerals.{add-one}
 use native.Mathlib.Omega.{arith}
-use lib.Dec.{eqb}
-use lib.ListN.{length, getD, drop, take, set, replicate}
-use lib.Seq.{drop-cons, take-suc-set, getD-take, getD-drop, slice, slice-empty, slice-cons}
-use borrow.Author.Tests.{eq-eqb, ne-eqb, eqb-true, eqb-false}
+use lib.Dec.{ltb}
+use lib.ListN.{length, getD, drop, take, set, replicate, length-append}
+use lib.Seq.{take-suc-set, getD-take, getD-drop, slice, slice-empty, slice-cons}
+use borrow.Author.Tests.{eq-eqb, ne-eqb, lt-ltb, le-ltb, ltb-true, ltb-false}
 use Rattle.values.specs.declared.Name.{Name}
 use Rattle.names.specs.Names.{same}
+use Rattle.isa.proofs.Tests.{and-false}
 use Rattle.names.proofs.Same.{same-other-by}
 use Rattle.sources.specs.Sources.{spelled}
-use Rattle.labels.specs.Inner.Labels.{window, words, labelsBefore, keyOf, wordBy, OtherKeys}
+use Rattle.labels.specs.Inner.Labels.{window, keyOf, wordBy, fromEnd, chains, chainOf, numbersFrom, onward, heldAt, listed, words}
 
 pub length-window : (s : List ℕ) (a n : ℕ) → length (window s a n) ≡ n
 unfolding window
@@ -69,7 +70,7 @@ key-some s a zero h = absurd (h refl)
 key-some s a (suc n) h = let e = length-window s (a + 1) n in omega (arith, e)
 
 -- the word by a key has that key
-pub key-of-word : (s : List ℕ) (a k : ℕ) → keyOf (wordBy s a k) ≡ k
+key-of-word : (s : List ℕ) (a k : ℕ) → keyOf (wordBy s a k) ≡ k
 unfolding keyOf wordBy
 key-of-word s a zero = refl
 key-of-word s a (suc k) = ap (λ (n : ℕ). suc (n * 256 + k % 256)) (length-window s (a + 1) (k / 256)) ∙ ap suc (parted k)
@@ -83,10 +84,6 @@ pub word-held : (s : List ℕ) (a n : ℕ) → getD s a 0 < 256 → wordBy s a (
 unfolding keyOf wordBy window
 word-held s a zero h = refl
 word-held s a (suc n) h = let q = parts n (getD s a 0) h in rw (length-window s (a + 1) n, q .0, q .1)
-
--- a name of a line, kept by its place in the source and its key
-pub word-kept : (s t : List ℕ) (a b n k : ℕ) → getD s a 0 < 256 → window t b n ≡ window s a n → k ≡ keyOf (window t b n) → window t b n ≡ wordBy s a k
-word-kept s t a b n k h e q = e ∙ sym (word-held s a n h) ∙ ap (λ (w : List ℕ). wordBy s a (keyOf w)) (sym e) ∙ ap (wordBy s a) (sym q)
 
 pub key-small : (s : List ℕ) (a n : ℕ) → n ≤ 64 → getD s a 0 < 256 → keyOf (window s a n) < 65536
 unfolding keyOf window
@@ -103,6 +100,10 @@ key-same s t a b (suc n) k e h =
     let z : suc n - 1 ≡ n = omega arith in
     rw (e, length-window t (b + 1) n, q .0, q .1, z, eq-eqb (getD t b 0) (getD t b 0) refl)
 
+-- a word with another key is another
+pub key-other : (s w : List ℕ) (a k : ℕ) → (k ≡ keyOf w → ⊥) → false ≡ same (wordBy s a k) w
+key-other s w a k h = sym (same-other-by keyOf (wordBy s a k) w (λ q. h (sym (key-of-word s a k) ∙ q)))
+
 -- ---- the same bytes
 
 module _ (s t : List ℕ) (a b n : ℕ) where
@@ -117,83 +118,91 @@ module _ (s t : List ℕ) (a b n : ℕ) where
   unfolding window
   same-end i h = let e : n - i ≡ 0 = omega arith in rw e
 
--- ---- the words held, and a word's place among them
+-- ---- chains of names
 
--- the words from the i-th label on
-pub words-cons : (s xs ks : List ℕ) (i n : ℕ) → i < length xs → i < length ks → i < n
-    → words s (drop i xs) (drop i ks) (n - i) ≡ wordBy s (getD xs i 0) (getD ks i 0) ∷ words s (drop (i + 1) xs) (drop (i + 1) ks) (n - (i + 1))
-unfolding words
-words-cons s xs ks i n h k l =
-    let e : n - i ≡ suc (n - (i + 1)) = omega arith in
-    rw (add-one i, drop-cons xs i 0 h, drop-cons ks i 0 k) (rw (add-one i) at (ap (λ (m : ℕ). words s (getD xs i 0 ∷ drop (suc i) xs) (getD ks i 0 ∷ drop (suc i) ks) m) e))
+window-at : (s : List ℕ) (n a j : ℕ) → j < n → getD (window s a n) j 0 ≡ getD s (a + j) 0
+unfolding window
+window-at s zero a j h = absurd (omega (arith, h))
+window-at s (suc n) a zero h = let e : a ≡ a + 0 = omega arith in ap (λ (x : ℕ). getD s x 0) e
+window-at s (suc n) a (suc j) h =
+    let e : a + 1 + j ≡ a + suc j = omega arith in
+    window-at s n (a + 1) j (omega (arith, h)) ∙ ap (λ (x : ℕ). getD s x 0) e
 
--- no label yet, and one more with another key
-pub others-none : (ks : List ℕ) (key i : ℕ) → OtherKeys ks key i i
-others-none ks key i j p q e = omega (arith, p, q)
+module _ (s : List ℕ) (a n i : ℕ) where
+  -- a byte that a shorter name does not have, and one that a name has
+  pub end-none : n < i → 0 ≡ fromEnd (window s a n) i
+  end-none h = rw (length-window s a n, lt-ltb n i h)
 
-pub others-more : (ks : List ℕ) (key from i : ℕ) → OtherKeys ks key from i → (getD ks i 0 ≡ key → ⊥) → OtherKeys ks key from (i + 1)
-others-more ks key from i o h j p q e = go (eqb j i) refl
+  pub end-some : 0 < i → i ≤ n → getD s (a + (n - i)) 0 ≡ fromEnd (window s a n) i
+  end-some z h = rw (length-window s a n, le-ltb n i h) (sym (window-at s n a (n - i) (omega (arith, z, h))))
+
+end-byte : (s : List ℕ) (a n i : ℕ) → 0 < i → ((j : ℕ) → getD s j 0 < 256) → fromEnd (window s a n) i < 256
+end-byte s a n i z h = go (ltb n i) refl
   where
-    go : (b : Bool) → eqb j i ≡ b → ⊥
-    go true f = h (subst (λ (x : ℕ). getD ks x 0 ≡ key) (eqb-true j i f) e)
-    go false f = let n : j ≡ i → ⊥ = eqb-false j i f in o j p (omega (arith, q, n)) e
+    go : (b : Bool) → ltb n i ≡ b → fromEnd (window s a n) i < 256
+    go true e = subst (λ (x : ℕ). x < 256) (end-none s a n i (ltb-true n i e)) (omega arith)
+    go false e = subst (λ (x : ℕ). x < 256) (end-some s a n i z (ltb-false n i e)) (h (a + (n - i)))
 
-module _ (s xs ks w : List ℕ) (n : ℕ) where
-  -- the word's place among the labels from the i-th on
-  abbrev pub from : ℕ → ℕ
-  from i = labelsBefore w (words s (drop i xs) (drop i ks) (n - i))
+key-below : (s : List ℕ) (a n : ℕ) → getD s a 0 < 256 → keyOf (window s a n) ≤ n * 256
+unfolding keyOf window
+key-below s a zero h = omega arith
+key-below s a (suc n) h = let e = length-window s (a + 1) n in omega (arith, e, h)
 
-  module _ (i : ℕ) (h : i < length xs) (k : i < length ks) (l : i < n) where
-    pub place-here : same (wordBy s (getD xs i 0) (getD ks i 0)) w ≡ true → from i ≡ 0
-    unfolding labelsBefore
-    place-here e = rw (words-cons s xs ks i n h k l, e)
+-- of a name of bytes, the numbers that its chain is told by are small
+pub chain-parts : (s : List ℕ) (a n : ℕ) → ((j : ℕ) → getD s j 0 < 256) → let w = window s a n in
+    (keyOf w ≤ n * 256) × (fromEnd w 1 < 256) × (fromEnd w 2 < 256) × (fromEnd w 3 < 256)
+chain-parts s a n h =
+    (key-below s a n (h a), end-byte s a n 1 (omega arith) h, end-byte s a n 2 (omega arith) h, end-byte s a n 3 (omega arith) h)
 
-    pub place-more : same (wordBy s (getD xs i 0) (getD ks i 0)) w ≡ false → from i ≡ suc (from (i + 1))
-    unfolding labelsBefore
-    place-more e = rw (words-cons s xs ks i n h k l, e)
+pub chain-is : (w : List ℕ) (k x y z : ℕ) → k ≡ keyOf w → x ≡ fromEnd w 1 → y ≡ fromEnd w 2 → z ≡ fromEnd w 3
+    → (k + x + 10 * y + 100 * z) % chains ≡ chainOf w
+unfolding chainOf
+chain-is w k x y z e f g h = rw (e, f, g, h)
 
-  pub place-end : (i : ℕ) → n ≤ i → from i ≡ 0
-  unfolding labelsBefore words
-  place-end i h = let e : n - i ≡ 0 = omega arith in rw e
+pub chain-small : (w : List ℕ) → chainOf w < chains
+unfolding chainOf
+chain-small w = omega arith
 
-  -- labels with another key are passed
-  place-skip : (d i : ℕ) → n ≤ length xs → n ≤ length ks → i + d ≤ n → OtherKeys ks (keyOf w) i (i + d) → from i ≡ d + from (i + d)
-  place-skip zero i h k l o = let e : i ≡ i + 0 = omega arith in let f = ap from e in omega (arith, f)
-  place-skip (suc d) i h k l o =
-      let e : i + 1 + d ≡ i + suc d = omega arith in
-      let u : keyOf (wordBy s (getD xs i 0) (getD ks i 0)) ≡ keyOf w → ⊥ = λ q. o i (omega arith) (omega arith) (sym (key-of-word s (getD xs i 0) (getD ks i 0)) ∙ q) in
-      let f = place-more i (omega (arith, h, l)) (omega (arith, k, l)) (omega (arith, l)) (same-other-by keyOf (wordBy s (getD xs i 0) (getD ks i 0)) w u) in
-      let g = place-skip d (i + 1) h k (omega (arith, l)) (λ j p q. o j (omega (arith, p)) (omega (arith, q))) in
-      let v = ap from e in
-      omega (arith, f, g, v)
+-- ---- the next label of a chain
 
-  -- the same from a place up to another
-  pub place-passed : (i j : ℕ) → n ≤ length xs → n ≤ length ks → i ≤ j → j ≤ n → OtherKeys ks (keyOf w) i j → i + from i ≡ j + from j
-  place-passed i j h k l g o =
-      let e : i + (j - i) ≡ j = omega (arith, l) in
-      let f = place-skip (j - i) i h k (omega (arith, e, g)) (subst (OtherKeys ks (keyOf w) i) (sym e) o) in
-      let v = subst (λ (x : ℕ). from i ≡ j - i + from x) e f in
-      omega (arith, v, l)
+module _ (ks : List ℕ) (c n : ℕ) where
+  pub onward-none : (named : ℕ) → named ≡ 0 → 0 ≡ onward ks c n named
+  unfolding onward
+  onward-none named e = rw e
+
+  pub onward-out : (named : ℕ) → n < named → 0 ≡ onward ks c n named
+  unfolding onward
+  onward-out zero h = refl
+  onward-out (suc j) h = rw (le-ltb j n (omega (arith, h)))
+
+  pub onward-other : (named : ℕ) → (getD ks (numbersFrom + (named - 1)) 0 ≡ c → ⊥) → 0 ≡ onward ks c n named
+  unfolding onward
+  onward-other zero h = refl
+  onward-other (suc j) h =
+      let q : suc j - 1 ≡ j = omega arith in
+      let d = subst (λ (i : ℕ). getD ks (numbersFrom + i) 0 ≡ c → ⊥) q h in
+      rw (ne-eqb (getD ks (numbersFrom + j) 0) c d, and-false (ltb j n))
+
+  pub onward-here : (named : ℕ) → named ≤ n → getD ks (numbersFrom + (named - 1)) 0 ≡ c → named ≡ onward ks c n named
+  unfolding onward
+  onward-here zero h e = refl
+  onward-here (suc j) h e =
+      let q : suc j - 1 ≡ j = omega arith in
+      let d = subst (λ (i : ℕ). getD ks (numbersFrom + i) 0 ≡ c) q e in
+      rw (lt-ltb j n (omega (arith, h)), eq-eqb (getD ks (numbersFrom + j) 0) c d)
+
+-- ---- the words held
+
+pub length-listed : (f : ℕ → List ℕ) (n : ℕ) → length (listed f n) ≡ n
+unfolding listed
+length-listed f zero = refl
+length-listed f (suc n) = length-append (listed f n) (f n ∷ []) ∙ add-one (length (listed f n)) ∙ ap suc (length-listed f n)
 
 pub length-words : (s xs ls : List ℕ) (n : ℕ) → n ≤ length xs → n ≤ length ls → length (words s xs ls n) ≡ n
 unfolding words
-length-words s xs ls zero h k = refl
-length-words s [] ls (suc n) h k = absurd (omega arith)
-length-words s (a ∷ xs) [] (suc n) h k = absurd (omega arith)
-length-words s (a ∷ xs) (l ∷ ls) (suc n) h k = ap suc (length-words s xs ls n (omega arith) (omega arith))
+length-words s xs ls n h k = length-listed (heldAt s xs ls n) n
 
-snoc : (s xs ls : List ℕ) (n a l : ℕ) → n < length xs → n < length ls
-    → words s (set xs n a) (set ls n l) (suc n) ≡ words s xs ls n ++ (wordBy s a l ∷ [])
-unfolding words
-snoc s [] ls n a l h k = absurd (omega arith)
-snoc s (x ∷ xs) [] n a l h k = absurd (omega arith)
-snoc s (x ∷ xs) (y ∷ ls) zero a l h k = refl
-snoc s (x ∷ xs) (y ∷ ls) (suc n) a l h k = ap (λ (r : List (List ℕ)). wordBy s x y ∷ r) (snoc s xs ls n a l (omega arith) (omega arith))
-
--- one label more
-pub words-snoc : (s xs ls : List ℕ) (n a l : ℕ) → n < length xs → n < length ls
-    → words s (set xs n a) (set ls n l) (n + 1) ≡ words s xs ls n ++ (wordBy s a l ∷ [])
-words-snoc s xs ls n a l h k = rw (add-one n) (snoc s xs ls n a l h k)
+-- ---- values
 
 replicate-snoc : (n v : ℕ) → replicate (suc n) v ≡ replicate n v ++ (v ∷ [])
 replicate-snoc zero v = refl

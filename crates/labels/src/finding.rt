@@ -1,19 +1,17 @@
-// A name among the labels (specs/Inner/Labels.antt).
+// A name among the labels (specs/Inner/Labels.antt): only those on the name's chain are looked at, and of these a byte is read only where
+// length and first letter are the name's.
 ghost use mathlib.Core.Path.{_≡_};
 ghost use Prim.Native.Nat.{_+_, _-_, _≤_, _<_};
 ghost use lib.ListN.{length, getD};
 ghost use Rattle.names.specs.Names.{same};
-ghost use Rattle.labels.specs.Inner.Labels.{window, labelsBefore, words, keyOf, OtherKeys, farthest, InCell};
-
-// The byte at a place, 0 past the end.
-fn byte(s: &[u8], i: usize) -> u8
-    ensures { λ r. ⌜ r ≡ getD (now (s .entry)) i 0 ⌝ }
-{
-    if i < s.len() {
-        return s[i];
-    }
-    0
-}
+ghost use Rattle.labels.specs.Inner.Labels.{window, keyOf, wordBy, labelsBefore, words, farthest, InCell};
+use super::chains::LASTS_FROM;
+use super::chains::LINKS_FROM;
+use super::chains::byte;
+use super::chains::cell;
+use super::chains::chain_of;
+use super::chains::key;
+use super::chains::onward;
 
 // Whether two names of one length that begin alike are the same: n bytes of s at a, and of t at b.
 fn same_rest(s: &[u8], a: usize, t: &[u8], b: usize, n: usize) -> bool
@@ -32,31 +30,33 @@ fn same_rest(s: &[u8], a: usize, t: &[u8], b: usize, n: usize) -> bool
     true
 }
 
-// A name's length and first letter.
-pub fn key(s: &[u8], a: usize, n: u16) -> usize
-    ensures { λ r. ⌜ r ≡ keyOf (window (now (s .entry)) a n) ⌝ }
-{
-    if n == 0 {
-        return 0;
-    }
-    (n as usize - 1) * 256 + byte(s, a) as usize + 1
-}
-
-// The first label from a place on that has the key; how many there are, if none has.
-fn of_key(keys: &[u16], from: usize, count: usize, wanted: usize) -> usize
-    requires { ⌜ (from ≤ count) × (count ≤ length (now keys)) ⌝ }
+// Whether the j-th label is the name of the line that has a key.
+fn is_named(
+    s: &[u8],
+    starts: &[u16],
+    keys: &[u16],
+    j: usize,
+    line: &[u8],
+    start: usize,
+    size: usize,
+    wanted: usize,
+) -> bool
+    requires { ⌜
+        (start < farthest)
+        × InCell size
+        × (j < length (now starts))
+        × (j < length (now keys))
+        × (wanted ≡ keyOf (window (now line) start size))
+        ⌝ }
     ensures { λ r. ⌜
-        (from ≤ r) × (r ≤ count) × OtherKeys (now (keys .entry)) wanted from r × (r < count → getD (now (keys .entry)) r 0 ≡ wanted)
+        r ≡ same (wordBy (now (s .entry)) (getD (now (starts .entry)) j 0) (getD (now (keys .entry)) j 0)) (window (now (line .entry)) start size)
         ⌝ }
 {
-    let mut i = from;
-    while i < count {
-        if keys[i] as usize == wanted {
-            return i;
-        }
-        i += 1;
+    if keys[j] as usize != wanted {
+        return false;
     }
-    i
+    let a = starts[j] as usize;
+    same_rest(s, a, line, start, size)
 }
 
 // The place of a name of the line among the labels of the source; how many there are, if it is none of them.
@@ -75,13 +75,16 @@ pub fn find(
         ⌝ }
 {
     let wanted = key(line, start, size as u16);
-    let mut i = of_key(keys, 0, count, wanted);
-    while i < count {
-        let a = starts[i] as usize;
-        if same_rest(s, a, line, start, size) {
-            return i;
+    let chain = chain_of(line, start, size, wanted);
+    let mut found = count;
+    // the last label of the chain first: the first of like ones is the last that is met
+    let mut named = onward(keys, chain, count, cell(keys, LASTS_FROM + chain));
+    while 0 < named {
+        let j = named - 1;
+        if is_named(s, starts, keys, j, line, start, size, wanted) {
+            found = j;
         }
-        i = of_key(keys, i + 1, count, wanted);
+        named = onward(keys, chain, j, cell(keys, LINKS_FROM + j));
     }
-    i
+    found
 }

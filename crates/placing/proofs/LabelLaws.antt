@@ -5,7 +5,7 @@ use mathlib.Core.List.{List, [], _∷_, _++_, map}
 use mathlib.Core.Path.{_≡_, refl, sym, ap, ap₂, _∙_}
 use native.Mathlib.Omega.{arith}
 use lib.Dec.{ltb, leb}
-use lib.ListN.{length, take, drop, set, take-append-drop}
+use lib.ListN.{length, take, drop, take-append-drop}
 use lib.Seq.{take-append-le, drop-append-le, length-take-le, length-slice}
 use borrow.Author.Tests.{lt-ltb, le-ltb, ltb-true, ltb-false}
 use Rattle.codes.specs.Limits.{mostLabels, longestLabel}
@@ -18,8 +18,8 @@ use Rattle.sources.specs.Placing.{Bound, Place, names, labelled}
 use Rattle.names.specs.Names.{same}
 use Rattle.sources.specs.Order.{_on_}
 use Rattle.sources.specs.Inner.Assembling.{passes, refused, firstOf, among, nameVerdict, labelVerdict}
-use Rattle.labels.specs.Inner.Labels.{window, wordBy, words, labelsBefore, zipped}
-use Rattle.labels.proofs.Laws.{length-words, words-snoc, spelled-window}
+use Rattle.labels.specs.Inner.Labels.{window, words, labelsBefore, zipped, keyCells}
+use Rattle.labels.proofs.Laws.{length-words, spelled-window}
 use Rattle.placing.specs.Inner.State.{stateOf, placeIn, Fair}
 use Rattle.placing.specs.declared.Counters.{Counters}
 
@@ -68,7 +68,7 @@ names-all c ws vs ms l h =
 pub record Lent (starts keys line vs : List ℕ) (c : Counters) (n : Name) : Type 0 where
   pub fair : Fair c
   pub starts-long : length starts ≡ mostLabels
-  pub keys-long : length keys ≡ mostLabels
+  pub keys-long : length keys ≡ keyCells
   pub values-long : length vs ≡ mostLabels
   pub order : n .start ≤ n .end
   pub within : n .end ≤ length line
@@ -101,22 +101,18 @@ module _ (s starts keys line vs ms : List ℕ) (c : Counters) (n : Name) (k : �
       ∙ g in
       rw (a, w, held-long, e, f, q)
 
-  -- one label more
-  pub label-held : count < mostLabels → (a m : ℕ)
-      → window line (n .start) (n .end - n .start) ≡ wordBy s a m
-      → placeIn s (set starts count a) (set keys count m) vs ms (record { at = c .at; bound = c .bound; waiting = c .waiting + 1 })
+  -- one label more, in rows that `hold` has written
+  pub label-held : (starts′ keys′ : List ℕ) → words s starts′ keys′ (count + 1) ≡ held ++ (window line (n .start) (n .end - n .start) ∷ [])
+      → placeIn s starts′ keys′ vs ms (record { at = c .at; bound = c .bound; waiting = c .waiting + 1 })
       ≡ labelled (placeIn s starts keys vs ms c) line (Named n)
-  label-held h a m e =
+  label-held starts′ keys′ e =
       let l = held-long in
       let i : c .bound + (c .waiting + 1) ≡ count + 1 = omega arith in
-      let x = wordBy s a m in
-      let o : words s (set starts count a) (set keys count m) (c .bound + (c .waiting + 1)) ≡ held ++ (x ∷ []) =
-      ap (words s (set starts count a) (set keys count m)) i
-      ∙ words-snoc s starts keys count a m (omega (arith, lent .starts-long)) (omega (arith, lent .keys-long)) in
+      let x = window line (n .start) (n .end - n .start) in
       let t : take (c .bound) (held ++ (x ∷ [])) ≡ take (c .bound) held = take-append-le (c .bound) held (x ∷ []) (omega arith) in
       let d : drop (c .bound) (held ++ (x ∷ [])) ≡ drop (c .bound) held ++ (x ∷ []) = drop-append-le (c .bound) held (x ∷ []) (omega arith) in
-      let y : x ≡ spelled line n = sym (spelled-window line n (lent .order) (lent .within) ∙ e) in
-      ap (λ (ws : List (List ℕ)). state (take (c .bound) ws) (drop (c .bound) ws)) o
+      let y : x ≡ spelled line n = sym (spelled-window line n (lent .order) (lent .within)) in
+      ap (λ (ws : List (List ℕ)). state (take (c .bound) ws) (drop (c .bound) ws)) (ap (words s starts′ keys′) i ∙ e)
       ∙ ap₂ state t (d ∙ ap (λ (u : List ℕ). drop (c .bound) held ++ (u ∷ [])) y)
     where
       state : List (List ℕ) → List (List ℕ) → Place

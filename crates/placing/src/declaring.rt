@@ -4,14 +4,14 @@ ghost use mathlib.Core.List.{List};
 ghost use Prim.Native.Nat.{ℕ, _+_, _≤_};
 ghost use lib.ListN.{length};
 ghost use Rattle.codes.specs.Limits.{mostLabels, longestSource};
-ghost use Rattle.labels.specs.Inner.Labels.{Part};
+ghost use Rattle.labels.specs.Inner.Labels.{Part, keyCells};
 ghost use Rattle.placing.specs.Inner.State.{Fair, FairDid, TellsLabel, placeIn};
 use super::Counters;
 use super::Did;
 use codes::limits::LONGEST_LABEL;
 use codes::limits::MOST_LABELS;
 use labels::finding::find;
-use labels::finding::key;
+use labels::holding::hold;
 use values::Name;
 
 pub(crate) fn declare(
@@ -26,7 +26,7 @@ pub(crate) fn declare(
     requires { ⌜
         Fair c
         × (length (now starts) ≡ mostLabels)
-        × (length (now keys) ≡ mostLabels)
+        × (length (now keys) ≡ keyCells)
         × (n .start ≤ n .end)
         × (n .end ≤ length (now line))
         × (from + n .end ≤ longestSource)
@@ -54,8 +54,15 @@ pub(crate) fn declare(
     if find(s, starts, keys, count, line, start, size) < count {
         return Did::No(9);
     }
-    starts[count] = (from + start) as u16;
-    keys[count] = key(line, start, size as u16) as u16;
+    hold(
+        starts,
+        keys,
+        count,
+        (from + start) as u16,
+        line,
+        start,
+        size,
+    );
     Did::Go(Counters {
         at: at,
         bound: bound,

@@ -13,7 +13,7 @@ use Rattle.sources.specs.Order.{_on_}
 use Rattle.sources.specs.Inner.Assembling.{Verdict, passes, refused, firstOf, andThen, Work, endVerdict}
 use Rattle.sources.specs.declared.Gives.the-variants.{Start}
 use Rattle.sources.specs.declared.Line.{Line}
-use Rattle.labels.specs.Inner.Labels.{words, zipped}
+use Rattle.labels.specs.Inner.Labels.{words, zipped, keyCells}
 use Rattle.labels.proofs.Laws.{length-words}
 use Rattle.placing.specs.Inner.State.{stateOf, Fair, BindsFine}
 use Rattle.placing.specs.declared.Counters.{Counters}
@@ -34,7 +34,7 @@ refused-early v w n of e q h = ap (λ (x : Verdict). andThen x e) (subst (Says v
 
 module _ (s starts keys vs ms memory row aways : List ℕ) (v : Verdict) (w : Work) (n : ℕ) {r : Lines} {c : Counters} {named : ℕ} {l : Line}
     (q : r ≡ L.Passes c named l) (h : Says v w n (workIn s starts keys vs ms memory row aways) r) (ls : length starts ≡ mostLabels)
-    (ll : length keys ≡ mostLabels) where
+    (ll : length keys ≡ keyCells) where
   told : Says v w n (workIn s starts keys vs ms memory row aways) (L.Passes c named l)
   told = subst (Says v w n (workIn s starts keys vs ms memory row aways)) q h
 

@@ -20,7 +20,7 @@ use Rattle.sources.specs.Inner.Assembling.{Verdict, passes, refused, firstOf, a
 use Rattle.sources.specs.Inner.Assembling.{pastEnd, actVerdict, lineVerdict, walkLines, rawRead, Work, startWork, worked, workAfter}
 use Rattle.sources.specs.declared.Act.{Act}
 use Rattle.sources.proofs.Loop.{lineAt, linesFrom, goesOn, lines-over, lines-on}
-use Rattle.labels.specs.Inner.Labels.{words, zipped, Part}
+use Rattle.labels.specs.Inner.Labels.{listed, words, zipped, Part, keyCells}
 use Rattle.labels.proofs.Laws.{window-part}
 use Rattle.uses.specs.Inner.Held.{usesHeld, mostUses}
 use Rattle.placing.specs.Inner.State.{placeIn, Fair, FairDid, Tells}
@@ -150,7 +150,7 @@ module _ (M : ℕ) (s : List ℕ) (from k : ℕ) (w : Work) where
 pub record Left (M : ℕ) (s starts keys values marks cells row aways : List ℕ) (long few far : ℕ) (c : Counters) (from number uses : ℕ) : Type 0 where
   pub fair : Fair c
   pub starts-long : length starts ≡ mostLabels
-  pub keys-long : length keys ≡ mostLabels
+  pub keys-long : length keys ≡ keyCells
   pub values-long : length values ≡ mostLabels
   pub marks-long : length marks ≡ M
   pub cells-long : length cells ≡ long
@@ -165,11 +165,11 @@ pub record Left (M : ℕ) (s starts keys values marks cells row aways : List ℕ
 start-work : (s starts keys values marks cells row aways : List ℕ) → marks ≡ replicate (length marks) 0 → cells ≡ replicate (length marks) 0
     → startWork (length marks)
     ≡ workIn s starts keys values marks cells row aways (record { at = record { 0 = 0 }; bound = 0; waiting = 0 }) 0
-unfolding startWork start words zipped usesHeld
+unfolding startWork start words listed zipped usesHeld
 start-work s starts keys values marks cells row aways e f =
     of-parts (ap (λ (m : List ℕ). record { at = 0; bound = []; waiting = []; marks = m }) (sym e)) (sym f) refl
 
-pub left-at-start : (s starts keys values marks cells row aways : List ℕ) → length starts ≡ mostLabels → length keys ≡ mostLabels → length values ≡ mostLabels
+pub left-at-start : (s starts keys values marks cells row aways : List ℕ) → length starts ≡ mostLabels → length keys ≡ keyCells → length values ≡ mostLabels
     → marks ≡ replicate (length marks) 0
     → cells ≡ replicate (length marks) 0
     → Left (length marks) s starts keys values marks cells row aways (length cells) (length row) (length aways)

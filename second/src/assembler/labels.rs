@@ -2,7 +2,7 @@
 //! "All waiting labels are bound at once").
 
 use super::Refusal;
-use std::collections::BTreeMap;
+use std::collections::HashMap;
 
 /// "labels at most 512, a label at most 64 bytes".
 pub const LABELS_LIMIT: usize = 512;
@@ -11,7 +11,7 @@ pub const NAME_LIMIT: usize = 64;
 #[derive(Debug, Default)]
 pub struct Labels<'s> {
     /// Each label's place in the order of definition.
-    places: BTreeMap<&'s [u8], usize>,
+    places: HashMap<&'s [u8], usize>,
     /// The values of the labels bound so far. The rest wait: they are always the latest ones.
     values: Vec<u16>,
 }

@@ -45,7 +45,7 @@ const LAST: [&str; 18] = [
 ];
 
 /// Comments, as a person would write them.
-const COMMENTS: [&str; 12] = [
+pub const COMMENTS: [&str; 12] = [
     "siguiente",
     "no cabe",
     "guarda A",
@@ -64,7 +64,7 @@ const COMMENTS: [&str; 12] = [
 pub fn source(labels: usize) -> String {
     let mut random = Random::new(labels as u64);
     let names = names(&mut random, labels);
-    let mut pool = uses(&mut random, &names);
+    let mut pool = uses(&mut random, &names, USES / labels);
     let mut lines: Vec<String> = Vec::new();
     let mut written = 0;
     while lines.len() + 1 < LINES {
@@ -87,7 +87,7 @@ pub fn source(labels: usize) -> String {
 }
 
 /// Names in drawn order, the first ones with different first letters.
-fn names(random: &mut Random, count: usize) -> Vec<String> {
+pub fn names(random: &mut Random, count: usize) -> Vec<String> {
     let all =
         FIRST.iter().flat_map(|first| LAST.iter().map(move |last| format!("{}{}", first, last)));
     let mut left: Vec<String> = all.filter(|name| (4..=14).contains(&name.len())).collect();
@@ -108,17 +108,18 @@ fn names(random: &mut Random, count: usize) -> Vec<String> {
     names
 }
 
-/// The names to be used, each as often as any other, in drawn order; the first is the last here.
-fn uses(random: &mut Random, names: &[String]) -> Vec<String> {
-    let mut pool = Vec::new();
-    for _ in 0..USES / names.len() {
-        let mut round = names.to_vec();
-        while !round.is_empty() {
-            let at = random.below(round.len());
-            pool.push(round.swap_remove(at));
-        }
+/// The names to be used, each so many times, in drawn order; the first is the last here.
+pub fn uses(random: &mut Random, names: &[String], times: usize) -> Vec<String> {
+    (0..times).flat_map(|_| in_drawn_order(random, names.to_vec())).collect()
+}
+
+pub fn in_drawn_order(random: &mut Random, mut left: Vec<String>) -> Vec<String> {
+    let mut drawn = Vec::new();
+    while !left.is_empty() {
+        let at = random.below(left.len());
+        drawn.push(left.swap_remove(at));
     }
-    pool
+    drawn
 }
 
 /// A statement, or nothing but a comment or a label's line.
@@ -135,7 +136,7 @@ fn statement(random: &mut Random, pool: &mut Vec<String>, labelled: bool) -> Str
     }
 }
 
-fn data(random: &mut Random) -> String {
+pub fn data(random: &mut Random) -> String {
     let items: Vec<String> = (0..random.between(1, 4))
         .map(|_| match random.below(5) {
             0 => format!("\"{}\"", random.text(&["si", "no", "hola\\n", "Total: ", "fin.", "?"])),
@@ -148,7 +149,7 @@ fn data(random: &mut Random) -> String {
 }
 
 /// Every opcode, the common ones more often.
-fn instruction(random: &mut Random, pool: &mut Vec<String>) -> String {
+pub fn instruction(random: &mut Random, pool: &mut Vec<String>) -> String {
     let opcode = match random.below(20) {
         0..=3 => Opcode::Move,
         4..=8 => opcode::ALL[random.between(5, 9)],
@@ -179,16 +180,24 @@ fn operand(random: &mut Random, place: Place, pool: &mut Vec<String>) -> String 
         0 => random.below(300).to_string(),
         _ => pool.pop().unwrap_or_else(|| "0x7F".to_string()),
     };
-    match kind {
-        Operand::Absent => String::new(),
-        Operand::Immediate(_) => format!("#{}", value()),
-        Operand::Memory(_) => format!("/{}", value()),
-        Operand::Relative(_) => format!("${}", value()),
-        Operand::IndexedIx(_) => format!("#{}[.IX]", value()),
-        Operand::IndexedIy(_) => format!("#{}[.IY]", value()),
-        Operand::IndexedSp(_) => format!("#{}[.SP]", value()),
-        Operand::Register(_) => format!(".{}", random.text(&REGISTER_NAMES)),
-        Operand::Indirect(_) => format!("[.{}]", random.text(&REGISTER_NAMES)),
+    match (kind, around_value(&kind)) {
+        (_, Some((before, behind))) => format!("{}{}{}", before, value(), behind),
+        (Operand::Register(_), _) => format!(".{}", random.text(&REGISTER_NAMES)),
+        (Operand::Indirect(_), _) => format!("[.{}]", random.text(&REGISTER_NAMES)),
+        _ => String::new(),
+    }
+}
+
+/// What is written before and behind an operand's value; nothing where it has none.
+pub fn around_value(operand: &Operand) -> Option<(&'static str, &'static str)> {
+    match operand {
+        Operand::Immediate(_) => Some(("#", "")),
+        Operand::Memory(_) => Some(("/", "")),
+        Operand::Relative(_) => Some(("$", "")),
+        Operand::IndexedIx(_) => Some(("#", "[.IX]")),
+        Operand::IndexedIy(_) => Some(("#", "[.IY]")),
+        Operand::IndexedSp(_) => Some(("#", "[.SP]")),
+        Operand::Absent | Operand::Register(_) | Operand::Indirect(_) => None,
     }
 }
 

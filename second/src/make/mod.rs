@@ -12,6 +12,7 @@ pub mod large;
 pub mod late;
 pub mod lines;
 pub mod listings;
+pub mod lookup;
 pub mod mutate;
 pub mod nasty;
 pub mod ports;

@@ -113,7 +113,13 @@ fn what_is_not_understood_ends_with_code_2() {
         &["back", "x", "1"],
         &["nothing"],
         &["bench", "7"],
+        &["bench", "alike", "0"],
+        &["bench", "mixed", "513"],
+        &["bench", "mixed", "x"],
+        &["bench", "none", "20"],
         &["speed", "x"],
+        &["speed", "source"],
+        &["speed", "source", "/no/such/file"],
     ] {
         assert_eq!(second(arguments, "").status.code(), Some(2));
     }
@@ -136,4 +142,21 @@ fn one_work_is_done_by_its_name() {
     let line = printed(&["speed", "labels_20"], "");
     assert!(line.starts_with("labels_20: 100 times, code ") && line.lines().count() == 1);
     assert_eq!(printed(&["bench", "500"], "").lines().count(), 1_500);
+}
+
+/// The work's own files come to what the work by its name does.
+#[test]
+fn files_are_assembled_so_often_under_their_names() {
+    let [file, other] = ["labels_20", "labels_500"].map(|name| format!("../bench/{}.ens", name));
+    let named = ["labels_20", "labels_500"].map(|name| printed(&["speed", name], "")).concat();
+    assert_eq!(printed(&["speed", "source", &file, &other], ""), named);
+}
+
+#[test]
+fn a_look_up_source_is_written_the_same_each_time() {
+    for names in ["alike", "mixed"] {
+        let source = printed(&["bench", names, "512"], "");
+        assert_eq!(source.len(), 31_000);
+        assert_eq!(source, printed(&["bench", names, "512"], ""));
+    }
 }

@@ -1,8 +1,10 @@
 //! The work that is timed (docs/COMPARED.md, "Speed").
 
 use second::machine::Stop;
+use second::make::lookup::{self, Names};
 use second::speed::{Assembled, Done, SourceWork, Work, ROOM, SOURCES, WORKS};
 use second::text::lines;
+use std::collections::{BTreeMap, BTreeSet};
 
 #[test]
 fn no_program_ends() {
@@ -49,18 +51,73 @@ fn assembling_again_comes_to_the_same() {
         assert!(once.code > 3_000 && once.data > 500);
         assert_eq!(work.times, 100);
     }
-    let refused = SourceWork { source: "FOO", times: 3, ..SOURCES[0] }.perform();
+    let refused = SourceWork { source: b"FOO", times: 3, ..SOURCES[0] }.perform();
     assert_eq!(refused, Assembled { times: 0, code: 0, data: 0, checksum: 0 });
 }
 
 #[test]
 fn the_sources_are_as_large_as_they_should_be() {
     for (work, labels) in SOURCES.iter().zip([20, 500]) {
-        assert_eq!(work.source, second::make::bench::source(labels));
+        assert_eq!(work.source, second::make::bench::source(labels).as_bytes());
         assert!((30_000..=32_768).contains(&work.source.len()));
-        let all: Vec<&[u8]> = lines(work.source.as_bytes()).collect();
+        let all: Vec<&[u8]> = lines(work.source).collect();
         assert_eq!(all.len(), 1_500);
         let names = all.iter().filter_map(|line| second::text::read_line(line).label);
-        assert_eq!(names.collect::<std::collections::BTreeSet<_>>().len(), labels);
+        assert_eq!(names.collect::<BTreeSet<_>>().len(), labels);
+    }
+}
+
+/// Every number of labels that there can be, with names of either way.
+fn lookup_sources() -> impl Iterator<Item = (Names, usize, String)> {
+    let both = [Names::Alike, Names::Mixed];
+    let wanted = both.into_iter().flat_map(|names| (1..=512).map(move |labels| (names, labels)));
+    wanted.map(|(names, labels)| (names, labels, lookup::source(names, labels)))
+}
+
+#[test]
+fn a_look_up_source_has_one_length_and_is_accepted() {
+    for (names, labels, source) in lookup_sources() {
+        assert_eq!(source.len(), 31_000, "{:?} {}", names, labels);
+        let work = SourceWork { name: "", source: source.as_bytes(), times: 1 };
+        assert_eq!(work.perform().times, 1, "{:?} {}", names, labels);
+    }
+}
+
+/// How often each of a source's labels stands in an operand.
+fn uses(source: &str) -> BTreeMap<&str, usize> {
+    let text = |name| std::str::from_utf8(name).expect("text");
+    let labels = lines(source.as_bytes()).filter_map(|line| second::text::read_line(line).label);
+    let mut uses: BTreeMap<&str, usize> = labels.map(|name| (text(name), 0)).collect();
+    for line in source.lines() {
+        let statement = line.split(';').next().unwrap_or("");
+        let behind_label = statement.split_once(':').map_or(statement, |(_, behind)| behind);
+        for word in behind_label.split(|sign: char| !sign.is_ascii_alphanumeric() && sign != '_') {
+            if let Some(count) = uses.get_mut(word) {
+                *count += 1;
+            }
+        }
+    }
+    uses
+}
+
+#[test]
+fn a_look_up_source_uses_each_of_its_labels_three_times() {
+    for (names, labels, source) in lookup_sources() {
+        let uses = uses(&source);
+        assert_eq!(uses.len(), labels, "{:?} {}", names, labels);
+        assert!(uses.values().all(|count| *count == lookup::USES), "{:?} {}", names, labels);
+    }
+}
+
+#[test]
+fn alike_names_have_one_length_and_first_letter_and_mixed_ones_have_not() {
+    let shapes = |names, labels| {
+        let source = lookup::source(names, labels);
+        let shape = |name: &&str| (name.len(), name.as_bytes()[0]);
+        uses(&source).keys().map(shape).collect::<BTreeSet<_>>().len()
+    };
+    for labels in [20, 50, 100, 200, 500] {
+        assert_eq!(shapes(Names::Alike, labels), 1);
+        assert!(shapes(Names::Mixed, labels) >= 20);
     }
 }

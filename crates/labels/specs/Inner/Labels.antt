@@ -1,8 +1,9 @@
 -- The labels that are held, as words, and a word's place among them.
-use Prim.Native.Nat.{ℕ, zero, suc, _+_, _*_, _/_, _%_, _≤_, _<_}
-use mathlib.Core.Bool.{cond}
-use mathlib.Core.List.{List, [], _∷_}
+use Prim.Native.Nat.{ℕ, zero, suc, _+_, _*_, _-_, _/_, _%_, _≤_, _<_}
+use mathlib.Core.Bool.{Bool, true, false, cond, _&&_, _||_}
+use mathlib.Core.List.{List, [], _∷_, _++_}
 use mathlib.Core.Path.{_≡_}
+use lib.Dec.{ltb, eqb}
 use lib.ListN.{length, getD}
 use Rattle.codes.specs.Limits.{mostLabels}
 use Rattle.names.specs.Names.{same}
@@ -29,12 +30,70 @@ unfoldable pub wordBy : List ℕ → ℕ → ℕ → List ℕ
 wordBy s a zero = []
 wordBy s a (suc k) = k % 256 ∷ window s (a + 1) (k / 256)
 
--- n words, by their places and keys
+-- ---- chains: the labels of like key and ending are reached without passing the others
+
+-- a word's byte so many from its end; 0 if it is shorter
+abbrev pub fromEnd : List ℕ → ℕ → ℕ
+fromEnd w i = cond (ltb (length w) i) 0 (getD w (length w - i) 0)
+
+abbrev pub chains : ℕ
+chains = 1024
+
+-- the chain that a word is on: any number of the word would do; this one parts names that differ in their first or last bytes
+unfoldable pub chainOf : List ℕ → ℕ
+chainOf w = (keyOf w + fromEnd w 1 + 10 * fromEnd w 2 + 100 * fromEnd w 3) % chains
+
+-- behind the keys stand, for each label, its chain and the label before it there, then, for each chain, its last label. A label is named
+-- by its number and 1; 0 names none.
+abbrev pub numbersFrom : ℕ
+numbersFrom = mostLabels
+
+abbrev pub linksFrom : ℕ
+linksFrom = 2 * mostLabels
+
+abbrev pub lastsFrom : ℕ
+lastsFrom = 3 * mostLabels
+
+abbrev pub keyCells : ℕ
+keyCells = 3 * mostLabels + chains
+
+-- the label that is named, if it is one of the first n and on this chain; else none
+unfoldable pub onward : List ℕ → ℕ → ℕ → ℕ → ℕ
+onward ks c n zero = 0
+onward ks c n (suc j) = cond (ltb j n && eqb (getD ks (numbersFrom + j) 0) c) (suc j) 0
+
+-- whether a chain, from the label that is named on, leads to the j-th; it goes down, so that as many steps as there are labels will do
+unfoldable pub leads : List ℕ → ℕ → ℕ → ℕ → ℕ → Bool
+leads ks c j zero named = false
+leads ks c j (suc steps) zero = false
+leads ks c j (suc steps) (suc i) = eqb i j || leads ks c j steps (onward ks c i (getD ks (linksFrom + i) 0))
+
+-- the same from the last of n labels
+abbrev pub leadsTo : List ℕ → ℕ → ℕ → ℕ → Bool
+leadsTo ks n c j = leads ks c j n (onward ks c n (getD ks (lastsFrom + c) 0))
+
+-- no word of a source: 256 is no byte
+abbrev pub noWord : List ℕ
+noWord = 256 ∷ []
+
+-- the j-th of n words. One that its chain does not lead to stands for none: so a look-up down one chain is right whatever a row holds, and
+-- nobody has to say that chains are in order.
+abbrev pub heldAt : List ℕ → List ℕ → List ℕ → ℕ → ℕ → List ℕ
+heldAt s xs ks n j =
+    cond (leadsTo ks n (chainOf (wordBy s (getD xs j 0) (getD ks j 0))) j) (wordBy s (getD xs j 0) (getD ks j 0)) noWord
+
+-- the first n values of a function
+unfoldable pub listed : (ℕ → List ℕ) → ℕ → List (List ℕ)
+listed f zero = []
+listed f (suc n) = listed f n ++ (f n ∷ [])
+
+-- n words, by their places and keys, where their chains lead to them
 unfoldable pub words : List ℕ → List ℕ → List ℕ → ℕ → List (List ℕ)
-words s xs ks zero = []
-words s [] ks (suc n) = []
-words s (a ∷ xs) [] (suc n) = []
-words s (a ∷ xs) (k ∷ ks) (suc n) = wordBy s a k ∷ words s xs ks n
+words s xs ks n = listed (heldAt s xs ks n) n
+
+-- the rows hold one word more, which stands at a place of whatever source it is
+abbrev pub TakesWord : List ℕ → ℕ → ℕ → ℕ → List ℕ → List ℕ → List ℕ → List ℕ → Type 0
+TakesWord w place size n xs ks xs′ ks′ = (s : List ℕ) → w ≡ window s place size → words s xs′ ks′ (n + 1) ≡ words s xs ks n ++ (w ∷ [])
 
 -- how many labels come before the word's; all of them if it is none of them
 unfoldable pub labelsBefore : List ℕ → List (List ℕ) → ℕ
@@ -56,7 +115,7 @@ labelsIn s starts keys values n = zipped (words s starts keys n) values
 -- they have room for every label: "labels at most 512"
 pub record Rows (starts keys values : List ℕ) : Type 0 where
   pub starts-long : length starts ≡ mostLabels
-  pub keys-long : length keys ≡ mostLabels
+  pub keys-long : length keys ≡ keyCells
   pub values-long : length values ≡ mostLabels
 
 -- they reach as far as n labels
@@ -72,7 +131,3 @@ farthest = 100000
 -- a number that a cell of a row can hold
 abbrev pub InCell : ℕ → Type 0
 InCell n = n < 65536
-
--- none of the labels from a place up to another has this key
-abbrev pub OtherKeys : List ℕ → ℕ → ℕ → ℕ → Type 0
-OtherKeys ks key from to = (j : ℕ) → from ≤ j → j < to → getD ks j 0 ≡ key → ⊥

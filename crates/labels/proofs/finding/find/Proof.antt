@@ -1,92 +1,121 @@
 use borrow.Author.Needs.{needs}
-use Prim.Native.Nat.{ℕ, _+_, _-_, _≤_, _<_}
-use mathlib.Core.Path.{_≡_, sym, subst, _∙_}
+use Prim.Native.Nat.{_+_, _-_}
+use mathlib.Core.Path.{_≡_, sym, ap, _∙_}
 use native.Mathlib.Omega.{arith}
-use native.Mathlib.Nat.{sub-zero}
-use lib.ListN.{drop, getD}
-use Rattle.labels.specs.Inner.Labels.{window, words, labelsBefore, OtherKeys}
-use Rattle.labels.proofs.Laws.{key-same, place-here, place-more, place-end, place-passed}
+use lib.ListN.{getD}
+use mathlib.Core.Logic.{⊎-elim}
+use Rattle.labels.specs.Inner.Labels.{window, onward, lastsFrom, linksFrom, InCell}
+use Rattle.labels.proofs.Laws.{chain-small}
+use Rattle.labels.proofs.Walks.{Walked, onward-within, onward-below, no-word, walk-starts, walk-on, walk-ends}
 use Rattle.labels.proofs.finding.find.Statement.{statement}
 use Rattle.labels.proofs.finding.find.Tie as tie
 use Rattle.labels.proofs.finding.find.Reads as reads
 use Rattle.labels.proofs.finding.find.Lts as lts
-use Rattle.labels.proofs.finding.key.Reads as key-reads
-use Rattle.labels.proofs.finding.of_key.Reads as of-key-reads
-use Rattle.labels.proofs.finding.same_rest.Reads as same-rest-reads
+use Rattle.labels.proofs.chains.cell.Reads as cell-reads
+use Rattle.labels.proofs.chains.chain_of.Reads as chain-of-reads
+use Rattle.labels.proofs.chains.key.Reads as key-reads
+use Rattle.labels.proofs.chains.onward.Reads as onward-reads
+use Rattle.labels.proofs.finding.is_named.Reads as is-named-reads
 
 abbrev Inv-loop : tie.InvT-loop
-Inv-loop s starts keys count line start size wanted i₀ i = (i ≤ count) × (i < count → getD keys i 0 ≡ wanted) × (labelsBefore (window line start size) (words s starts keys count) ≡ i + labelsBefore (window line start size) (words s (drop i starts) (drop i keys) (count - i)))
+Inv-loop s starts keys count line start size wanted chain found₀ named₀ found named =
+    Walked s starts keys (window line start size) count chain found named × InCell named
 
 abbrev μ-loop : tie.MeasureT-loop
-μ-loop s starts keys count line start size wanted i₀ i = count - i
+μ-loop s starts keys count line start size wanted chain found₀ named₀ found named = named
 
--- src/finding.rt:74:9
 cast-key : tie.Need-cast-key Inv-loop μ-loop
 cast-key c = search needs
 
 key-requires : tie.Need-key-requires Inv-loop μ-loop
 key-requires c κs = search needs
 
--- src/finding.rt:75:9
-of-key-requires : tie.Need-of-key-requires Inv-loop μ-loop
-of-key-requires c κs = search needs
+chain-of-requires : tie.Need-chain-of-requires Inv-loop μ-loop
+chain-of-requires c κs = search needs
 
--- src/finding.rt:76:5
+add-cell : tie.Need-add-cell Inv-loop μ-loop
+add-cell c =
+    let a = c .before .before .before .before .before .before .args in
+    let small = chain-small (window (a .line .now) (a .start) (a .size)) in
+    omega (arith, c .chain-of .ensures, small)
+
+cell-requires : tie.Need-cell-requires Inv-loop μ-loop
+cell-requires c κs = search needs
+
+onward-requires : tie.Need-onward-requires Inv-loop μ-loop
+onward-requires c κs = omega (arith, c .cell .ensures, c .before .before .before .before .shared-slice-known3 .given (lastsFrom + c .before .chain-of .result))
+
 loop-holds : tie.Need-loop-holds Inv-loop μ-loop
 loop-holds c =
-    let w = window (c .before .before .before .before .before .before .args .line .now) (c .before .before .before .before .before .before .args .start) (c .before .before .before .before .before .before .args .size) in
-    let z : labelsBefore w (words (c .before .before .before .before .before .before .args .s .now) (c .before .before .before .before .before .before .args .starts .now) (c .before .before .before .before .before .before .args .keys .now) (c .before .before .before .before .before .before .args .count)) ≡ labelsBefore w (words (c .before .before .before .before .before .before .args .s .now) (drop 0 (c .before .before .before .before .before .before .args .starts .now)) (drop 0 (c .before .before .before .before .before .before .args .keys .now)) ((c .before .before .before .before .before .before .args .count) - 0)) = rw (sub-zero (c .before .before .before .before .before .before .args .count)) in
-    let p = place-passed (c .before .before .before .before .before .before .args .s .now) (c .before .before .before .before .before .before .args .starts .now) (c .before .before .before .before .before .before .args .keys .now) w (c .before .before .before .before .before .before .args .count) 0 (c .of-key .result) (c .before .before .before .before .before .before .pre .2) (c .before .before .before .before .before .before .pre .3) (c .of-key .ensures .0) (c .of-key .ensures .1) (subst (λ (k : ℕ). OtherKeys (c .before .before .before .before .before .before .args .keys .now) k 0 (c .of-key .result)) (c .before .key .ensures) (c .of-key .ensures .2)) in
-    ((c .of-key .ensures .1), (c .of-key .ensures .3), omega (arith, z, p))
+    let a = c .before .before .before .before .before .before .before .before .args in
+    let chain = c .before .before .chain-of .result in
+    let w = window (a .line .now) (a .start) (a .size) in
+    let none = no-word (a .line .now) (a .start) (a .size) (omega (arith, c .before .before .before .before .shared-slice-known4 .given (a .start))) in
+    let last : c .onward .result ≡ onward (a .keys .now) chain (a .count) (getD (a .keys .now) (lastsFrom + chain) 0) =
+    c .onward .ensures ∙ ap (onward (a .keys .now) chain (a .count)) (c .before .cell .ensures) in
+    let small = onward-below (a .keys .now) chain (a .count) (c .before .cell .result) in
+    let cell = c .before .before .before .before .before .shared-slice-known3 .given (lastsFrom + chain) in (
+      walk-starts (a .s .now) (a .starts .now) (a .keys .now) w (a .count) chain (c .before .before .chain-of .ensures) none (c .onward .result) last,
+      omega (arith, small, c .onward .ensures, c .before .cell .ensures, cell),
+    )
 
--- src/finding.rt:77:17
-mul-a : tie.Need-mul-a Inv-loop μ-loop
-mul-a c = search needs
+sub-j : tie.Need-sub-j Inv-loop μ-loop
+sub-j c = search needs
 
--- src/finding.rt:77:17
-shared-slice-read-a : tie.Need-shared-slice-read-a Inv-loop μ-loop
-shared-slice-read-a c = search needs
+is-named-requires : tie.Need-is-named-requires Inv-loop μ-loop
+is-named-requires c κs =
+    let pre = c .before .before .before .before .before .before .before .before .before .before .pre in
+    let p = c .before in
+    let h = c .loop-test .taken in
+    let j = p .loop .inv .0 .below in
+    let k = p .loop .inv .0 .within in
+    (pre .0, pre .1, omega (arith, h, j, k, pre .2), omega (arith, h, j, k, pre .3), p .before .before .before .before .key .ensures)
 
--- src/finding.rt:77:17
-cast-a : tie.Need-cast-a Inv-loop μ-loop
-cast-a c = omega (arith, (c .shared-slice-known5 .given) (c .before .before .loop .i))
+add-cell-2 : tie.Need-add-cell-2 Inv-loop μ-loop
+add-cell-2 c = omega (arith, c .before .before .before .loop .inv .1)
 
--- src/finding.rt:78:12
-same-rest-requires : tie.Need-same-rest-requires Inv-loop μ-loop
-same-rest-requires c κs = omega (arith, (c .shared-slice-known5 .given) (c .before .before .loop .i))
+cell-requires-2 : tie.Need-cell-requires-2 Inv-loop μ-loop
+cell-requires-2 c κs = search needs
 
--- src/finding.rt:79:13
-returns : tie.Need-returns Inv-loop μ-loop
-returns c =
-    let w = window (c .before .before .before .before .before .before .before .before .before .before .before .args .line .now) (c .before .before .before .before .before .before .before .before .before .before .before .args .start) (c .before .before .before .before .before .before .before .before .before .before .before .args .size) in
-    let q = key-same (c .before .before .before .before .before .before .before .before .before .before .before .args .s .now) (c .before .before .before .before .before .before .before .before .before .before .before .args .line .now) (getD (c .before .before .before .before .before .before .before .before .before .before .before .args .starts .now) (c .before .before .before .before .loop .i) 0) (c .before .before .before .before .before .before .before .before .before .before .before .args .start) (c .before .before .before .before .before .before .before .before .before .before .before .args .size) (getD (c .before .before .before .before .before .before .before .before .before .before .before .args .keys .now) (c .before .before .before .before .loop .i) 0) ((c .before .before .before .before .loop .inv .1) (c .before .before .before .loop-test .taken) ∙ (c .before .before .before .before .before .before .key .ensures)) (omega (arith, (c .before .before .before .before .before .before .before .shared-slice-known4 .given) (c .before .before .before .before .before .before .before .before .before .before .before .args .start))) in
-    let h = place-here (c .before .before .before .before .before .before .before .before .before .before .before .args .s .now) (c .before .before .before .before .before .before .before .before .before .before .before .args .starts .now) (c .before .before .before .before .before .before .before .before .before .before .before .args .keys .now) w (c .before .before .before .before .before .before .before .before .before .before .before .args .count) (c .before .before .before .before .loop .i) (omega arith) (omega arith) (omega arith) (q ∙ sym (c .before .same-rest .ensures) ∙ (c .if1 .taken)) in
-    omega (arith, (c .before .before .before .before .loop .inv .2), h)
+onward-requires-2 : tie.Need-onward-requires-2 Inv-loop μ-loop
+onward-requires-2 c κs =
+    let p = c .before .before .before .before in
+    let links = p .before .before .before .before .before .before .shared-slice-known3 .given (linksFrom + (p .loop .named - 1)) in
+    omega (arith, c .cell2 .ensures, links)
 
--- src/finding.rt:81:26
-add-of-key : tie.Need-add-of-key Inv-loop μ-loop
-add-of-key c = search needs
-
--- src/finding.rt:81:9
-of-key-requires-2 : tie.Need-of-key-requires-2 Inv-loop μ-loop
-of-key-requires-2 c κs = search needs
-
--- src/finding.rt:76:5
 loop-less : tie.Need-loop-less Inv-loop μ-loop
-loop-less c = omega (arith, (c .of-key2 .ensures .0), (c .of-key2 .ensures .1), (c .before .before .before .before .loop-test .taken))
+loop-less c =
+    let p = c .before .before .before .before .before in
+    let a = p .before .before .before .before .before .before .before .before .before .args in
+    let h = onward-within (a .keys .now) (p .before .before .before .chain-of .result) (p .loop .named - 1) (c .before .cell2 .result) in
+    omega (arith, h, c .onward2 .ensures, c .before .before .before .before .loop-test .taken)
 
--- src/finding.rt:76:5
 loop-again : tie.Need-loop-again Inv-loop μ-loop
 loop-again c =
-    let w = window (c .before .before .before .before .before .before .before .before .before .before .before .before .args .line .now) (c .before .before .before .before .before .before .before .before .before .before .before .before .args .start) (c .before .before .before .before .before .before .before .before .before .before .before .before .args .size) in
-    let q = key-same (c .before .before .before .before .before .before .before .before .before .before .before .before .args .s .now) (c .before .before .before .before .before .before .before .before .before .before .before .before .args .line .now) (getD (c .before .before .before .before .before .before .before .before .before .before .before .before .args .starts .now) (c .before .before .before .before .before .loop .i) 0) (c .before .before .before .before .before .before .before .before .before .before .before .before .args .start) (c .before .before .before .before .before .before .before .before .before .before .before .before .args .size) (getD (c .before .before .before .before .before .before .before .before .before .before .before .before .args .keys .now) (c .before .before .before .before .before .loop .i) 0) ((c .before .before .before .before .before .loop .inv .1) (c .before .before .before .before .loop-test .taken) ∙ (c .before .before .before .before .before .before .before .key .ensures)) (omega (arith, (c .before .before .before .before .before .before .before .before .shared-slice-known4 .given) (c .before .before .before .before .before .before .before .before .before .before .before .before .args .start))) in
-    let m = place-more (c .before .before .before .before .before .before .before .before .before .before .before .before .args .s .now) (c .before .before .before .before .before .before .before .before .before .before .before .before .args .starts .now) (c .before .before .before .before .before .before .before .before .before .before .before .before .args .keys .now) w (c .before .before .before .before .before .before .before .before .before .before .before .before .args .count) (c .before .before .before .before .before .loop .i) (omega (arith, (c .before .before .before .before .loop-test .taken), (c .before .before .before .before .before .before .before .before .before .before .before .before .pre .2))) (omega (arith, (c .before .before .before .before .loop-test .taken), (c .before .before .before .before .before .before .before .before .before .before .before .before .pre .3))) (c .before .before .before .before .loop-test .taken) (q ∙ sym (c .before .before .same-rest .ensures) ∙ (c .before .if1 .left)) in
-    let p = place-passed (c .before .before .before .before .before .before .before .before .before .before .before .before .args .s .now) (c .before .before .before .before .before .before .before .before .before .before .before .before .args .starts .now) (c .before .before .before .before .before .before .before .before .before .before .before .before .args .keys .now) w (c .before .before .before .before .before .before .before .before .before .before .before .before .args .count) ((c .before .before .before .before .before .loop .i) + 1) (c .of-key2 .result) (c .before .before .before .before .before .before .before .before .before .before .before .before .pre .2) (c .before .before .before .before .before .before .before .before .before .before .before .before .pre .3) (c .of-key2 .ensures .0) (c .of-key2 .ensures .1) (subst (λ (k : ℕ). OtherKeys (c .before .before .before .before .before .before .before .before .before .before .before .before .args .keys .now) k ((c .before .before .before .before .before .loop .i) + 1) (c .of-key2 .result)) (c .before .before .before .before .before .before .before .key .ensures) (c .of-key2 .ensures .2)) in
-    ((c .of-key2 .ensures .1), (c .of-key2 .ensures .3), omega (arith, (c .before .before .before .before .before .loop .inv .2), m, p))
+    let p = c .before .before .before .before .before in
+    let a = p .before .before .before .before .before .before .before .before .before .args in
+    let i = p .loop .named - 1 in
+    let q = p .before .before .before .chain-of in
+    let first = p .before .before .before .before .before .shared-slice-known4 .given (a .start) in
+    let none = no-word (a .line .now) (a .start) (a .size) (omega (arith, first)) in
+    let next : c .onward2 .result ≡ onward (a .keys .now) (q .result) i (getD (a .keys .now) (linksFrom + i) 0) =
+    c .onward2 .ensures ∙ ap (onward (a .keys .now) (q .result) i) (c .before .cell2 .ensures) in
+    let h = onward-within (a .keys .now) (q .result) i (c .before .cell2 .result) in
+    let walk = walk-on (a .s .now) (a .starts .now) (a .keys .now) (window (a .line .now) (a .start) (a .size)) (a .count) (q .result)
+    (q .ensures) none (p .loop .found) (p .loop .named) (c .before .before .before .before .loop-test .taken) (p .loop .inv .0) (c .onward2 .result) next
+    (c .before .before .if1 .found) in
+    let named = sym (c .before .before .before .is-named .ensures) in (
+      ⊎-elim (λ b. walk .0 (named ∙ b .0 .taken) (b .1)) (λ b. walk .1 (named ∙ b .0 .left) (b .1)) (c .before .before .if1 .came),
+      omega (arith, h, c .onward2 .ensures, p .loop .inv .1),
+    )
 
--- src/finding.rt:62:1
-returns-2 : tie.Need-returns-2 Inv-loop μ-loop
-returns-2 c = omega (arith, (c .before .loop .inv .2), place-end (c .before .before .before .before .before .before .before .before .args .s .now) (c .before .before .before .before .before .before .before .before .args .starts .now) (c .before .before .before .before .before .before .before .before .args .keys .now) (window (c .before .before .before .before .before .before .before .before .args .line .now) (c .before .before .before .before .before .before .before .before .args .start) (c .before .before .before .before .before .before .before .before .args .size)) (c .before .before .before .before .before .before .before .before .args .count) (c .before .loop .i) (omega arith))
+returns : tie.Need-returns Inv-loop μ-loop
+returns c =
+    let p = c .before in
+    let a = p .before .before .before .before .before .before .before .before .before .args in
+    let w = window (a .line .now) (a .start) (a .size) in
+    let chain = p .before .before .before .chain-of .result in
+    walk-ends (a .s .now) (a .starts .now) (a .keys .now) w (a .count) chain (p .loop .found) (p .loop .named) (c .loop-test .left) (p .loop .inv .0)
 
 pub find-spec : {M : Type 1} → statement M
 find-spec =
@@ -96,15 +125,16 @@ find-spec =
     μ-loop
     cast-key
     key-requires
-    of-key-requires
+    chain-of-requires
+    add-cell
+    cell-requires
+    onward-requires
     loop-holds
-    mul-a
-    shared-slice-read-a
-    cast-a
-    same-rest-requires
-    returns
-    add-of-key
-    of-key-requires-2
+    sub-j
+    is-named-requires
+    add-cell-2
+    cell-requires-2
+    onward-requires-2
     loop-less
     loop-again
-    returns-2)
+    returns)

@@ -2,6 +2,7 @@ use borrow.Author.Needs.{needs}
 use Prim.Native.Nat.{_+_, _-_, _≤_}
 use mathlib.Core.Path.{_≡_, refl, sym, _∙_}
 use native.Mathlib.Omega.{arith}
+use lib.ListN.{getD}
 use Rattle.labels.specs.Inner.Labels.{window}
 use Rattle.names.specs.Names.{same}
 use Rattle.labels.proofs.Laws.{same-more, same-stop, same-end}
@@ -9,7 +10,7 @@ use Rattle.labels.proofs.finding.same_rest.Statement.{statement}
 use Rattle.labels.proofs.finding.same_rest.Tie as tie
 use Rattle.labels.proofs.finding.same_rest.Reads as reads
 use Rattle.labels.proofs.finding.same_rest.Lts as lts
-use Rattle.labels.proofs.finding.byte.Reads as byte-reads
+use Rattle.labels.proofs.chains.byte.Reads as byte-reads
 
 abbrev Inv-loop : tie.InvT-loop
 Inv-loop s a t b n i₀ i = (1 ≤ i) × (same (window s (a + 1) (n - 1)) (window t (b + 1) (n - 1)) ≡ same (window s (a + i) (n - i)) (window t (b + i) (n - i)))
@@ -39,7 +40,12 @@ byte-requires-2 c κs = search needs
 
 -- src/finding.rt:28:13
 returns : tie.Need-returns Inv-loop μ-loop
-returns c = sym ((c .before .before .before .before .loop .inv .1) ∙ same-stop (c .before .before .before .before .before .before .before .args .s .now) (c .before .before .before .before .before .before .before .args .t .now) (c .before .before .before .before .before .before .before .args .a) (c .before .before .before .before .before .before .before .args .b) (c .before .before .before .before .before .before .before .args .n) (c .before .before .before .before .loop .i) (omega arith) (λ e. (c .if1 .taken) ((c .before .before .byte .ensures) ∙ e ∙ sym (c .before .byte2 .ensures))))
+returns c =
+    let a = c .before .before .before .before .before .before .before .args in
+    let p = c .before .before .before .before .loop in
+    let other : getD (a .s .now) (a .a + p .i) 0 ≡ getD (a .t .now) (a .b + p .i) 0 → ⊥ =
+    λ e. c .if1 .taken (c .before .before .byte .ensures ∙ e ∙ sym (c .before .byte2 .ensures)) in
+    sym (p .inv .1 ∙ same-stop (a .s .now) (a .t .now) (a .a) (a .b) (a .n) (p .i) (omega arith) other)
 
 -- src/finding.rt:30:9
 add-i : tie.Need-add-i Inv-loop μ-loop
@@ -51,11 +57,18 @@ loop-less c = search needs
 
 -- src/finding.rt:24:5
 loop-again : tie.Need-loop-again Inv-loop μ-loop
-loop-again c = (omega arith, (c .before .before .before .before .loop .inv .1) ∙ same-more (c .before .before .before .before .before .before .before .args .s .now) (c .before .before .before .before .before .before .before .args .t .now) (c .before .before .before .before .before .before .before .args .a) (c .before .before .before .before .before .before .before .args .b) (c .before .before .before .before .before .before .before .args .n) (c .before .before .before .before .loop .i) (omega arith) (sym (c .before .before .byte .ensures) ∙ (c .if1 .left) ∙ (c .before .byte2 .ensures)))
+loop-again c =
+    let a = c .before .before .before .before .before .before .before .args in
+    let p = c .before .before .before .before .loop in
+    let like = sym (c .before .before .byte .ensures) ∙ c .if1 .left ∙ c .before .byte2 .ensures in
+    (omega arith, p .inv .1 ∙ same-more (a .s .now) (a .t .now) (a .a) (a .b) (a .n) (p .i) (omega arith) like)
 
 -- src/finding.rt:19:1
 returns-2 : tie.Need-returns-2 Inv-loop μ-loop
-returns-2 c = sym ((c .before .loop .inv .1) ∙ same-end (c .before .before .before .before .args .s .now) (c .before .before .before .before .args .t .now) (c .before .before .before .before .args .a) (c .before .before .before .before .args .b) (c .before .before .before .before .args .n) (c .before .loop .i) (omega arith))
+returns-2 c =
+    let a = c .before .before .before .before .args in
+    let p = c .before .loop in
+    sym (p .inv .1 ∙ same-end (a .s .now) (a .t .now) (a .a) (a .b) (a .n) (p .i) (omega arith))
 
 pub same-rest-spec : {M : Type 1} → statement M
 same-rest-spec =

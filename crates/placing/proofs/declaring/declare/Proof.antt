@@ -1,12 +1,10 @@
 -- Each refusal is the first test that fails; behind the last test, the rows hold one label more.
 use borrow.Author.Needs.{needs}
-use Prim.Native.Nat.{_+_, _-_, _<_}
+use Prim.Native.Nat.{_+_, _-_}
 use mathlib.Core.Path.{refl}
 use native.Mathlib.Omega.{arith}
-use lib.ListN.{getD}
 use borrow.Author.Tests.{lt-ltb, le-ltb, le-leb, lt-leb}
 use Rattle.codes.specs.Limits.{mostLabels, longestLabel}
-use Rattle.labels.proofs.Laws.{key-small, word-kept}
 use Rattle.placing.proofs.LabelLaws.{label-by, label-held}
 use Rattle.placing.proofs.declaring.declare.Statement.{statement}
 use Rattle.placing.proofs.declaring.declare.Tie as tie
@@ -49,27 +47,17 @@ returns-3 c =
           (lt-ltb (c .before .find .result) count (c .if3 .taken)),
     )
 
--- a short name's key fits a cell
-cast-keys : tie.Need-cast-keys
-cast-keys c =
-    let short = c .before .before .before .before .before .before .before in
-    let line = short .before .before .before .before in
-    let a = line .before .before .args in
-    let small = key-small (a .line .now) (a .n .start) (a .n .end - a .n .start) (short .if1 .left) (omega (arith, line .shared-slice-known2 .given (a .n .start))) in
-    omega (arith, c .key .ensures, small)
-
 returns-4 : tie.Need-returns-4
 returns-4 c =
-    let left = c .before in
+    let h = c .before .before .before .before .hold in
+    let left = c .before .before .before .before .before .before .before in
     let few = left .before .before .before .before in
     let short = few .before .before in
-    let source = short .before .before .before .before .before in
-    let start = source .before in
+    let start = short .before .before .before .before .before .before in
     let a = start .args in
     let p = start .pre in
     let size = a .n .end - a .n .start in
-    let count = a .c .bound + a .c .waiting in
-    let byte : getD (a .s .now) (a .from + a .n .start) 0 < 256 = omega (arith, source .shared-slice-known .given (a .from + a .n .start)) in (
+    let count = a .c .bound + a .c .waiting in (
       record { low = p .0 .low; few = omega (arith, few .if2 .left) },
       λ k vs ms l. (
         label-by (a .s .now) (a .starts .now) (a .keys .now) (a .line .now) vs ms (a .c) (a .n) k
@@ -77,10 +65,8 @@ returns-4 c =
             (le-ltb longestLabel size (short .if1 .left)) (lt-leb mostLabels count (few .if2 .left)) (left .before .find .ensures)
             (le-ltb (left .before .find .result) count (left .if3 .left)),
         label-held (a .s .now) (a .starts .now) (a .keys .now) (a .line .now) vs ms (a .c) (a .n) k
-            (record { fair = p .0; starts-long = p .1; keys-long = p .2; values-long = l; order = p .3; within = p .4 }) (few .if2 .left)
-            (a .from + a .n .start) (c .key .result)
-            (word-kept (a .s .now) (a .line .now) (a .from + a .n .start) (a .n .start) size (c .key .result) byte
-            (p .6 (a .n .start) size (omega (arith, p .3, p .4))) (c .key .ensures)),
+            (record { fair = p .0; starts-long = p .1; keys-long = p .2; values-long = l; order = p .3; within = p .4 })
+            (h .last .0) (h .last .1 .0) (h .ensures (a .s .now) (p .6 (a .n .start) size (omega (arith, p .3, p .4)))),
       ),
     )
 
@@ -98,13 +84,7 @@ declare-spec =
     returns-3
     (λ c. search needs)
     (λ c. search needs)
-    (λ c. search needs)
-    (λ c. search needs)
-    (λ c. search needs)
     (λ c κs. search needs)
-    cast-keys
-    (λ c. search needs)
-    (λ c. search needs)
     (λ c. search needs)
     (λ c. search needs)
     (λ c. search needs)

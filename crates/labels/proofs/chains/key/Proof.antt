@@ -1,12 +1,13 @@
 use Prim.Native.Nat.{ℕ, _+_, _*_, _-_}
 use mathlib.Core.Path.{_≡_, sym, ap, _∙_}
 use Rattle.labels.proofs.Laws.{key-none, key-some}
+use lib.ListN.{getD}
 use borrow.Author.Needs.{needs}
-use Rattle.labels.proofs.finding.key.Statement.{statement}
-use Rattle.labels.proofs.finding.key.Tie as tie
-use Rattle.labels.proofs.finding.key.Reads as reads
-use Rattle.labels.proofs.finding.key.Lts as lts
-use Rattle.labels.proofs.finding.byte.Reads as byte-reads
+use Rattle.labels.proofs.chains.key.Statement.{statement}
+use Rattle.labels.proofs.chains.key.Tie as tie
+use Rattle.labels.proofs.chains.key.Reads as reads
+use Rattle.labels.proofs.chains.key.Lts as lts
+use Rattle.labels.proofs.chains.byte.Reads as byte-reads
 
 -- src/finding.rt:40:9
 returns : tie.Need-returns
@@ -38,7 +39,11 @@ add-result-2 c = search needs
 
 -- src/finding.rt:36:1
 returns-2 : tie.Need-returns-2
-returns-2 c = ap (λ (x : ℕ). ((c .before .before .before .args .n) - 1) * 256 + x + 1) (c .byte .ensures) ∙ sym (key-some (c .before .before .before .args .s .now) (c .before .before .before .args .a) (c .before .before .before .args .n) (c .before .if1 .left))
+returns-2 c =
+    let a = c .before .before .before .args in
+    let k : (a .n - 1) * 256 + c .byte .result + 1 ≡ (a .n - 1) * 256 + getD (a .s .now) (a .a) 0 + 1 =
+    ap (λ (x : ℕ). (a .n - 1) * 256 + x + 1) (c .byte .ensures) in
+    k ∙ sym (key-some (a .s .now) (a .a) (a .n) (c .before .if1 .left))
 
 pub key-spec : {M : Type 1} → statement M
 key-spec =

@@ -2,10 +2,10 @@ use mathlib.Core.Path.{sym}
 use Prim.Native.Nat.{_-_}
 use lib.ListN.{List·getD-eq-default}
 use borrow.Author.Needs.{needs}
-use Rattle.labels.proofs.finding.byte.Statement.{statement}
-use Rattle.labels.proofs.finding.byte.Tie as tie
-use Rattle.labels.proofs.finding.byte.Reads as reads
-use Rattle.labels.proofs.finding.byte.Lts as lts
+use Rattle.labels.proofs.chains.byte.Statement.{statement}
+use Rattle.labels.proofs.chains.byte.Tie as tie
+use Rattle.labels.proofs.chains.byte.Reads as reads
+use Rattle.labels.proofs.chains.byte.Lts as lts
 
 -- src/lib.rt:37:16
 shared-slice-read-result : tie.Need-shared-slice-read-result
