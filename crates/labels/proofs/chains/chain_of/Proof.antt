@@ -1,80 +1,79 @@
-use native.Mathlib.Omega.{arith}
-use Rattle.labels.proofs.Laws.{chain-is, chain-parts}
-use Rattle.labels.specs.Inner.Labels.{window}
 use borrow.Author.Needs.{needs}
+use Prim.Native.Nat.{ℕ, _+_, _*_, _-_, _%_, _≤_, _<_}
+use mathlib.Core.Path.{_≡_, refl, ap₂, _∙_}
+use native.Mathlib.Omega.{arith}
+use Rattle.labels.specs.Inner.Labels.{window, chainOf, chains}
+use Rattle.labels.proofs.Laws.{chain-none, chain-more}
 use Rattle.labels.proofs.chains.chain_of.Statement.{statement}
 use Rattle.labels.proofs.chains.chain_of.Tie as tie
 use Rattle.labels.proofs.chains.chain_of.Reads as reads
 use Rattle.labels.proofs.chains.chain_of.Lts as lts
-use Rattle.labels.proofs.chains.from_end.Reads as from-end-reads
+use Rattle.labels.proofs.chains.byte.Reads as byte-reads
 
--- src/chains.rt:67:9
-from-end-requires : tie.Need-from-end-requires
-from-end-requires c κs = search needs
+abbrev Inv-loop : tie.InvT-loop
+Inv-loop s a n i₀ chain₀ i chain = (i ≤ n) × (chain < chains) × (chain ≡ chainOf (window s (a + i) (n - i)))
 
--- src/chains.rt:68:9
-from-end-requires-2 : tie.Need-from-end-requires-2
-from-end-requires-2 c κs = search needs
+abbrev μ-loop : tie.MeasureT-loop
+μ-loop s a n i₀ chain₀ i chain = i
 
--- src/chains.rt:69:9
-from-end-requires-3 : tie.Need-from-end-requires-3
-from-end-requires-3 c κs = search needs
+loop-holds : tie.Need-loop-holds Inv-loop μ-loop
+loop-holds c =
+    let a = c .before .args in
+    (omega arith, omega arith, chain-none (a .s .now) (a .a) (a .n) (a .n) refl)
 
--- src/chains.rt:70:6
-add-result : tie.Need-add-result
-add-result c =
-    let st = c .before .before .before .before in
-    let p = chain-parts (st .args .s .now) (st .args .a) (st .args .n) (λ j. omega (arith, c .before .before .before .shared-slice-known .given j)) in
-    omega (arith, p .0, p .1, p .2, p .3, st .pre .2, c .before .before .from-end .ensures, c .before .from-end2 .ensures, c .from-end3 .ensures)
+sub-i : tie.Need-sub-i Inv-loop μ-loop
+sub-i c = search needs
 
--- src/chains.rt:70:14
-mul-result : tie.Need-mul-result
-mul-result c =
-    let st = c .before .before .before .before in
-    let p = chain-parts (st .args .s .now) (st .args .a) (st .args .n) (λ j. omega (arith, c .before .before .before .shared-slice-known .given j)) in
-    omega (arith, p .0, p .1, p .2, p .3, st .pre .2, c .before .before .from-end .ensures, c .before .from-end2 .ensures, c .from-end3 .ensures)
+mul-chain : tie.Need-mul-chain Inv-loop μ-loop
+mul-chain c = search needs
 
--- src/chains.rt:70:6
-add-result-2 : tie.Need-add-result-2
-add-result-2 c =
-    let st = c .before .before .before .before in
-    let p = chain-parts (st .args .s .now) (st .args .a) (st .args .n) (λ j. omega (arith, c .before .before .before .shared-slice-known .given j)) in
-    omega (arith, p .0, p .1, p .2, p .3, st .pre .2, c .before .before .from-end .ensures, c .before .from-end2 .ensures, c .from-end3 .ensures)
+add-byte : tie.Need-add-byte Inv-loop μ-loop
+add-byte c = search needs
 
--- src/chains.rt:70:23
-mul-result-2 : tie.Need-mul-result-2
-mul-result-2 c =
-    let st = c .before .before .before .before in
-    let p = chain-parts (st .args .s .now) (st .args .a) (st .args .n) (λ j. omega (arith, c .before .before .before .shared-slice-known .given j)) in
-    omega (arith, p .0, p .1, p .2, p .3, st .pre .2, c .before .before .from-end .ensures, c .before .from-end2 .ensures, c .from-end3 .ensures)
+byte-requires : tie.Need-byte-requires Inv-loop μ-loop
+byte-requires c κs = search needs
 
--- src/chains.rt:70:6
-add-result-3 : tie.Need-add-result-3
-add-result-3 c =
-    let st = c .before .before .before .before in
-    let p = chain-parts (st .args .s .now) (st .args .a) (st .args .n) (λ j. omega (arith, c .before .before .before .shared-slice-known .given j)) in
-    omega (arith, p .0, p .1, p .2, p .3, st .pre .2, c .before .before .from-end .ensures, c .before .from-end2 .ensures, c .from-end3 .ensures)
+cast-chain : tie.Need-cast-chain Inv-loop μ-loop
+cast-chain c = search needs
 
--- src/chains.rt:63:1
-returns : tie.Need-returns
+add-chain : tie.Need-add-chain Inv-loop μ-loop
+add-chain c = search needs
+
+loop-less : tie.Need-loop-less Inv-loop μ-loop
+loop-less c = search needs
+
+loop-again : tie.Need-loop-again Inv-loop μ-loop
+loop-again c =
+    let a = c .before .before .before .before .args in
+    let p = c .before .before .loop in
+    let more = chain-more (a .s .now) (a .a) (a .n) (p .i) (c .before .loop-test .taken) (p .inv .0) in (
+      omega (arith, p .inv .0),
+      omega arith,
+      ap₂ (λ (x y : ℕ). (37 * x + y) % chains) (p .inv .2) (c .byte .ensures) ∙ more,
+    )
+
+returns : tie.Need-returns Inv-loop μ-loop
 returns c =
-    let st = c .before .before .before .before in
-    let x = c .before .before .from-end in
-    let y = c .before .from-end2 in
-    let z = c .from-end3 in
-    let w = window (st .args .s .now) (st .args .a) (st .args .n) in
-    chain-is w (st .args .k) (x .result) (y .result) (z .result) (st .pre .2) (x .ensures) (y .ensures) (z .ensures)
+    let a = c .before .before .before .args in
+    let p = c .before .loop in
+    let z : p .i ≡ 0 = omega (arith, c .loop-test .left) in
+    let q : a .a + p .i ≡ a .a = omega (arith, z) in
+    let r : a .n - p .i ≡ a .n = omega (arith, z) in
+    p .inv .2 ∙ ap₂ (λ (x y : ℕ). chainOf (window (a .s .now) x y)) q r
 
 pub chain-of-spec : {M : Type 1} → statement M
 chain-of-spec =
     tie.close
     (tie.spec
-    from-end-requires
-    from-end-requires-2
-    from-end-requires-3
-    add-result
-    mul-result
-    add-result-2
-    mul-result-2
-    add-result-3
+    Inv-loop
+    μ-loop
+    loop-holds
+    sub-i
+    mul-chain
+    add-byte
+    byte-requires
+    cast-chain
+    add-chain
+    loop-less
+    loop-again
     returns)
