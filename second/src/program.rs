@@ -1,7 +1,7 @@
 //! Document 01's program: "assembles a file at an M of 1 to 16,384 (any other prints refusal 1,
 //! line 0) and prints the image".
 
-use crate::assembler::{assemble, Line, Refusal, Refused};
+use crate::assembler::{assemble, Refusal, Refused};
 use crate::image;
 use crate::machine::{self, Machine, Ran, Registers, Stop, REGISTER_NAMES};
 
@@ -37,12 +37,12 @@ pub fn budget(argument: &str) -> Option<u32> {
 
 /// "A refusal prints `refused=` and `line=`, one line each."
 pub fn refusal_text(refused: &Refused) -> String {
-    format!("refused={}\nline={}\n", refused.refusal.number(), refused.line.0)
+    format!("refused={}\nline={}\n", refused.refusal.before_k4(), refused.line.0)
 }
 
 /// What the program prints for an M argument that is none.
 pub fn bad_size_text() -> String {
-    refusal_text(&Refused { refusal: Refusal::BadLoan, line: Line(0) })
+    refusal_text(&Refused::of_no_line(Refusal::BadLoan))
 }
 
 /// Assembles at M cells: the image's text, or the refusal's.

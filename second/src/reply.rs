@@ -2,6 +2,7 @@
 
 use crate::case::write::{Hex, Pairs};
 use crate::isa::Instruction;
+use crate::text::{At, Column};
 use std::fmt::{self, Display, Formatter};
 
 /// Cells or map bytes by ascending address.
@@ -58,13 +59,13 @@ const MOST_SHOWN: usize = 64;
 pub struct Name(pub usize, pub usize);
 
 impl Name {
-    /// The place of a word that was cut out of a line.
-    pub fn of(line: &[u8], word: Option<&[u8]>) -> Name {
+    /// The place of a word that was read: columns count from 1, places from 0.
+    pub fn of(word: Option<At<&[u8]>>) -> Name {
         match word {
             None => Name(0, 0),
-            Some(word) => {
-                let start = word.as_ptr() as usize - line.as_ptr() as usize;
-                Name(start, start + word.len())
+            Some(At { what, column: Column(column) }) => {
+                let start = column as usize - 1;
+                Name(start, start + what.len())
             }
         }
     }

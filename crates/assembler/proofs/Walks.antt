@@ -7,12 +7,13 @@ use Rattle.statements.proofs.Labelling.{never}
 use Rattle.sources.specs.Placing.{Bound, bindings}
 use Rattle.sources.specs.Uses.{Use}
 use Rattle.sources.specs.Order.{Refusal, _on_}
-use Rattle.sources.specs.Inner.Assembling.{Verdict, passes, refused, andThen, workOf, endVerdict, usesVerdict, lateVerdict, memoryOf, linesVerdict, lastLine, sourceVerdict}
+use Rattle.sources.specs.Inner.Assembling.{Verdict, passes, refused, andThen, workOf, usesVerdict, lateVerdict, memoryOf, linesVerdict, sourceVerdict}
 use Rattle.sources.specs.declared.Line.{Line}
 use Rattle.uses.specs.Inner.Held.{usesHeld}
-use Rattle.walking.specs.Inner.Walking.{Holds, Ends, walkVerdict}
+use Rattle.walking.specs.Inner.Walking.{Holds, Ends, endOf, walkVerdict}
 use Rattle.walking.specs.declared.Walked.{Walked}
 use Rattle.walking.specs.declared.Walked.the-variants as W
+use Rattle.walking.proofs.Ends.{walk-refused, walk-late}
 use Rattle.assembler.specs.Promise.{Told, refusal}
 use Rattle.assembler.specs.Inner.Parts.{Outcome, outcomeBy, outcomeOfUses, outcomeOf}
 use Rattle.assembler.proofs.Outcomes.{with, refused-as}
@@ -31,17 +32,28 @@ late (refused x) b c e = never (cc)
 module _ (M : ℕ) (s : List ℕ) where
   early-whole : {why : Refusal} → walkVerdict M s ≡ refused why → sourceVerdict M s ≡ refused why
   unfolding lateVerdict
-  early-whole e = early (linesVerdict M s) (endVerdict (lastLine s) (workOf M s .place)) (usesVerdict (bindings (workOf M s .place)) (workOf M s .uses)) e
+  early-whole e = early (linesVerdict M s) (endOf M s) (usesVerdict (bindings (workOf M s .place)) (workOf M s .uses)) e
 
   late-whole : walkVerdict M s ≡ passes → sourceVerdict M s ≡ usesVerdict (bindings (workOf M s .place)) (workOf M s .uses)
   unfolding lateVerdict
-  late-whole e = late (linesVerdict M s) (endVerdict (lastLine s) (workOf M s .place)) (usesVerdict (bindings (workOf M s .place)) (workOf M s .uses)) e
+  late-whole e = late (linesVerdict M s) (endOf M s) (usesVerdict (bindings (workOf M s .place)) (workOf M s .uses)) e
 
   module _ (memory map : List ℕ) where
-    pub not-walked : (r : Walked) (f : ℕ) (l : Line) (H : ℕ → ℕ → Type 0) (image marks : List ℕ) (t : Told) → r ≡ W.Refused f l → Ends (walkVerdict M s) H r
+    -- a line is refused
+    pub not-walked : (r : Walked) (f : ℕ) (l : Line) (H : ℕ → ℕ → Type 0) (image marks : List ℕ) (t : Told) → r ≡ W.Refused f l
+        → Ends (linesVerdict M s) (endOf M s) H r
         → t ≡ refusal (f on l .0)
         → with memory map t memory map ≡ outcomeBy (sourceVerdict M s) image marks memory map
-    not-walked r f l H image marks t e h g = refused-as memory map t f l (sourceVerdict M s) image marks g (early-whole (subst (Ends (walkVerdict M s) H) e h))
+    not-walked r f l H image marks t e h g =
+        refused-as memory map t f l (sourceVerdict M s) image marks g (early-whole (walk-refused (linesVerdict M s) (endOf M s) H e h))
+
+    -- the source's end is refused
+    pub late-at-end : (r : Walked) (l : Line) (H : ℕ → ℕ → Type 0) (image marks : List ℕ) (t : Told) → r ≡ W.Late l
+        → Ends (linesVerdict M s) (endOf M s) H r
+        → t ≡ refusal (6 on l .0)
+        → with memory map t memory map ≡ outcomeBy (sourceVerdict M s) image marks memory map
+    late-at-end r l H image marks t e h g =
+        refused-as memory map t 6 l (sourceVerdict M s) image marks g (early-whole (walk-late (linesVerdict M s) (endOf M s) H e h))
 
     -- the rows hold what the work has come to
     module _ (starts keys vs ms cells row aways : List ℕ) (labels uses : ℕ) where
@@ -60,6 +72,7 @@ module _ (M : ℕ) (s : List ℕ) where
           g ∙ a ∙ b ∙ ap (λ (v : Verdict). outcomeBy v (memoryOf w) (w .place .marks) memory map) (sym (late-whole e))
 
 -- where the walk passes
-pub walk-passed : (M : ℕ) (s : List ℕ) (H : ℕ → ℕ → Type 0) (r : Walked) (labels uses : ℕ) → r ≡ W.Passes labels uses → Ends (walkVerdict M s) H r
+pub walk-passed : (M : ℕ) (s : List ℕ) (H : ℕ → ℕ → Type 0) (r : Walked) (labels uses : ℕ) → r ≡ W.Passes labels uses
+    → Ends (linesVerdict M s) (endOf M s) H r
     → (walkVerdict M s ≡ passes) × H labels uses
-walk-passed M s H r labels uses e h = subst (Ends (walkVerdict M s) H) e h
+walk-passed M s H r labels uses e h = subst (Ends (linesVerdict M s) (endOf M s) H) e h

@@ -129,6 +129,9 @@ fn assemble_over(
         Walked::Refused(f, l) => {
             return refused(f, l);
         }
+        Walked::Late(l) => {
+            return refused(6, l);
+        }
         Walked::Passes(labels, uses) => {
             return settle_and_accept(
                 s,

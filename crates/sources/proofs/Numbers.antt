@@ -47,7 +47,7 @@ loans-such M N source = ((omega arith, omega arith, omega arith), ((omega arith,
 line-such : (M k : ℕ) (p : Place) (bytes : List ℕ) → Each OfLine (lineChecks M k p bytes)
 unfolding Each lineChecks
 line-such M k p bytes =
-    ((omega arith, omega arith), ((omega arith, omega arith), ((omega arith, omega arith), ((omega arith, omega arith), ((omega arith, omega arith), ((omega arith, omega arith), ((omega arith, omega arith), ((omega arith, omega arith), ((omega arith, omega arith), ((omega arith, omega arith), ((omega arith, omega arith), ((omega arith, omega arith), ((omega arith, omega arith), tt)))))))))))))
+    ((omega arith, omega arith), ((omega arith, omega arith), ((omega arith, omega arith), ((omega arith, omega arith), ((omega arith, omega arith), ((omega arith, omega arith), ((omega arith, omega arith), ((omega arith, omega arith), ((omega arith, omega arith), ((omega arith, omega arith), ((omega arith, omega arith), ((omega arith, omega arith), ((omega arith, omega arith), ((omega arith, omega arith), tt))))))))))))))
 
 late-such : (p : Place) (xs : List Said) → Each OfLine (lateChecks p xs)
 unfolding Each lateChecks endChecks

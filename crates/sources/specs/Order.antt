@@ -9,7 +9,7 @@ use Rattle.values.specs.declared.LabelIn.{LabelIn}
 use Rattle.values.specs.declared.Name.{Name}
 use Rattle.statements.specs.Statements.{Reading, Says, Labelled, UnknownWord, NoReading}
 use Rattle.statements.specs.FirstFailing.{Check, check, Pass, First}
-use Rattle.statements.specs.Checks.{OfReading, Unfit, TooDeep, NumberOut, ZeroDivisor, ResultOut}
+use Rattle.statements.specs.Checks.{OfReading, WrongCount, WrongKind, TooDeep, NumberOut, ZeroDivisor, ResultOut}
 use Rattle.statements.specs.Judging.{judged}
 use Rattle.statements.specs.declared.Statement.{Statement}
 use Rattle.statements.specs.declared.StatementRead.the-variants.{Passes}
@@ -79,7 +79,8 @@ module _ (M k : ℕ) (p : Place) (bytes : List ℕ) where
       ∷ check (9 on k) (OfLabel bytes (λ w. List·Memᴰ w (names p)))
       ∷ check (4 on k) (UnknownWord bytes)
       ∷ check (3 on k) (NoReading bytes)
-      ∷ check (5 on k) (OfReading bytes Unfit)
+      ∷ check (5 on k) (OfReading bytes WrongCount)
+      ∷ check (5 on k) (OfReading bytes WrongKind)
       ∷ check (8 on k) (OfReading bytes TooDeep)
       ∷ check (6 on k) (OfReading bytes NumberOut)
       ∷ check (7 on k) (OfReading bytes ZeroDivisor)

@@ -27,7 +27,7 @@ pub fn line_case(random: &mut Random) -> Case {
 }
 
 /// One line of a source; an empty one if it has none.
-fn one_of(random: &mut Random, text: &[u8]) -> Vec<u8> {
+pub fn one_of(random: &mut Random, text: &[u8]) -> Vec<u8> {
     let all: Vec<&[u8]> = lines(text).collect();
     match all.len() {
         0 => Vec::new(),

@@ -3,6 +3,7 @@
 pub mod assemble;
 pub mod bench;
 pub mod blocks;
+pub mod columns;
 pub mod covered;
 pub mod draw;
 pub mod edges;

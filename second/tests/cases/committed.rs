@@ -161,7 +161,7 @@ fn listed_instructions() -> Vec<Instruction> {
         };
         let text = listing::text(&lent.memory.row(), &lent.map()).expect("listed");
         for line in lines(text.as_bytes()) {
-            if let Ok(Some(Statement::Instruction(written))) = read_line(line).statement {
+            if let Ok(Some(Statement::Instruction(written))) = read_line(line).says() {
                 all.push(written.instruction);
             }
         }

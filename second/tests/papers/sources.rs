@@ -187,6 +187,6 @@ fn a_bad_map_and_a_source_too_long() {
         let source = vec![b'\n'; length];
         let refused =
             second::assembler::assemble(&source, &mut vec![0; cells], &mut vec![0; marks]);
-        assert_eq!(refused.map_err(|refused| refused.refusal.number()), Err(expected));
+        assert_eq!(refused.map_err(|refused| refused.refusal.before_k4()), Err(expected));
     }
 }

@@ -4,7 +4,7 @@ use native.Mathlib.Omega.{arith}
 use lib.ListN.{length, length-replicate}
 use Rattle.sources.specs.Inner.Assembling.{workOf, memoryOf}
 use Rattle.walking.specs.Inner.Walking.{Holds}
-use Rattle.assembler.proofs.Walks.{not-walked, all-walked, walk-passed}
+use Rattle.assembler.proofs.Walks.{not-walked, late-at-end, all-walked, walk-passed}
 use borrow.Author.Needs.{needs}
 use Rattle.assembler.proofs.assemble.assemble_over.Statement.{statement}
 use Rattle.assembler.proofs.assemble.assemble_over.Tie as tie
@@ -61,6 +61,53 @@ returns c =
     let s = (c .before .before .before .before .before .before .before .before .before .before .before .before .before .before .before .before .before .before .before .before .before .before .before .before .before .before .before .before .before .before .before .before .before .before .before .before .args .s .now) in
     not-walked M s (c .before .before .before .before .before .before .before .before .before .before .before .before .before .before .before .before .before .before .before .before .before .before .before .before .before .before .before .before .before .before .before .before .before .before .before .before .args .memory .now) (c .before .before .before .before .before .before .before .before .before .before .before .before .before .before .before .before .before .before .before .before .before .before .before .before .before .before .before .before .before .before .before .before .before .before .before .before .args .map .now) (c .before .before .before .before .before .before .before .before .before .before .before .before .before .before .before .before .before .before .walk .result) (c .before .before .f .given .0 .0) (c .before .before .f .given .0 .1 .0) (Holds s (c .before .before .before .before .before .before .before .before .before .before .before .before .before .before .before .before .before .before .walk .last .1 .0) (c .before .before .before .before .before .before .before .before .before .before .before .before .before .before .before .before .before .before .walk .last .1 .1 .0) (c .before .before .before .before .before .before .before .before .before .before .before .before .before .before .before .before .before .before .walk .last .1 .1 .1 .0) (c .before .before .before .before .before .before .before .before .before .before .before .before .before .before .before .before .before .before .walk .last .1 .1 .1 .1 .0) (c .before .before .before .before .before .before .before .before .before .before .before .before .before .before .before .before .before .before .walk .last .1 .1 .1 .1 .1 .0) (c .before .before .before .before .before .before .before .before .before .before .before .before .before .before .before .before .before .before .walk .last .1 .1 .1 .1 .1 .1 .0) (c .before .before .before .before .before .before .before .before .before .before .before .before .before .before .before .before .before .before .walk .last .1 .1 .1 .1 .1 .1 .1 .0) (workOf M s)) (memoryOf (workOf M s)) (workOf M s .place .marks) _ (c .before .before .f .given .1) (c .before .before .before .before .before .before .before .before .before .before .before .before .before .before .before .before .before .before .walk .ensures) (c .refused .ensures)
 
+-- the source's end
+enum-known-l : tie.Need-enum-known-l
+enum-known-l c = search needs
+
+refused-requires-2 : tie.Need-refused-requires-2
+refused-requires-2 c κs = search needs
+
+same-length-8 : tie.Need-same-length-8
+same-length-8 c = search needs
+
+same-length-9 : tie.Need-same-length-9
+same-length-9 c = search needs
+
+same-length-10 : tie.Need-same-length-10
+same-length-10 c = search needs
+
+same-length-11 : tie.Need-same-length-11
+same-length-11 c = search needs
+
+same-length-12 : tie.Need-same-length-12
+same-length-12 c = search needs
+
+same-length-13 : tie.Need-same-length-13
+same-length-13 c = search needs
+
+same-length-14 : tie.Need-same-length-14
+same-length-14 c = search needs
+
+returns-2 : tie.Need-returns-2
+returns-2 c =
+    let found = c .before .before .l in
+    let walked = c .before .before .before .before .before .before .before .before .before .before .before .before .before .before .before .before .before .before in
+    let start = walked .before .before .before .before .before .before .before .before .before .before .before .before .before .before .before .before .before .before in
+    let w = walked .walk in
+    let starts = w .last .1 .0 in
+    let keys = w .last .1 .1 .0 in
+    let values = w .last .1 .1 .1 .0 in
+    let marks = w .last .1 .1 .1 .1 .0 in
+    let cells = w .last .1 .1 .1 .1 .1 .0 in
+    let row = w .last .1 .1 .1 .1 .1 .1 .0 in
+    let aways = w .last .1 .1 .1 .1 .1 .1 .1 .0 in
+    let s = start .args .s .now in
+    let done = workOf (length (start .args .marks .now)) s in
+    late-at-end (length (start .args .marks .now)) s (start .args .memory .now) (start .args .map .now) (w .result) (found .given .0 .0)
+    (Holds s starts keys values marks cells row aways done) (memoryOf done) (done .place .marks) _ (found .given .1) (w .ensures)
+    (c .refused2 .ensures)
+
 -- src/assemble.rt:104:24
 enum-known-labels : tie.Need-enum-known-labels
 enum-known-labels c = search needs
@@ -89,44 +136,44 @@ settle-and-accept-requires c κs =
     )
 
 -- src/assemble.rt:105:13
-same-length-8 : tie.Need-same-length-8
-same-length-8 c = c .before .before .before .before .before .before .before .before .before .before .before .before .before .before .before .before .before .before .before .before .before .before .before .before .before .before .before .before .before .before .before .before .before .walk .kept .1 .0
-
--- src/assemble.rt:105:13
-same-length-9 : tie.Need-same-length-9
-same-length-9 c = search needs
-
--- src/assemble.rt:105:13
-same-length-10 : tie.Need-same-length-10
-same-length-10 c = search needs
-
--- src/assemble.rt:105:13
-same-length-11 : tie.Need-same-length-11
-same-length-11 c = search needs
-
--- src/assemble.rt:105:13
-same-length-12 : tie.Need-same-length-12
-same-length-12 c = search needs
-
--- src/assemble.rt:105:13
-same-length-13 : tie.Need-same-length-13
-same-length-13 c = search needs
-
--- src/assemble.rt:105:13
-same-length-14 : tie.Need-same-length-14
-same-length-14 c = search needs
-
--- src/assemble.rt:105:13
 same-length-15 : tie.Need-same-length-15
-same-length-15 c = search needs
+same-length-15 c = c .before .before .before .before .before .before .before .before .before .before .before .before .before .before .before .before .before .before .before .before .before .before .before .before .before .before .before .before .before .before .before .before .before .walk .kept .1 .0
 
 -- src/assemble.rt:105:13
 same-length-16 : tie.Need-same-length-16
 same-length-16 c = search needs
 
 -- src/assemble.rt:105:13
-returns-2 : tie.Need-returns-2
-returns-2 c =
+same-length-17 : tie.Need-same-length-17
+same-length-17 c = search needs
+
+-- src/assemble.rt:105:13
+same-length-18 : tie.Need-same-length-18
+same-length-18 c = search needs
+
+-- src/assemble.rt:105:13
+same-length-19 : tie.Need-same-length-19
+same-length-19 c = search needs
+
+-- src/assemble.rt:105:13
+same-length-20 : tie.Need-same-length-20
+same-length-20 c = search needs
+
+-- src/assemble.rt:105:13
+same-length-21 : tie.Need-same-length-21
+same-length-21 c = search needs
+
+-- src/assemble.rt:105:13
+same-length-22 : tie.Need-same-length-22
+same-length-22 c = search needs
+
+-- src/assemble.rt:105:13
+same-length-23 : tie.Need-same-length-23
+same-length-23 c = search needs
+
+-- src/assemble.rt:105:13
+returns-3 : tie.Need-returns-3
+returns-3 c =
     let M = length (c .before .before .before .before .before .before .before .before .before .before .before .before .before .before .before .before .before .before .before .before .before .before .before .before .before .before .before .before .before .before .before .before .before .before .before .before .before .before .before .before .before .before .before .before .before .before .before .before .before .before .before .args .marks .now) in
     let s = (c .before .before .before .before .before .before .before .before .before .before .before .before .before .before .before .before .before .before .before .before .before .before .before .before .before .before .before .before .before .before .before .before .before .before .before .before .before .before .before .before .before .before .before .before .before .before .before .before .before .before .before .args .s .now) in
     let h = walk-passed M s (Holds s (c .before .before .before .before .before .before .before .before .before .before .before .before .before .before .before .before .before .before .before .before .before .before .before .before .before .before .before .before .before .before .before .before .before .walk .last .1 .0) (c .before .before .before .before .before .before .before .before .before .before .before .before .before .before .before .before .before .before .before .before .before .before .before .before .before .before .before .before .before .before .before .before .before .walk .last .1 .1 .0) (c .before .before .before .before .before .before .before .before .before .before .before .before .before .before .before .before .before .before .before .before .before .before .before .before .before .before .before .before .before .before .before .before .before .walk .last .1 .1 .1 .0) (c .before .before .before .before .before .before .before .before .before .before .before .before .before .before .before .before .before .before .before .before .before .before .before .before .before .before .before .before .before .before .before .before .before .walk .last .1 .1 .1 .1 .0) (c .before .before .before .before .before .before .before .before .before .before .before .before .before .before .before .before .before .before .before .before .before .before .before .before .before .before .before .before .before .before .before .before .before .walk .last .1 .1 .1 .1 .1 .0) (c .before .before .before .before .before .before .before .before .before .before .before .before .before .before .before .before .before .before .before .before .before .before .before .before .before .before .before .before .before .before .before .before .before .walk .last .1 .1 .1 .1 .1 .1 .0) (c .before .before .before .before .before .before .before .before .before .before .before .before .before .before .before .before .before .before .before .before .before .before .before .before .before .before .before .before .before .before .before .before .before .walk .last .1 .1 .1 .1 .1 .1 .1 .0) (workOf M s)) (c .before .before .before .before .before .before .before .before .before .before .before .before .before .before .before .before .before .before .before .before .before .before .before .before .before .before .before .before .before .before .before .before .before .walk .result) (c .before .before .before .before .before .before .before .before .before .before .before .before .before .before .before .before .before .labels .given .0 .0) (c .before .before .before .before .before .before .before .before .before .before .before .before .before .before .before .before .before .labels .given .0 .1 .0) (c .before .before .before .before .before .before .before .before .before .before .before .before .before .before .before .before .before .labels .given .1) (c .before .before .before .before .before .before .before .before .before .before .before .before .before .before .before .before .before .before .before .before .before .before .before .before .before .before .before .before .before .before .before .before .before .walk .ensures) in
@@ -147,8 +194,8 @@ assemble-over-spec =
     same-length-6
     same-length-7
     returns
-    enum-known-labels
-    settle-and-accept-requires
+    enum-known-l
+    refused-requires-2
     same-length-8
     same-length-9
     same-length-10
@@ -156,6 +203,16 @@ assemble-over-spec =
     same-length-12
     same-length-13
     same-length-14
+    returns-2
+    enum-known-labels
+    settle-and-accept-requires
     same-length-15
     same-length-16
-    returns-2)
+    same-length-17
+    same-length-18
+    same-length-19
+    same-length-20
+    same-length-21
+    same-length-22
+    same-length-23
+    returns-3)

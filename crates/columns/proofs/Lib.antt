@@ -1,0 +1,7 @@
+-- Laws by topic; Top.antt restates what is shown.
+pub mod Found
+pub mod Bounds
+pub mod Exactly
+pub mod Marks
+pub mod Examples
+pub mod Top

@@ -1,0 +1,151 @@
+// What a refusal of a line points at: the line is read once more (specs/Columns.antt).
+ghost use mathlib.Core.Path.{_≡_};
+ghost use Rattle.tokens.specs.Reading.{tokensFrom};
+ghost use Rattle.statements.specs.Inner.Parts.{begunBy};
+ghost use Rattle.columns.specs.Columns.{outPlace, placeBy, placeIn, columnOf, numberOf, operandOf, readAgain, pointedAt, pointed};
+use super::Column;
+use super::Pointed;
+use super::own::column_at;
+use super::own::label_column;
+use super::own::word_column;
+use expressions::places::fault;
+use expressions::places::too_deep;
+use faults::place::place;
+use names::Word;
+use names::lookup::statement_word;
+use numerals::Cursor;
+use operands::places::operand_start;
+use statements::Failure;
+use statements::StatementRead;
+use statements::labels::is_word;
+use statements::labels::label;
+use statements::line::read_line;
+use tokens::Token;
+
+// The number out of range behind a statement's word: an operand's, an item's, or in an expression a number or an operation's mark.
+fn out_place(line: &[u8], word: Word, from: Cursor) -> usize
+    ensures { λ r. ⌜ r ≡ outPlace (now (line .entry)) word (tokensFrom (now (line .entry)) (from .at)) ⌝ }
+{
+    match word {
+        Word::Instructs(_) => operands::places::number_out(line, from),
+        Word::Org => fault(line, from),
+        Word::Equ => fault(line, from),
+        Word::Res => fault(line, from),
+        Word::Data => items::places::number_out(line, from),
+        Word::End => 0,
+        Word::Unknown => 0,
+    }
+}
+
+// The place of a failure in a statement whose word starts at a place, from the cursor behind the word.
+fn place_by(line: &[u8], why: Failure, at: usize, word: Word, from: Cursor) -> usize
+    ensures { λ r. ⌜ r ≡ placeBy (now (line .entry)) why at word (tokensFrom (now (line .entry)) (from .at)) ⌝ }
+{
+    match why {
+        Failure::UnknownWord => at,
+        Failure::WrongForm => place(line),
+        Failure::WrongCount => at,
+        Failure::WrongKind(i) => operand_start(line, from, i == 2),
+        Failure::TooDeep => too_deep(line, from),
+        Failure::OutOfRange => out_place(line, word, from),
+        Failure::ByZero => fault(line, from),
+        Failure::ResultOut => at,
+    }
+}
+
+// The same of the statement that a token begins.
+fn place_in(line: &[u8], why: Failure, w: Token) -> usize
+    ensures { λ r. ⌜ r ≡ placeIn (now (line .entry)) why (begunBy (now (line .entry)) w) ⌝ }
+{
+    let kind = w.kind;
+    let start = w.start;
+    let next = w.next;
+    if !is_word(kind) {
+        return place(line);
+    }
+    place_by(line, why, start, statement_word(line, start, next.at), next)
+}
+
+fn failure_column(line: &[u8], why: Failure) -> Column
+    ensures { λ r. ⌜ r .0 ≡ columnOf (now (line .entry)) why ⌝ }
+{
+    let found = label(line);
+    let w = found.word;
+    column_at(line, place_in(line, why, w))
+}
+
+// The number of a failure: for a source 5 is 15, a wrong count, or 16, a wrong kind.
+fn number_of(why: Failure) -> u8
+    ensures { λ r. ⌜ r ≡ numberOf why ⌝ }
+{
+    match why {
+        Failure::UnknownWord => 4,
+        Failure::WrongForm => 3,
+        Failure::WrongCount => 15,
+        Failure::WrongKind(_) => 16,
+        Failure::TooDeep => 8,
+        Failure::OutOfRange => 6,
+        Failure::ByZero => 7,
+        Failure::ResultOut => 6,
+    }
+}
+
+// The place of the operand that is wrong in kind.
+fn operand_of(why: Failure) -> u8
+    ensures { λ r. ⌜ r ≡ operandOf why ⌝ }
+{
+    match why {
+        Failure::UnknownWord => 0,
+        Failure::WrongForm => 0,
+        Failure::WrongCount => 0,
+        Failure::WrongKind(i) => i,
+        Failure::TooDeep => 0,
+        Failure::OutOfRange => 0,
+        Failure::ByZero => 0,
+        Failure::ResultOut => 0,
+    }
+}
+
+fn beside(number: u8, column: Column) -> Pointed
+    ensures { λ r. ⌜ r ≡ pointedAt number (column .0) 0 ⌝ }
+{
+    Pointed {
+        number: number,
+        column: column,
+        place: 0,
+    }
+}
+
+// By the line's reading: a line that passes its own checks was refused for an address.
+fn read_again(line: &[u8], number: u8) -> Pointed
+    ensures { λ r. ⌜ r ≡ readAgain (now (line .entry)) number ⌝ }
+{
+    let read = read_line(line);
+    let statement = read.statement;
+    match statement {
+        StatementRead::Passes(_) => beside(number, word_column(line)),
+        StatementRead::Fails(why) => Pointed {
+            number: number_of(why),
+            column: failure_column(line, why),
+            place: operand_of(why),
+        },
+    }
+}
+
+pub fn pointed(line: &[u8], number: u8) -> Pointed
+    ensures { λ r. ⌜ r ≡ pointed (now (line .entry)) number ⌝ }
+{
+    if number < 3 {
+        return beside(number, Column(0));
+    }
+    if number < 9 {
+        return read_again(line, number);
+    }
+    if number < 11 {
+        return beside(number, label_column(line));
+    }
+    if number < 13 {
+        return beside(number, word_column(line));
+    }
+    beside(number, Column(0))
+}
