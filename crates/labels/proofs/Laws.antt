@@ -14,7 +14,7 @@ use Rattle.names.specs.Names.{same}
 use Rattle.isa.proofs.Tests.{and-false}
 use Rattle.names.proofs.Same.{same-other-by}
 use Rattle.sources.specs.Sources.{spelled}
-use Rattle.labels.specs.Inner.Labels.{window, keyOf, wordBy, fromEnd, chains, chainOf, numbersFrom, onward, heldAt, listed, words}
+use Rattle.labels.specs.Inner.Labels.{window, keyOf, wordBy, chains, chainOf, numbersFrom, onward, heldAt, listed, words}
 
 pub length-window : (s : List ℕ) (a n : ℕ) → length (window s a n) ≡ n
 unfolding window
@@ -120,48 +120,20 @@ module _ (s t : List ℕ) (a b n : ℕ) where
 
 -- ---- chains of names
 
-window-at : (s : List ℕ) (n a j : ℕ) → j < n → getD (window s a n) j 0 ≡ getD s (a + j) 0
-unfolding window
-window-at s zero a j h = absurd (omega (arith, h))
-window-at s (suc n) a zero h = let e : a ≡ a + 0 = omega arith in ap (λ (x : ℕ). getD s x 0) e
-window-at s (suc n) a (suc j) h =
-    let e : a + 1 + j ≡ a + suc j = omega arith in
-    window-at s n (a + 1) j (omega (arith, h)) ∙ ap (λ (x : ℕ). getD s x 0) e
-
-module _ (s : List ℕ) (a n i : ℕ) where
-  -- a byte that a shorter name does not have, and one that a name has
-  pub end-none : n < i → 0 ≡ fromEnd (window s a n) i
-  end-none h = rw (length-window s a n, lt-ltb n i h)
-
-  pub end-some : 0 < i → i ≤ n → getD s (a + (n - i)) 0 ≡ fromEnd (window s a n) i
-  end-some z h = rw (length-window s a n, le-ltb n i h) (sym (window-at s n a (n - i) (omega (arith, z, h))))
-
-end-byte : (s : List ℕ) (a n i : ℕ) → 0 < i → ((j : ℕ) → getD s j 0 < 256) → fromEnd (window s a n) i < 256
-end-byte s a n i z h = go (ltb n i) refl
-  where
-    go : (b : Bool) → ltb n i ≡ b → fromEnd (window s a n) i < 256
-    go true e = subst (λ (x : ℕ). x < 256) (end-none s a n i (ltb-true n i e)) (omega arith)
-    go false e = subst (λ (x : ℕ). x < 256) (end-some s a n i z (ltb-false n i e)) (h (a + (n - i)))
-
-key-below : (s : List ℕ) (a n : ℕ) → getD s a 0 < 256 → keyOf (window s a n) ≤ n * 256
-unfolding keyOf window
-key-below s a zero h = omega arith
-key-below s a (suc n) h = let e = length-window s (a + 1) n in omega (arith, e, h)
-
--- of a name of bytes, the numbers that its chain is told by are small
-pub chain-parts : (s : List ℕ) (a n : ℕ) → ((j : ℕ) → getD s j 0 < 256) → let w = window s a n in
-    (keyOf w ≤ n * 256) × (fromEnd w 1 < 256) × (fromEnd w 2 < 256) × (fromEnd w 3 < 256)
-chain-parts s a n h =
-    (key-below s a n (h a), end-byte s a n 1 (omega arith) h, end-byte s a n 2 (omega arith) h, end-byte s a n 3 (omega arith) h)
-
-pub chain-is : (w : List ℕ) (k x y z : ℕ) → k ≡ keyOf w → x ≡ fromEnd w 1 → y ≡ fromEnd w 2 → z ≡ fromEnd w 3
-    → (k + x + 10 * y + 100 * z) % chains ≡ chainOf w
-unfolding chainOf
-chain-is w k x y z e f g h = rw (e, f, g, h)
-
 pub chain-small : (w : List ℕ) → chainOf w < chains
 unfolding chainOf
-chain-small w = omega arith
+chain-small [] = omega arith
+chain-small (b ∷ w) = omega arith
+
+-- the chain of no byte, and of one byte more in front
+module _ (s : List ℕ) (a i n : ℕ) where
+  pub chain-none : i ≡ n → 0 ≡ chainOf (window s (a + i) (n - i))
+  unfolding chainOf window
+  chain-none e = let q : n - i ≡ 0 = omega (arith, e) in rw q
+
+  pub chain-more : i < n → (37 * chainOf (window s (a + (i + 1)) (n - (i + 1))) + getD s (a + i) 0) % chains ≡ chainOf (window s (a + i) (n - i))
+  unfolding chainOf
+  chain-more h = rw (window-cons s a i n h)
 
 -- ---- the next label of a chain
 
@@ -198,9 +170,9 @@ unfolding listed
 length-listed f zero = refl
 length-listed f (suc n) = length-append (listed f n) (f n ∷ []) ∙ add-one (length (listed f n)) ∙ ap suc (length-listed f n)
 
-pub length-words : (s xs ls : List ℕ) (n : ℕ) → n ≤ length xs → n ≤ length ls → length (words s xs ls n) ≡ n
+pub length-words : (s xs ls : List ℕ) (n : ℕ) → length (words s xs ls n) ≡ n
 unfolding words
-length-words s xs ls n h k = length-listed (heldAt s xs ls n) n
+length-words s xs ls n = length-listed (heldAt s xs ls n) n
 
 -- ---- values
 

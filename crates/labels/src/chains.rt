@@ -5,18 +5,20 @@ ghost use lib.ListN.{getD};
 ghost use Rattle.labels.specs.Inner.Labels as Labels;
 ghost use Rattle.labels.specs.Inner.Labels.{window, keyOf, chainOf, farthest, InCell};
 
+use codes::limits::MOST_LABELS;
+
 // How many chains there are.
-const CHAINS: usize = 1024;
+const CHAINS: usize = 2 * MOST_LABELS;
 
-// Behind the keys of 512 labels: the chain of each, the label before it there, and the last label of each chain.
-pub(crate) const NUMBERS_FROM: usize = 512;
+// Behind the keys: the chain of each label, the label before it there, and the last label of each chain.
+pub(crate) const NUMBERS_FROM: usize = MOST_LABELS;
 
-pub(crate) const LINKS_FROM: usize = 1024;
+pub(crate) const LINKS_FROM: usize = 2 * MOST_LABELS;
 
-pub(crate) const LASTS_FROM: usize = 1536;
+pub(crate) const LASTS_FROM: usize = 3 * MOST_LABELS;
 
 // The cells of a row of keys.
-pub const KEY_CELLS: usize = 2560;
+pub const KEY_CELLS: usize = LASTS_FROM + CHAINS;
 
 // The byte at a place, 0 past the end.
 pub(crate) fn byte(s: &[u8], i: usize) -> u8
@@ -48,26 +50,18 @@ pub(crate) fn key(s: &[u8], a: usize, n: u16) -> usize
     (n as usize - 1) * 256 + byte(s, a) as usize + 1
 }
 
-// A name's byte so many from its end, 0 if it is shorter.
-fn from_end(s: &[u8], a: usize, n: usize, i: usize) -> usize
-    requires { ⌜ (a < farthest) × (n < farthest) × (0 < i) ⌝ }
-    ensures { λ r. ⌜ r ≡ Labels.fromEnd (window (now (s .entry)) a n) i ⌝ }
-{
-    if n < i {
-        return 0;
-    }
-    byte(s, a + (n - i)) as usize
-}
-
-// The chain that a name of a key is on.
-pub(crate) fn chain_of(s: &[u8], a: usize, n: usize, k: usize) -> usize
-    requires { ⌜ (a < farthest) × InCell n × (k ≡ keyOf (window (now s) a n)) ⌝ }
+// The chain that a name is on, by its bytes from the last on.
+pub(crate) fn chain_of(s: &[u8], a: usize, n: usize) -> usize
+    requires { ⌜ (a < farthest) × InCell n ⌝ }
     ensures { λ r. ⌜ r ≡ chainOf (window (now (s .entry)) a n) ⌝ }
 {
-    let x = from_end(s, a, n, 1);
-    let y = from_end(s, a, n, 2);
-    let z = from_end(s, a, n, 3);
-    (k + x + 10 * y + 100 * z) % CHAINS
+    let mut i: usize = n;
+    let mut chain: usize = 0;
+    while 0 < i {
+        i -= 1;
+        chain = (37 * chain + byte(s, a + i) as usize) % CHAINS;
+    }
+    chain
 }
 
 // The label that is named, by its number and 1, if it is one of the first n and on this chain; else 0.

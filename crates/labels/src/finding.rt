@@ -75,7 +75,7 @@ pub fn find(
         ⌝ }
 {
     let wanted = key(line, start, size as u16);
-    let chain = chain_of(line, start, size, wanted);
+    let chain = chain_of(line, start, size);
     let mut found = count;
     // the last label of the chain first: the first of like ones is the last that is met
     let mut named = onward(keys, chain, count, cell(keys, LASTS_FROM + chain));

@@ -32,7 +32,7 @@ pub fn hold(
         ⌝ }
 {
     let k = key(line, start, size as u16);
-    let chain = chain_of(line, start, size, k);
+    let chain = chain_of(line, start, size);
     starts[count] = place;
     keys[count] = k as u16;
     keys[NUMBERS_FROM + count] = chain as u16;

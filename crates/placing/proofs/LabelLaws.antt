@@ -81,8 +81,7 @@ module _ (s starts keys line vs ms : List ℕ) (c : Counters) (n : Name) (k : �
   held = words s starts keys count
 
   held-long : length held ≡ count
-  held-long =
-      length-words s starts keys count (omega (arith, lent .fair .few, lent .starts-long)) (omega (arith, lent .fair .few, lent .keys-long))
+  held-long = length-words s starts keys count
 
   -- by the tests' answers
   pub label-by : {x y z : Bool} {i : ℕ} → ltb longestLabel (n .end - n .start) ≡ x → leb mostLabels count ≡ y

@@ -49,14 +49,14 @@ value-none w (x ∷ ws) (v ∷ vs) h = go (same x w) h (value-none w ws vs)
     go false l f = f (omega (arith, l))
 
 -- both, for the labels that two rows hold
-module _ (s xs ls vs w : List ℕ) (n k : ℕ) (hx : n ≤ length xs) (hl : n ≤ length ls) (e : k ≡ labelsBefore w (words s xs ls n)) where
+module _ (s xs ls vs w : List ℕ) (n k : ℕ) (e : k ≡ labelsBefore w (words s xs ls n)) where
   pub value-is : n ≤ length vs → k < n → valueOf (zipped (words s xs ls n) vs) w ≡ known (getD vs k 0)
   value-is hv h =
-      value-there w (words s xs ls n) vs (omega (arith, length-words s xs ls n hx hl, e, h)) (omega (arith, length-words s xs ls n hx hl, hv))
+      value-there w (words s xs ls n) vs (omega (arith, length-words s xs ls n, e, h)) (omega (arith, length-words s xs ls n, hv))
       ∙ ap (λ (j : ℕ). known (getD vs j 0)) (sym e)
 
   pub value-no : n ≤ k → valueOf (zipped (words s xs ls n) vs) w ≡ unknown
-  value-no h = value-none w (words s xs ls n) vs (omega (arith, length-words s xs ls n hx hl, e, h))
+  value-no h = value-none w (words s xs ls n) vs (omega (arith, length-words s xs ls n, e, h))
 
 -- ---- one label
 

@@ -7,13 +7,13 @@ use native.Mathlib.Omega.{arith}
 use lib.Dec.{ltb, leb}
 use lib.ListN.{length, drop, length-drop}
 use lib.Seq.{take-all}
-use Rattle.codes.specs.Limits.{mostCells, mostLabels}
+use Rattle.codes.specs.Limits.{mostCells}
 use Rattle.sources.specs.Placing.{Place, boundTo, boundAll, bindings}
 use Rattle.sources.specs.Order.{_on_}
 use Rattle.sources.specs.Inner.Assembling.{Verdict, passes, refused, firstOf, andThen, Work, endVerdict}
 use Rattle.sources.specs.declared.Gives.the-variants.{Start}
 use Rattle.sources.specs.declared.Line.{Line}
-use Rattle.labels.specs.Inner.Labels.{words, zipped, keyCells}
+use Rattle.labels.specs.Inner.Labels.{words, zipped}
 use Rattle.labels.proofs.Laws.{length-words}
 use Rattle.placing.specs.Inner.State.{stateOf, Fair, BindsFine}
 use Rattle.placing.specs.declared.Counters.{Counters}
@@ -34,8 +34,7 @@ pub refused-early : (v : Verdict) (w : Work) (n : ℕ) (of : Counters → ℕ �
 refused-early v w n of q h = subst (Says v w n of) q h
 
 module _ (s starts keys vs ms memory row aways : List ℕ) (v : Verdict) (w : Work) (n : ℕ) {r : Lines} {c : Counters} {named : ℕ} {l : Line}
-    (q : r ≡ L.Passes c named l) (h : Says v w n (workIn s starts keys vs ms memory row aways) r) (ls : length starts ≡ mostLabels)
-    (ll : length keys ≡ keyCells) where
+    (q : r ≡ L.Passes c named l) (h : Says v w n (workIn s starts keys vs ms memory row aways) r) where
   told : Says v w n (workIn s starts keys vs ms memory row aways) (L.Passes c named l)
   told = subst (Says v w n (workIn s starts keys vs ms memory row aways)) q h
 
@@ -46,7 +45,7 @@ module _ (s starts keys vs ms memory row aways : List ℕ) (v : Verdict) (w : Wo
   held = words s starts keys (c .bound + c .waiting)
 
   all-there : length held ≡ c .bound + c .waiting
-  all-there = length-words s starts keys (c .bound + c .waiting) (omega (arith, told .3 .few, ls)) (omega (arith, told .3 .few, ll))
+  all-there = length-words s starts keys (c .bound + c .waiting)
 
   end-by : {b : Bool} → b ≡ (ltb 0 (c .waiting) && leb mostCells (c .at .0)) → endVerdict n (w .place) ≡ cond b (refused (6 on n)) passes
   unfolding endVerdict firstOf

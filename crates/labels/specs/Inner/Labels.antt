@@ -30,18 +30,15 @@ unfoldable pub wordBy : List ℕ → ℕ → ℕ → List ℕ
 wordBy s a zero = []
 wordBy s a (suc k) = k % 256 ∷ window s (a + 1) (k / 256)
 
--- ---- chains: the labels of like key and ending are reached without passing the others
-
--- a word's byte so many from its end; 0 if it is shorter
-abbrev pub fromEnd : List ℕ → ℕ → ℕ
-fromEnd w i = cond (ltb (length w) i) 0 (getD w (length w - i) 0)
+-- ---- chains: a label is reached without passing those on other chains
 
 abbrev pub chains : ℕ
-chains = 1024
+chains = 2 * mostLabels
 
--- the chain that a word is on: any number of the word would do; this one parts names that differ in their first or last bytes
+-- the chain that a word is on, by all its bytes: any number of the word would do, and one that parts names wherever they differ is quick
 unfoldable pub chainOf : List ℕ → ℕ
-chainOf w = (keyOf w + fromEnd w 1 + 10 * fromEnd w 2 + 100 * fromEnd w 3) % chains
+chainOf [] = 0
+chainOf (b ∷ w) = (37 * chainOf w + b) % chains
 
 -- behind the keys stand, for each label, its chain and the label before it there, then, for each chain, its last label. A label is named
 -- by its number and 1; 0 names none.

@@ -21,7 +21,7 @@ returns c =
     let M = length (a .marks .now) in
     let place = placeIn (a .s .now) (a .starts .now) (a .keys .now) (a .values .now) (a .marks .now) (a .c) in
     let n = a .c .bound + a .c .waiting in
-    let long = length-words (a .s .now) (a .starts .now) (a .keys .now) n (omega (arith, p .0 .few, p .1 .starts-long)) (omega (arith, p .0 .few, p .1 .keys-long)) in (
+    let long = length-words (a .s .now) (a .starts .now) (a .keys .now) n in (
       e .ensures .0,
       λ k. as-read M k place (a .line .now) (placeIn (a .s .now) (a .starts .now) (a .keys .now) (e .last .0) (e .last .1 .0)) (e .result) (p .3)
           (absent-placed M k (a .s .now) (a .starts .now) (a .keys .now) (a .starts .now) (a .keys .now) (a .values .now) (a .marks .now)

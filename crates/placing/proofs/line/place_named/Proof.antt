@@ -66,8 +66,7 @@ returns-2 c =
     let fair = subst FairDid (g .1) (d .ensures .0) in
     let n = g .0 .0 .bound + g .0 .0 .waiting in
     let e = placed .place-statement in
-    let long = length-words (a .s .now) starts keys n (omega (arith, fair .few, p .1 .starts-long, d .kept .1 .1 .1 .0))
-    (omega (arith, fair .few, p .1 .keys-long, d .kept .1 .1 .1 .1 .0)) in (
+    let long = length-words (a .s .now) starts keys n in (
       e .ensures .0,
       λ k. as-read (length (a .marks .now)) k place (a .line .now) (placeIn (a .s .now) starts keys (e .last .0) (e .last .1 .0)) (e .result) (p .3)
           (named-placed (length (a .marks .now)) k (a .s .now) (a .starts .now) (a .keys .now) starts keys (a .values .now) (a .marks .now)

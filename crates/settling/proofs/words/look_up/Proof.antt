@@ -11,14 +11,14 @@ returns c =
     let e = c .before .before .before .before .before .before .before in
     let a = e .args in
     value-is (a .s .now) (a .starts .now) (a .keys .now) (a .values .now) (window (a .s .now) (a .start) (a .size)) (a .count) (c .before .before .find .result)
-    (e .pre .2 .starts-reach) (e .pre .2 .keys-reach) (c .before .before .find .ensures) (e .pre .2 .values-reach) (c .before .if1 .taken)
+    (c .before .before .find .ensures) (e .pre .2 .values-reach) (c .before .if1 .taken)
 
 returns-2 : tie.Need-returns-2
 returns-2 c =
     let e = c .before .before .before .before .before .before in
     let a = e .args in (
       value-no (a .s .now) (a .starts .now) (a .keys .now) (a .values .now) (window (a .s .now) (a .start) (a .size)) (a .count) (c .before .find .result)
-          (e .pre .2 .starts-reach) (e .pre .2 .keys-reach) (c .before .find .ensures) (c .if1 .left),
+          (c .before .find .ensures) (c .if1 .left),
       refl,
     )
 

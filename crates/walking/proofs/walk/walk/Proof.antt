@@ -29,9 +29,7 @@ returns c =
     let w = workOf m s in
     let n = lastLine s in
     let d = did .c .given in
-    let h₁ = l .kept .1 .0 ∙ start .pre .rows .starts-long in
-    let h₂ = l .kept .1 .1 .0 ∙ start .pre .rows .keys-long in
-    refused-late s starts keys values marks cells row aways v w n (d .1) (l .ensures) h₁ h₂ (c .before .is-late .ensures)
+    refused-late s starts keys values marks cells row aways v w n (d .1) (l .ensures) (c .before .is-late .ensures)
     (c .if1 .taken)
 
 bind-here-requires : tie.Need-bind-here-requires
@@ -55,12 +53,10 @@ bind-here-requires c κs =
     let v = linesVerdict m s in
     let w = workOf m s in
     let n = lastLine s in
-    let d = did .c .given in
-    let h₁ = l .kept .1 .0 ∙ start .pre .rows .starts-long in
-    let h₂ = l .kept .1 .1 .0 ∙ start .pre .rows .keys-long in (
-      still-fair s starts keys values marks cells row aways v w n (d .1) (l .ensures) h₁ h₂,
+    let d = did .c .given in (
+      still-fair s starts keys values marks cells row aways v w n (d .1) (l .ensures),
       l .kept .1 .1 .1 .0 ∙ start .pre .rows .values-long,
-      binds-at-end s starts keys values marks cells row aways v w n (d .1) (l .ensures) h₁ h₂ (late .is-late .ensures)
+      binds-at-end s starts keys values marks cells row aways v w n (d .1) (l .ensures) (late .is-late .ensures)
           (c .before .if1 .left),
     )
 
@@ -107,12 +103,10 @@ returns-3 c =
     let v = linesVerdict m s in
     let w = workOf m s in
     let n = lastLine s in
-    let d = did .c .given in
-    let h₁ = l .kept .1 .0 ∙ start .pre .rows .starts-long in
-    let h₂ = l .kept .1 .1 .0 ∙ start .pre .rows .keys-long in (
-      passes-end s starts keys values marks cells row aways v w n (d .1) (l .ensures) h₁ h₂ (late .is-late .ensures)
+    let d = did .c .given in (
+      passes-end s starts keys values marks cells row aways v w n (d .1) (l .ensures) (late .is-late .ensures)
           (c .before .before .before .before .if1 .left),
-      all-held s starts keys values marks cells row aways v w n (d .1) (l .ensures) h₁ h₂ (q .last .0) (q .result) (q .ensures .2)
+      all-held s starts keys values marks cells row aways v w n (d .1) (l .ensures) (q .last .0) (q .result) (q .ensures .2)
           (q .ensures .3),
     )
 
