@@ -126,14 +126,18 @@ chain-small [] = omega arith
 chain-small (b ∷ w) = omega arith
 
 -- the chain of no byte, and of one byte more in front
-module _ (s : List ℕ) (a i n : ℕ) where
+module _ (s : List ℕ) (a n i : ℕ) where
   pub chain-none : i ≡ n → 0 ≡ chainOf (window s (a + i) (n - i))
   unfolding chainOf window
   chain-none e = let q : n - i ≡ 0 = omega (arith, e) in rw q
 
-  pub chain-more : i < n → (37 * chainOf (window s (a + (i + 1)) (n - (i + 1))) + getD s (a + i) 0) % chains ≡ chainOf (window s (a + i) (n - i))
+  pub chain-more : 0 < i → i ≤ n
+      → (37 * chainOf (window s (a + i) (n - i)) + getD s (a + (i - 1)) 0) % chains ≡ chainOf (window s (a + (i - 1)) (n - (i - 1)))
   unfolding chainOf
-  chain-more h = rw (window-cons s a i n h)
+  chain-more z h =
+      let e : i ≡ i - 1 + 1 = omega (arith, z) in
+      ap (λ (j : ℕ). (37 * chainOf (window s (a + j) (n - j)) + getD s (a + (i - 1)) 0) % chains) e
+      ∙ ap chainOf (sym (window-cons s a (i - 1) n (omega (arith, z, h))))
 
 -- ---- the next label of a chain
 
