@@ -1,11 +1,11 @@
 -- The columns as functions of a line, which is read once more; `proofs/Top.antt` shows that they are those of Points.antt.
-use Prim.Native.Nat.{ℕ, zero, suc, _+_}
-use mathlib.Core.Bool.{cond}
+use Prim.Native.Nat.{ℕ, zero, suc, _+_, _-_}
+use mathlib.Core.Bool.{Bool, cond, _||_}
 use mathlib.Core.List.{List, [], _∷_}
-use lib.Dec.{eqb, leb, ltb}
+use lib.Dec.{eqb, leb}
 use lib.ListN.{length, getD}
 use Rattle.tokens.specs.Bytes.{isBlank}
-use Rattle.tokens.specs.Reading.{tokensFrom}
+use Rattle.tokens.specs.Reading.{tokensFrom, linesOf}
 use Rattle.tokens.specs.declared.Token.{Token}
 use Rattle.names.specs.Names.{wordOf}
 use Rattle.names.specs.declared.Word.{Word}
@@ -20,9 +20,12 @@ use Rattle.items.specs.Places as Items
 use Rattle.statements.specs.Reading.{isWord, labelRead, afterLabel, lineRead}
 use Rattle.statements.specs.declared.Failure.{Failure}
 use Rattle.statements.specs.declared.Failure.the-variants.{UnknownWord, WrongForm, WrongCount, WrongKind, TooDeep, OutOfRange, ByZero, ResultOut}
+use Rattle.statements.specs.declared.Statement.{Statement}
+use Rattle.statements.specs.declared.Statement.the-variants.{Nothing, Instruction, Org, Equ, Res, Data, End}
 use Rattle.statements.specs.declared.StatementRead.{StatementRead}
 use Rattle.statements.specs.declared.StatementRead.the-variants.{Passes, Fails}
 use Rattle.faults.specs.Walk.{place}
+use Rattle.columns.specs.Points.{operandOf}
 use Rattle.columns.specs.declared.Pointed.{Pointed}
 
 -- ---- places and columns
@@ -86,45 +89,62 @@ module _ (line : List ℕ) where
 
 -- ---- what is pointed at
 
--- "Split refusal 5 into 15, wrong number of operands, and 16, kind not allowed"
-abbrev pub numberOf : Failure → ℕ
-numberOf UnknownWord = 4
-numberOf WrongForm = 3
-numberOf WrongCount = 15
-numberOf (WrongKind i) = 16
-numberOf TooDeep = 8
-numberOf OutOfRange = 6
-numberOf ByZero = 7
-numberOf ResultOut = 6
-
--- "the latter with the operand's place, 1 or 2"
-abbrev pub operandOf : Failure → ℕ
-operandOf UnknownWord = 0
-operandOf WrongForm = 0
-operandOf WrongCount = 0
-operandOf (WrongKind i) = i
-operandOf TooDeep = 0
-operandOf OutOfRange = 0
-operandOf ByZero = 0
-operandOf ResultOut = 0
-
-abbrev pub pointedAt : ℕ → ℕ → ℕ → Pointed
-pointedAt number column operand = record { number = number; column = record { 0 = column }; place = operand }
+abbrev pub pointedAt : ℕ → ℕ → Pointed
+pointedAt column operand = record { column = record { 0 = column }; place = operand }
 
 -- a line that passes its own checks was refused for its label's address or for what RES moves to: "the statement's word .. for a result
 -- or label address in 6"
-abbrev pub againBy : List ℕ → ℕ → StatementRead → Pointed
-againBy line number (Passes s) = pointedAt number (wordColumn line) 0
-againBy line number (Fails why) = pointedAt (numberOf why) (columnOf line why) (operandOf why)
+abbrev pub againBy : List ℕ → StatementRead → Pointed
+againBy line (Passes s) = pointedAt (wordColumn line) 0
+againBy line (Fails why) = pointedAt (columnOf line why) (operandOf why)
 
-unfoldable pub readAgain : List ℕ → ℕ → Pointed
-readAgain line number = againBy line number (lineRead line .statement)
+unfoldable pub readAgain : List ℕ → Pointed
+readAgain line = againBy line (lineRead line .statement)
 
--- "the label in 9, 10"; "the statement's word in 11, 12"; 13 and 14 are found with the operand's name, and "1 and 2 have column 0"
+-- "the label in 9, 10"; "the statement's word in 11, 12"; any other number is told by the line's own checks
 unfoldable pub pointed : List ℕ → ℕ → Pointed
 pointed line number =
-    cond (ltb number 3) (pointedAt number 0 0)
-    (cond (ltb number 9) (readAgain line number)
-    (cond (ltb number 11) (pointedAt number (labelColumn line) 0)
-    (cond (ltb number 13) (pointedAt number (wordColumn line) 0)
-    (pointedAt number 0 0))))
+    cond (eqb number 9 || eqb number 10) (pointedAt (labelColumn line) 0)
+    (cond (eqb number 11 || eqb number 12) (pointedAt (wordColumn line) 0)
+    (readAgain line))
+
+-- ---- 13 and 14
+
+-- the label that the first operand names, or the second one's where the first names none or the second is asked for
+abbrev pub nameBy : LabelIn → LabelIn → Bool → LabelIn
+nameBy Absent b second = b
+nameBy (Named n) b second = cond second b (Named n)
+
+-- "the label in .. 13", "the operand in 14"
+abbrev pub nameColumnAt : List ℕ → ℕ → LabelIn → ℕ
+nameColumnAt line number Absent = 0
+nameColumnAt line number (Named n) = cond (eqb number 14) (columnAt line (markBefore line (n .start))) (columnAt line (n .start))
+
+abbrev pub nameColumnIn : List ℕ → ℕ → Bool → Statement → ℕ
+nameColumnIn line number second Nothing = 0
+nameColumnIn line number second (Instruction op a b) = nameColumnAt line number (nameBy (a .label) (b .label) second)
+nameColumnIn line number second (Org v) = 0
+nameColumnIn line number second (Equ v) = 0
+nameColumnIn line number second (Res v) = 0
+nameColumnIn line number second (Data n) = 0
+nameColumnIn line number second End = 0
+
+abbrev pub nameColumnBy : List ℕ → ℕ → Bool → StatementRead → ℕ
+nameColumnBy line number second (Passes s) = nameColumnIn line number second s
+nameColumnBy line number second (Fails why) = 0
+
+-- of a line that passes, whose first or second name in operands is refused with a number
+unfoldable pub nameColumn : List ℕ → ℕ → Bool → ℕ
+nameColumn line number second = nameColumnBy line number second (lineRead line .statement)
+
+-- ---- the line of a number
+
+-- the line behind so many of some lines; none has no byte
+unfoldable pub lineAfter : List (List ℕ) → ℕ → List ℕ
+lineAfter [] i = []
+lineAfter (b ∷ bs) zero = b
+lineAfter (b ∷ bs) (suc i) = lineAfter bs i
+
+-- lines are counted from 1
+abbrev pub lineNumbered : List ℕ → ℕ → List ℕ
+lineNumbered source k = lineAfter (linesOf source) (k - 1)

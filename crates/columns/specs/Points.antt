@@ -2,6 +2,7 @@
 -- rules of writing.
 use Prim.Native.Nat.{ℕ, _+_}
 use mathlib.Core.List.{List, _∷_}
+use mathlib.Core.Logic.{_⊎_}
 use mathlib.Core.Path.{_≡_}
 use Rattle.isa.specs.declared.Opcode.{Opcode}
 use Rattle.tokens.specs.Rows.{RowOf}
@@ -14,7 +15,10 @@ use Rattle.expressions.specs.declared.Found.the-variants as E
 use Rattle.operands.specs.Places as Operands
 use Rattle.operands.specs.Places.{OperandStart}
 use Rattle.items.specs.Places as Items
-use Rattle.statements.specs.Statements.{Label, StatementWord}
+use Rattle.statements.specs.Statements.{Label, Labelled, StatementWord}
+use Rattle.statements.specs.FirstFailing.{Pass, First}
+use Rattle.statements.specs.Checks.{failures}
+use Rattle.statements.specs.Judging.{numberOf}
 use Rattle.statements.specs.declared.Failure.{Failure}
 use Rattle.statements.specs.declared.Failure.the-variants.{UnknownWord, WrongForm, WrongCount, WrongKind, TooDeep, OutOfRange, ByZero, ResultOut}
 use Rattle.faults.specs.Faults.{Column}
@@ -65,3 +69,28 @@ module _ (line : List ℕ) where
     operand-out : {w : Token} {op : Opcode} {ts : List Token} {p : ℕ} → Statement line w (W.Instructs op) ts → Operands.NumberOut line ts p
         → Points OutOfRange (p + 1)
     item-out : {w : Token} {ts : List Token} {p : ℕ} → Statement line w W.Data ts → Items.FirstOut line ts p → Points OutOfRange (p + 1)
+
+-- ---- a line's refusal, by its number
+
+-- "16, kind not allowed, the latter with the operand's place, 1 or 2"; 0 beside any other
+abbrev pub operandOf : Failure → ℕ
+operandOf UnknownWord = 0
+operandOf WrongForm = 0
+operandOf WrongCount = 0
+operandOf (WrongKind place) = place
+operandOf TooDeep = 0
+operandOf OutOfRange = 0
+operandOf ByZero = 0
+operandOf ResultOut = 0
+
+module _ (line : List ℕ) where
+  -- the line is refused with a number: the column, and the operand's place
+  pub data PointsIn : ℕ → ℕ → ℕ → Type 0 where
+    -- "the label in 9, 10"
+    label : {number : ℕ} {n : Name} → (number ≡ 9) ⊎ (number ≡ 10) → Labelled line n → PointsIn number (n .start + 1) 0
+    -- the first of the line's own checks that fails
+    own : {why : Failure} {c : ℕ} → First (failures line) why → Points line why c → PointsIn (numberOf why) c (operandOf why)
+    -- they pass: "the statement's word in 11, 12 .. and for a .. label address in 6"
+    statement : {number : ℕ} {w : Token} {x : Word} {ts : List Token} → (number ≡ 6) ⊎ ((number ≡ 11) ⊎ (number ≡ 12)) → Pass (failures line)
+        → Statement line w x ts
+        → PointsIn number (w .start + 1) 0

@@ -2,7 +2,8 @@
 ghost use mathlib.Core.Path.{_≡_};
 ghost use Rattle.tokens.specs.Reading.{tokensFrom};
 ghost use Rattle.statements.specs.Inner.Parts.{begunBy};
-ghost use Rattle.columns.specs.Columns.{outPlace, placeBy, placeIn, columnOf, numberOf, operandOf, readAgain, pointedAt, pointed};
+ghost use Rattle.columns.specs.Columns.{outPlace, placeBy, placeIn, columnOf, readAgain, pointedAt, pointed};
+ghost use Rattle.columns.specs.Points.{operandOf};
 use super::Column;
 use super::Pointed;
 use super::own::column_at;
@@ -74,22 +75,6 @@ fn failure_column(line: &[u8], why: Failure) -> Column
     column_at(line, place_in(line, why, w))
 }
 
-// The number of a failure: for a source 5 is 15, a wrong count, or 16, a wrong kind.
-fn number_of(why: Failure) -> u8
-    ensures { λ r. ⌜ r ≡ numberOf why ⌝ }
-{
-    match why {
-        Failure::UnknownWord => 4,
-        Failure::WrongForm => 3,
-        Failure::WrongCount => 15,
-        Failure::WrongKind(_) => 16,
-        Failure::TooDeep => 8,
-        Failure::OutOfRange => 6,
-        Failure::ByZero => 7,
-        Failure::ResultOut => 6,
-    }
-}
-
 // The place of the operand that is wrong in kind.
 fn operand_of(why: Failure) -> u8
     ensures { λ r. ⌜ r ≡ operandOf why ⌝ }
@@ -106,46 +91,39 @@ fn operand_of(why: Failure) -> u8
     }
 }
 
-fn beside(number: u8, column: Column) -> Pointed
-    ensures { λ r. ⌜ r ≡ pointedAt number (column .0) 0 ⌝ }
+fn beside(column: Column) -> Pointed
+    ensures { λ r. ⌜ r ≡ pointedAt (column .0) 0 ⌝ }
 {
     Pointed {
-        number: number,
         column: column,
         place: 0,
     }
 }
 
 // By the line's reading: a line that passes its own checks was refused for an address.
-fn read_again(line: &[u8], number: u8) -> Pointed
-    ensures { λ r. ⌜ r ≡ readAgain (now (line .entry)) number ⌝ }
+fn read_again(line: &[u8]) -> Pointed
+    ensures { λ r. ⌜ r ≡ readAgain (now (line .entry)) ⌝ }
 {
     let read = read_line(line);
     let statement = read.statement;
     match statement {
-        StatementRead::Passes(_) => beside(number, word_column(line)),
+        StatementRead::Passes(_) => beside(word_column(line)),
         StatementRead::Fails(why) => Pointed {
-            number: number_of(why),
             column: failure_column(line, why),
             place: operand_of(why),
         },
     }
 }
 
+// What a line that is refused with a number points at.
 pub fn pointed(line: &[u8], number: u8) -> Pointed
     ensures { λ r. ⌜ r ≡ pointed (now (line .entry)) number ⌝ }
 {
-    if number < 3 {
-        return beside(number, Column(0));
+    if number == 9 || number == 10 {
+        return beside(label_column(line));
     }
-    if number < 9 {
-        return read_again(line, number);
+    if number == 11 || number == 12 {
+        return beside(word_column(line));
     }
-    if number < 11 {
-        return beside(number, label_column(line));
-    }
-    if number < 13 {
-        return beside(number, word_column(line));
-    }
-    beside(number, Column(0))
+    read_again(line)
 }

@@ -67,15 +67,6 @@ module _ (op : Opcode) (os : List Written) where
   unfolding fits
   fitting-kinds c k l = rw (c, k, l)
 
-  miscounted-unfit : rightCount op os ≡ false → fits op os ≡ false
-  unfolding fits
-  miscounted-unfit c = rw c
-
-  misfit-unfit : {place : ℕ} → rightCount op os ≡ true → FirstWrong op os place → fits op os ≡ false
-  unfolding fits
-  misfit-unfit c (first-wrong k) = rw (c, k)
-  misfit-unfit c (second-wrong k l) = rw (c, k, l)
-
   -- a right count leaves no third operand
   pub third-allowed : (i : ℕ) → rightCount op os ≡ true → kindAllowed op os (suc (suc i)) ≡ true
   unfolding allows
@@ -100,15 +91,6 @@ module _ (op : Opcode) (os : List Written) where
   unfolding judged
   judged-misfit c (first-wrong k) = rw (c, k)
   judged-misfit c (second-wrong k l) = rw (c, k, l)
-
-  judged-unfit : fits op os ≡ false → refusalOf (judged op os) ≡ 5
-  judged-unfit e = by-kinds (rightCount op os) (kindAllowed op os 0) (kindAllowed op os 1) refl refl refl
-    where
-      by-kinds : (c k l : Bool) → rightCount op os ≡ c → kindAllowed op os 0 ≡ k → kindAllowed op os 1 ≡ l → refusalOf (judged op os) ≡ 5
-      by-kinds true true true p q s = let f = fitting-kinds p q s in let z : _≡_ {A = ℕ} 0 1 = cc in absurd (omega arith)
-      by-kinds true true false p q s = ap refusalOf (judged-misfit p (second-wrong q s))
-      by-kinds true false l p q s = ap refusalOf (judged-misfit p (first-wrong q))
-      by-kinds false k l p q s = ap refusalOf (judged-miscounted p)
 
 -- ---- the five answers
 
@@ -155,11 +137,6 @@ module _ (line : List ℕ) (ts : List Token) where
       pub second-word : ℕ
       pub second-in-range : wordOf (operandAt operands 1) ≡ N.Cell second-word
       pub second-given : b ≡ given (operandAt operands 1) second-word
-
-    pub record Unfit : Type 0 where
-      pub operands : List Written
-      pub reading : OperandField line ts operands
-      pub not-fitting : fits op operands ≡ false
 
     pub record Miscounted : Type 0 where
       pub operands : List Written
@@ -230,8 +207,9 @@ module _ (line : List ℕ) (ts : List Token) where
     abbrev TellsBy : ℕ → Type 0
     TellsBy n =
         cond (eqb n 3) ((os : List Written) → OperandField line ts os → ⊥)
-        (cond (eqb n 5) Unfit
-        (cond (eqb n 6) Unranged ((a : Given) × (b : Given) × Accepted a b)))
+        (cond (eqb n 15) Miscounted
+        (cond (eqb n 16) ((place : ℕ) × Misfit place)
+        (cond (eqb n 6) Unranged ((a : Given) × (b : Given) × Accepted a b))))
 
     pub number-tells : {n : ℕ} → refusalOf (instructionRead line op ts) ≡ n → TellsBy n
     number-tells e = subst TellsBy e (go (instructionRead line op ts) (tells refl))
@@ -239,9 +217,8 @@ module _ (line : List ℕ) (ts : List Token) where
         go : (r : InstructionRead) → Tells r → TellsBy (refusalOf r)
         go (Read a b) h = (a, b, h)
         go WrongForm h = h
-        go WrongCount h = record { operands = h .operands; reading = h .reading; not-fitting = miscounted-unfit op (h .operands) (h .miscounted) }
-        go (WrongKind place) h =
-            record { operands = h .operands; reading = h .reading; not-fitting = misfit-unfit op (h .operands) (h .counted) (h .wrong-there) }
+        go WrongCount h = h
+        go (WrongKind place) h = (place, h)
         go OutOfRange h = h
 
     -- ---- and back
@@ -256,9 +233,6 @@ module _ (line : List ℕ) (ts : List Token) where
 
     pub misfit-back : {place : ℕ} → Misfit place → instructionRead line op ts ≡ WrongKind place
     misfit-back h = with-reading (reads-exactly .1 (h .reading)) ∙ judged-misfit op (h .operands) (h .counted) (h .wrong-there)
-
-    pub unfit-back : Unfit → refusalOf (instructionRead line op ts) ≡ 5
-    unfit-back h = ap refusalOf (with-reading (reads-exactly .1 (h .reading))) ∙ judged-unfit op (h .operands) (h .not-fitting)
 
     pub unranged-back : Unranged → instructionRead line op ts ≡ OutOfRange
     unranged-back h =

@@ -27,7 +27,7 @@ use Rattle.operands.specs.declared.InstructionRead.the-variants.{Read, W
 use Rattle.operands.specs.declared.Written.{Written}
 use Rattle.operands.proofs.Readings as Readings
 use Rattle.operands.proofs.Exactly as Exactly
-use Rattle.operands.proofs.Exactly.{Fits, Accepted, Unfit, Miscounted, Misfit, Unranged}
+use Rattle.operands.proofs.Exactly.{Fits, Accepted, Miscounted, Misfit, Unranged}
 use Rattle.operands.proofs.Settled as Settled
 use Rattle.operands.proofs.Encodes as Encodes
 use Rattle.operands.proofs.Within as Bounds
@@ -49,9 +49,9 @@ wrong-exactly = Exactly.no-reading
 pub one-reading : (line : List ℕ) {ts : List Token} {os os′ : List Written} → OperandField line ts os → OperandField line ts os′ → os ≡ os′
 one-reading = Readings.once
 
--- ---- the five answers of `instruction`, which thereby come in the order 3, 5 (count, first kind, second kind), 6
+-- ---- the five answers of `instruction`, which thereby come in the order 3, 15, 16 (first kind, second kind), 6
 
--- 5, "opcode's operand count, or kind not allowed": what it is to fit.
+-- "opcode's operand count, or kind not allowed": what it is to fit.
 pub fits-exactly : (op : Opcode) (os : List Written) → (fits op os ≡ true) ↔ Fits op os
 fits-exactly = Exactly.fits-exactly
 
@@ -73,17 +73,17 @@ module _ (line : List ℕ) (ts : List Token) (op : Opcode) where
   pub form-exactly : (refusalOf (instructionRead line op ts) ≡ 3) ↔ ((os : List Written) → OperandField line ts os → ⊥)
   form-exactly = (Exactly.number-tells line ts op, λ h. ap refusalOf (Exactly.form-back line ts op h))
 
-  -- 5: a reading that does not fit, whatever its numbers.
-  pub operands-exactly : (refusalOf (instructionRead line op ts) ≡ 5) ↔ Unfit line ts op
-  operands-exactly = (Exactly.number-tells line ts op, Exactly.unfit-back line ts op)
+  -- 15: "wrong number of operands" (02, K4), whatever their kinds and numbers.
+  pub count-exactly : (refusalOf (instructionRead line op ts) ≡ 15) ↔ Miscounted line ts op
+  count-exactly = (Exactly.number-tells line ts op, λ h. ap refusalOf (Exactly.miscounted-back line ts op h))
 
-  -- Which of 5 (02, K4): "wrong number of operands", whatever their kinds;
-  pub count-exactly : (instructionRead line op ts ≡ WrongCount) ↔ Miscounted line ts op
-  count-exactly = (Exactly.tells line ts op, Exactly.miscounted-back line ts op)
+  -- 16: "kind not allowed" (02, K4): the count is right, whatever the numbers;
+  pub kind-exactly : (refusalOf (instructionRead line op ts) ≡ 16) ↔ ((place : ℕ) × Misfit line ts op place)
+  kind-exactly = (Exactly.number-tells line ts op, λ h. ap refusalOf (Exactly.misfit-back line ts op (h .1)))
 
-  -- "kind not allowed, the latter with the operand's place, 1 or 2": the count is right, and "the first is named".
-  pub kind-exactly : {place : ℕ} → (instructionRead line op ts ≡ WrongKind place) ↔ Misfit line ts op place
-  kind-exactly = (Exactly.tells line ts op, Exactly.misfit-back line ts op)
+  -- "with the operand's place, 1 or 2", and "the first is named".
+  pub place-exactly : {place : ℕ} → (instructionRead line op ts ≡ WrongKind place) ↔ Misfit line ts op place
+  place-exactly = (Exactly.tells line ts op, Exactly.misfit-back line ts op)
 
   -- 6: a reading that fits, and a number out of its range.
   pub range-exactly : (refusalOf (instructionRead line op ts) ≡ 6) ↔ Unranged line ts op

@@ -124,11 +124,11 @@ judgedForm op wrong = WrongForm
 unfoldable pub instructionRead : List ℕ → Opcode → List Token → InstructionRead
 instructionRead line op ts = judgedForm op (operandsOf line ts)
 
--- the paper's number for each answer: 0 where the operands pass, 3 "form, unknown registers included", 5 "opcode's operand count, or
--- kind not allowed", 6 "number .. out of range"
+-- the paper's number for each answer: 0 where the operands pass, 3 "form, unknown registers included", "15, wrong number of operands,
+-- and 16, kind not allowed" (02, K4), 6 "number .. out of range"
 abbrev pub refusalOf : InstructionRead → ℕ
 refusalOf (Read a b) = 0
 refusalOf WrongForm = 3
-refusalOf WrongCount = 5
-refusalOf (WrongKind place) = 5
+refusalOf WrongCount = 15
+refusalOf (WrongKind place) = 16
 refusalOf OutOfRange = 6

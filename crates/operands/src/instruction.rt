@@ -43,7 +43,7 @@ fn in_range(a: Written, b: Written) -> InstructionRead
     }
 }
 
-// Number before kinds (5), the first operand's before the second's, and kinds before ranges (6).
+// Number (15) before kinds (16), the first operand's before the second's, and kinds before ranges (6).
 fn judge(op: Opcode, all: FirstTwo) -> InstructionRead
     ensures { λ r. ⌜ r ≡ judgedListed op all ⌝ }
 {

@@ -30,7 +30,7 @@ pub struct Given {
     pub label: LabelIn,
 }
 
-// What the tokens after an opcode are: its operands, or refusal 3, 5 or 6. A wrong kind names the operand's place, 1 or 2.
+// What the tokens after an opcode are: its operands, or refusal 3, 15, 16 or 6. A wrong kind names the operand's place, 1 or 2.
 pub enum InstructionRead {
     Read(Given, Given),
     WrongForm,

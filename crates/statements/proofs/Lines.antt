@@ -160,7 +160,7 @@ module _ (line : List ℕ) where
 
   -- of the line's reading
   abbrev numbered : List (Check ℕ)
-  numbered = check 5 (OfReading line WrongCount) ∷ check 5 (OfReading line WrongKind) ∷ behindKinds
+  numbered = check 15 (OfReading line WrongCount) ∷ check 16 (OfReading line WrongKind) ∷ behindKinds
 
   -- the two checks of kinds are one
   kinds-are : OfReading line WrongKind → OfReading line (WrongKindAt 0) ⊎ OfReading line (WrongKindAt 1)
@@ -178,7 +178,7 @@ module _ (line : List ℕ) where
   joined n (inl f) = inl f
   joined n (inr (u, inl f)) = inr (u, inl f)
   joined n (inr (u, inr (w, inl f))) = inr (u, inr (w, inl f))
-  joined n (inr (u, inr (w, inr (c, h)))) = inr (u, inr (w, inr (c, first-joined 5 kinds-are behindKinds (kind-is 0) (kind-is 1) n h)))
+  joined n (inr (u, inr (w, inr (c, h)))) = inr (u, inr (w, inr (c, first-joined 16 kinds-are behindKinds (kind-is 0) (kind-is 1) n h)))
 
   first-number : (f : Failure) → First (failures line) f → First (checks line) (numberOf f)
   first-number f h = joined (numberOf f) (first-answered numberOf (failures line) f h)
@@ -187,7 +187,7 @@ module _ (line : List ℕ) where
   unfolding checks failures Pass
   pass-numbers p =
       let q = pass-answered numberOf (failures line) p in
-      (q .0, (q .1 .0, (q .1 .1 .0, pass-joined 5 kinds-are behindKinds (q .1 .1 .1))))
+      (q .0, (q .1 .0, (q .1 .1 .0, pass-joined 16 kinds-are behindKinds (q .1 .1 .1))))
 
   pub refused-exactly : (n : ℕ) → ((f : Failure) × (lineRead line .statement ≡ Fails f) × (numberOf f ≡ n)) ↔ First (checks line) n
   refused-exactly n = (λ h. subst (First (checks line)) (h .2) (first-number (h .0) (fails-exactly (h .0) .0 (h .1))), λ f. back f outcome)

@@ -1,5 +1,5 @@
 -- The checks of a line by itself, each a statement of its own with its number beside it, in the paper's order (01, "Refusing a
--- source": "word 4; form 3; 5; 8; 6 or 7 in order of evaluation (left, right, operation); then the statement's result"; 5 in two, 02, K4).
+-- source": "word 4; form 3; 5; 8; 6 or 7 in order of evaluation (left, right, operation); then the statement's result"; "15 comes before 16 in its old place", 5's: 02, K4).
 use Prim.Native.Nat.{ℕ, _<_}
 use mathlib.Core.Bool.{Bool, true, false, _&&_}
 use mathlib.Core.List.{List, [], _∷_}
@@ -99,8 +99,8 @@ module _ (line : List ℕ) where
   checks =
       check 4 (UnknownWord line)
       ∷ check 3 (NoReading line)
-      ∷ check 5 (OfReading WrongCount)
-      ∷ check 5 (OfReading WrongKind)
+      ∷ check 15 (OfReading WrongCount)
+      ∷ check 16 (OfReading WrongKind)
       ∷ check 8 (OfReading TooDeep)
       ∷ check 6 (OfReading NumberOut)
       ∷ check 7 (OfReading ZeroDivisor)

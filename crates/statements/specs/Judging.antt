@@ -31,8 +31,8 @@ use Rattle.statements.specs.declared.StatementRead.the-variants.{Passes,
 abbrev pub numberOf : Failure → ℕ
 numberOf UnknownWord = 4
 numberOf WrongForm = 3
-numberOf WrongCount = 5
-numberOf (WrongKind place) = 5
+numberOf WrongCount = 15
+numberOf (WrongKind place) = 16
 numberOf TooDeep = 8
 numberOf OutOfRange = 6
 numberOf ByZero = 7
@@ -56,7 +56,7 @@ worthResult least says E.ByZero = Fails ByZero
 unfoldable pub treeResult : ℤ → (ℕ → Statement) → Tree → StatementRead
 treeResult least says e = cond (leb (depth e) deepest) (worthResult least says (worthOf e)) (Fails TooDeep)
 
--- ---- an opcode's operands: 5, then 6
+-- ---- an opcode's operands: 15, 16, then 6
 
 abbrev pub instructionResult : Opcode → InstructionRead → StatementRead
 instructionResult op (I.Read a b) = Passes (Instruction op a b)

@@ -22,7 +22,7 @@ pub enum Statement {
     End,
 }
 
-// A check of a line that fails: refusal 4, 3, 5, 8, 6 or 7. A wrong kind names the operand's place, 1 or 2; out of range is a number or
+// A check of a line that fails: refusal 4, 3, 15, 16, 8, 6 or 7. A wrong kind names the operand's place, 1 or 2; out of range is a number or
 // an operation, or else the statement's result.
 pub enum Failure {
     UnknownWord,
