@@ -1,4 +1,4 @@
--- A refusal's number is one of 1 to 14.
+-- A refusal's number is one of 1 to 16.
 use Prim.Native.Nat.{ℕ, _+_, _≤_}
 use mathlib.Core.List.{List, [], _∷_, _++_, map}
 use mathlib.Core.Logic.{inl, inr}
@@ -17,7 +17,7 @@ OfLoans why = (1 ≤ why .number) × (why .number ≤ 2) × (why .line ≡ 0)
 
 -- of a line
 abbrev pub OfLine : Refusal → Type 0
-OfLine why = (3 ≤ why .number) × (why .number ≤ 14)
+OfLine why = (3 ≤ why .number) × (why .number ≤ 16)
 
 -- each answer of a list is such a one
 unfoldable pub Each : (Refusal → Type 0) → List (Check Refusal) → Type 0
@@ -55,8 +55,8 @@ late-such p xs =
     joined OfLine (endChecks (length xs) p) (useChecks (bindings p) (usesOf 1 0 (map judgedLine xs))) ((omega arith, omega arith), tt)
     (of-uses (bindings p) (usesOf 1 0 (map judgedLine xs)))
 
--- 1 to 14, and never 0
-pub refusal-numbered : {M N : ℕ} {source : List ℕ} {why : Refusal} → FirstFailing M N source why → (1 ≤ why .number) × (why .number ≤ 14)
+-- 1 to 16, and never 0
+pub refusal-numbered : {M N : ℕ} {source : List ℕ} {why : Refusal} → FirstFailing M N source why → (1 ≤ why .number) × (why .number ≤ 16)
 refusal-numbered {M} {N} {source} (of-loans f) =
     let h = first-such OfLoans (loanChecks M N source) (loans-such M N source) f in
     (h .0, omega (arith, h .1))

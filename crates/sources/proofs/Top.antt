@@ -175,8 +175,8 @@ module _ (M N : ℕ) (source : List ℕ) where
       → cellsMarked reservedMark marks ≡ cellsOfMark reservedMark (blocks M (a .reading))
   reserved-counted a = Counts.reserved-cells a
 
--- A refusal's number is one of 1 to 14, and never 0.
-pub refusal-numbered : {M N : ℕ} {source : List ℕ} {why : Refusal} → FirstFailing M N source why → (1 ≤ why .number) × (why .number ≤ 14)
+-- A refusal's number is one of 1 to 16, and never 0.
+pub refusal-numbered : {M N : ℕ} {source : List ℕ} {why : Refusal} → FirstFailing M N source why → (1 ≤ why .number) × (why .number ≤ 16)
 refusal-numbered = Numbers.refusal-numbered
 
 -- An accepted image depends on source and M alone: the map's length is M, and what memory and map held plays no part.
