@@ -17,6 +17,7 @@ pub mod Small
 pub mod Counts
 pub mod Below
 pub mod Numbers
+pub mod BeforeK4
 pub mod Edges
 pub mod Spacing
 pub mod CommentLines

@@ -24,13 +24,13 @@ unfoldable pub Each : (Refusal → Type 0) → List (Check Refusal) → Type 0
 Each P [] = Unit {0}
 Each P (c ∷ cs) = P (c .answer) × Each P cs
 
-first-such : (P : Refusal → Type 0) (cs : List (Check Refusal)) {why : Refusal} → Each P cs → First cs why → P why
+pub first-such : (P : Refusal → Type 0) (cs : List (Check Refusal)) {why : Refusal} → Each P cs → First cs why → P why
 unfolding Each First
 first-such P [] h f = absurd f
 first-such P (c ∷ cs) h (inl f) = subst P (f .1) (h .0)
 first-such P (c ∷ cs) h (inr f) = first-such P cs (h .1) (f .1)
 
-joined : (P : Refusal → Type 0) (cs ds : List (Check Refusal)) → Each P cs → Each P ds → Each P (cs ++ ds)
+pub joined : (P : Refusal → Type 0) (cs ds : List (Check Refusal)) → Each P cs → Each P ds → Each P (cs ++ ds)
 unfolding Each
 joined P [] ds h g = g
 joined P (c ∷ cs) ds h g = (h .0, joined P cs ds (h .1) g)

@@ -17,8 +17,9 @@ use Rattle.statements.proofs.Labelling.{never}
 use Rattle.codes.specs.Limits.{longestSource}
 use Rattle.codes.specs.Marks.{free, codeMark, dataMark, reservedMark}
 use Rattle.sources.specs.Sources.{Said, SourceText}
-use Rattle.sources.specs.Placing.{Judged, judgedLine}
-use Rattle.sources.specs.Order.{Refusal, loanChecks, FirstFailing, Passing}
+use Rattle.sources.specs.Placing.{Place, Judged, judgedLine}
+use Rattle.sources.specs.Order.{Refusal, loanChecks, Passed, FirstFailing, Passing}
+use Rattle.sources.specs.BeforeK4.{before, PassedBefore, FirstBefore}
 use Rattle.sources.specs.Image.{blocks, Apart, Image, Accepted, cellsMarked}
 use Rattle.sources.specs.Inner.Assembling.{Verdict, passes, refused, startWork, workAfter, linesRead, verdictOf, memoryOf}
 use Rattle.sources.specs.Inner.Assembling.{Assembled, accepted, refuses, assembledBy, assembleOf}
@@ -34,6 +35,7 @@ use Rattle.sources.proofs.Counts as Counts
 use Rattle.sources.proofs.Counts.{cellsOfMark}
 use Rattle.sources.proofs.Below as Below
 use Rattle.sources.proofs.Numbers as Numbers
+use Rattle.sources.proofs.BeforeK4 as BeforeK4
 use Rattle.sources.proofs.Comments as Comments
 use Rattle.sources.proofs.Spacing as Spacing
 use Rattle.sources.proofs.Spacing.{SameLines}
@@ -178,6 +180,17 @@ module _ (M N : ℕ) (source : List ℕ) where
 -- A refusal's number is one of 1 to 16, and never 0.
 pub refusal-numbered : {M N : ℕ} {source : List ℕ} {why : Refusal} → FirstFailing M N source why → (1 ≤ why .number) × (why .number ≤ 16)
 refusal-numbered = Numbers.refusal-numbered
+
+-- ".. for a source 5 goes" (02, K4), and nothing else: with 15 and 16 read as 5, each refusal is the one of before, and back;
+pub as-before : {M N : ℕ} {source : List ℕ} {why : Refusal} → FirstFailing M N source why → FirstBefore M N source (before why)
+as-before = BeforeK4.as-before
+
+pub before-back : {M N : ℕ} {source : List ℕ} {old : Refusal} → FirstBefore M N source old → (why : Refusal) × FirstFailing M N source why × (before why ≡ old)
+before-back = BeforeK4.before-back
+
+-- and the lines that pass are the same, so that the sources accepted are.
+pub passed-before : (M k : ℕ) (p : Place) (xs : List Said) → Passed M k p xs ↔ PassedBefore M k p xs
+passed-before = BeforeK4.passed-before
 
 -- An accepted image depends on source and M alone: the map's length is M, and what memory and map held plays no part.
 pub source-and-M-alone : {M N N′ : ℕ} {source m k m′ k′ : List ℕ} → Accepted M N source m k → Accepted M N′ source m′ k′ → (m ≡ m′) × (k ≡ k′)

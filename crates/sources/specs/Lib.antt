@@ -8,4 +8,5 @@ pub mod Uses
 pub mod Order
 pub mod Pointing
 pub mod Image
+pub mod BeforeK4
 pub mod Inner
