@@ -93,7 +93,7 @@ fn settle_and_accept(
         ⌝ }
 {
     match settle(s, starts, keys, values, labels, row, aways, uses, cells) {
-        Settled::Refused(f, l) => {
+        Settled::Refused(f, l, _) => {
             return refused(f, l);
         }
         Settled::Done => {
