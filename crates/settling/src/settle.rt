@@ -27,8 +27,7 @@ pub fn settle(
         ⌝ }
 {
     let mut i: usize = 0;
-    // the line of the label before
-    let mut before: usize = 0;
+    let mut before: usize = 0; // the line of the label before
     while i < uses {
         let base = 4 * i;
         let start = row[base] as usize;
