@@ -22,7 +22,7 @@ const USAGE: &str = "usage:
   second bench LABELS > source
       LABELS: 20 500
   second bench NAMES LABELS > source
-      NAMES: alike mixed; LABELS: 1 to 512
+      NAMES: alike middle mixed; LABELS: 1 to 512
   second speed [WORK]
   second speed source FILE..
 ";

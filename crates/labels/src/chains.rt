@@ -4,7 +4,6 @@ ghost use Prim.Native.Nat.{_<_};
 ghost use lib.ListN.{getD};
 ghost use Rattle.labels.specs.Inner.Labels as Labels;
 ghost use Rattle.labels.specs.Inner.Labels.{window, keyOf, chainOf, farthest, InCell};
-
 use codes::limits::MOST_LABELS;
 
 // How many chains there are.

@@ -17,6 +17,8 @@ const SEED: u64 = 2_025;
 pub enum Names {
     /// Of one length and one first letter, and alike up to their last three bytes.
     Alike,
+    /// Of one length, first letter and ending, and alike but for three bytes in their middle.
+    Middle,
     /// As `bench::source` draws them.
     Mixed,
 }
@@ -25,6 +27,7 @@ impl Names {
     pub fn of_name(name: &str) -> Option<Names> {
         match name {
             "alike" => Some(Names::Alike),
+            "middle" => Some(Names::Middle),
             "mixed" => Some(Names::Mixed),
             _ => None,
         }
@@ -33,6 +36,7 @@ impl Names {
     fn drawn(self, random: &mut Random, count: usize) -> Vec<String> {
         match self {
             Names::Alike => (1..=count).map(|number| format!("sensor_{:03}", number)).collect(),
+            Names::Middle => (1..=count).map(|number| format!("s{:03}ensor_", number)).collect(),
             Names::Mixed => bench::names(random, count),
         }
     }

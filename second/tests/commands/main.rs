@@ -114,6 +114,7 @@ fn what_is_not_understood_ends_with_code_2() {
         &["nothing"],
         &["bench", "7"],
         &["bench", "alike", "0"],
+        &["bench", "middle", "513"],
         &["bench", "mixed", "513"],
         &["bench", "mixed", "x"],
         &["bench", "none", "20"],
@@ -154,7 +155,7 @@ fn files_are_assembled_so_often_under_their_names() {
 
 #[test]
 fn a_look_up_source_is_written_the_same_each_time() {
-    for names in ["alike", "mixed"] {
+    for names in ["alike", "middle", "mixed"] {
         let source = printed(&["bench", names, "512"], "");
         assert_eq!(source.len(), 31_000);
         assert_eq!(source, printed(&["bench", names, "512"], ""));

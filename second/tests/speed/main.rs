@@ -67,10 +67,10 @@ fn the_sources_are_as_large_as_they_should_be() {
     }
 }
 
-/// Every number of labels that there can be, with names of either way.
+/// Every number of labels that there can be, with names of each way.
 fn lookup_sources() -> impl Iterator<Item = (Names, usize, String)> {
-    let both = [Names::Alike, Names::Mixed];
-    let wanted = both.into_iter().flat_map(|names| (1..=512).map(move |labels| (names, labels)));
+    let all = [Names::Alike, Names::Middle, Names::Mixed];
+    let wanted = all.into_iter().flat_map(|names| (1..=512).map(move |labels| (names, labels)));
     wanted.map(|(names, labels)| (names, labels, lookup::source(names, labels)))
 }
 
@@ -109,15 +109,20 @@ fn a_look_up_source_uses_each_of_its_labels_three_times() {
     }
 }
 
+/// How many lengths with first letters, and how many endings of three bytes, a source's names have.
+fn shapes(names: Names, labels: usize) -> (usize, usize) {
+    let source = lookup::source(names, labels);
+    let uses = uses(&source);
+    let begun: BTreeSet<_> = uses.keys().map(|name| (name.len(), name.as_bytes()[0])).collect();
+    let ends: BTreeSet<_> = uses.keys().map(|name| &name[name.len().saturating_sub(3)..]).collect();
+    (begun.len(), ends.len())
+}
+
 #[test]
-fn alike_names_have_one_length_and_first_letter_and_mixed_ones_have_not() {
-    let shapes = |names, labels| {
-        let source = lookup::source(names, labels);
-        let shape = |name: &&str| (name.len(), name.as_bytes()[0]);
-        uses(&source).keys().map(shape).collect::<BTreeSet<_>>().len()
-    };
+fn names_differ_in_their_ending_in_their_middle_or_anywhere() {
     for labels in [20, 50, 100, 200, 500] {
-        assert_eq!(shapes(Names::Alike, labels), 1);
-        assert!(shapes(Names::Mixed, labels) >= 20);
+        assert_eq!(shapes(Names::Alike, labels), (1, labels));
+        assert_eq!(shapes(Names::Middle, labels), (1, 1));
+        assert!(shapes(Names::Mixed, labels).0 >= 20);
     }
 }
