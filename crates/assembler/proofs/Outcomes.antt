@@ -1,5 +1,6 @@
 -- Reply, memory and map by what the parts answer.
 use Prim.Native.Nat.{ℕ}
+use mathlib.Core.Bool.{Bool}
 use mathlib.Core.List.{List}
 use mathlib.Core.Path.{_≡_, sym, ap₂, subst, _∙_}
 use Rattle.codes.specs.Marks.{codeMark, dataMark, reservedMark}
@@ -30,15 +31,16 @@ module _ (memory map : List ℕ) where
       → with t memory map ≡ outcomeBy v image marks memory map
   refused-as t f l v image marks e g = rw (e, g)
 
-  pub not-settled : (r : Settled) (f : ℕ) (l : Line) (v : Verdict) (image cells marks : List ℕ) (t : Told) → r ≡ S.Refused f l
-      → Settles v image cells r
+  pub not-settled : (r : Settled) (f : ℕ) (l : Line) (second : Bool) (v : Verdict) (b : Bool) (image cells marks : List ℕ) (t : Told)
+      → r ≡ S.Refused f l second
+      → Settles v b image cells r
       → t ≡ refusal (f on l .0)
       → with t memory map ≡ outcomeBy v image marks memory map
-  not-settled r f l v image cells marks t e s g = refused-as t f l v image marks g (subst (Settles v image cells) e s)
+  not-settled r f l second v b image cells marks t e s g = refused-as t f l v image marks g (subst (Settles v b image cells) e s .0)
 
-  pub all-settled : (r : Settled) (v : Verdict) (image cells marks : List ℕ) (o : Outcome) → r ≡ S.Done → Settles v image cells r
+  pub all-settled : (r : Settled) (v : Verdict) (b : Bool) (image cells marks : List ℕ) (o : Outcome) → r ≡ S.Done → Settles v b image cells r
       → o ≡ outcomeBy passes cells marks memory map
       → o ≡ outcomeBy v image marks memory map
-  all-settled r v image cells marks o e s g =
-      let h = subst (Settles v image cells) e s in
+  all-settled r v b image cells marks o e s g =
+      let h = subst (Settles v b image cells) e s in
       g ∙ ap₂ (λ (w : Verdict) (m : List ℕ). outcomeBy w m marks memory map) (sym (h .0)) (h .1)

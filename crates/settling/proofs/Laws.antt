@@ -11,7 +11,7 @@ use borrow.Author.Tests.{eq-eqb, ne-eqb, lt-ltb, le-ltb}
 use Rattle.names.specs.Names.{same}
 use Rattle.sources.specs.Placing.{Bound}
 use Rattle.sources.specs.Uses.{Value, known, unknown, valueOf, from, Use, countedWord}
-use Rattle.sources.specs.Order.{Refusal, _on_}
+use Rattle.sources.specs.Order.{_on_}
 use Rattle.sources.specs.Inner.Assembling.{Verdict, passes, refused, andThen, firstOf, test, isUnknown, tooFar, useVerdict, usesVerdict, isRefused, secondRefused, filled}
 use Rattle.statements.proofs.Labelling.{never}
 use Rattle.labels.specs.Inner.Labels.{window, words, labelsBefore, zipped}
