@@ -31,7 +31,7 @@ pub record PointedExamples : Type 0 where
   pub label-address : At 65536 ("ORG 65535" ∷ "NOP" ∷ "x: END" ∷ []) 6 3 4 0
   -- "but column 0 for a label bound at the source's end"
   pub sources-end : At 65536 ("ORG 65535" ∷ "NOP" ∷ "x:" ∷ "" ∷ []) 6 4 0 0
-  -- "the label in .. 13": the one that is refused
+  -- "the label in 9, 10, 13": the one that is refused
   pub no-label : At 16 ("MOVE .A, / zz" ∷ []) 13 1 12 0
   pub indexed : At 16 ("PUSH #zz[.IX]" ∷ []) 13 1 7 0
   pub relative : At 16 ("BR $zz" ∷ []) 13 1 5 0

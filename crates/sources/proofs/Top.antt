@@ -188,7 +188,7 @@ module _ (M N : ℕ) (source : List ℕ) where
 pub refusal-numbered : {M N : ℕ} {source : List ℕ} {why : Refusal} → FirstFailing M N source why → (1 ≤ why .number) × (why .number ≤ 16)
 refusal-numbered = Numbers.refusal-numbered
 
--- ".. for a source 5 goes" (02, K4), and nothing else: with 15 and 16 read as 5, each refusal is the one of before, and back;
+-- "for a source 5 goes" (02, K4), and nothing else: with 15 and 16 read as 5, each refusal is the one of before, and back;
 pub as-before : {M N : ℕ} {source : List ℕ} {why : Refusal} → FirstFailing M N source why → FirstBefore M N source (before why)
 as-before = BeforeK4.as-before
 
