@@ -155,7 +155,7 @@ fn one_line_fails_in_several_ways() {
         ("x: HALT", 6),
         ("HALT", 11),
         ("x: FOO", 4),
-        ("x: INC #1", 5),
+        ("x: INC #1", 16),
         ("x: END", 6),
         ("x: RES 0", 6),
         ("RES 0", 0),
@@ -187,6 +187,6 @@ fn a_bad_map_and_a_source_too_long() {
         let source = vec![b'\n'; length];
         let refused =
             second::assembler::assemble(&source, &mut vec![0; cells], &mut vec![0; marks]);
-        assert_eq!(refused.map_err(|refused| refused.refusal.before_k4()), Err(expected));
+        assert_eq!(refused.map_err(|refused| refused.refusal.number()), Err(expected));
     }
 }
