@@ -169,12 +169,11 @@ fn long() -> Vec<String> {
     ]
 }
 
-/// The lines of all edges, but for those of kilobytes.
+/// The lines of all edges but for those of kilobytes, each once.
 pub fn edge_lines() -> Vec<Vec<u8>> {
     let mut all: Vec<Vec<u8>> = Vec::new();
-    for (_, source) in edges() {
-        let new = text::lines(&source).filter(|line| line.len() < 1_000);
-        for line in new.map(|line| line.to_vec()) {
+    for (_, source) in edges().into_iter().filter(|(_, source)| source.len() < 1_000) {
+        for line in text::lines(&source).map(|line| line.to_vec()) {
             if !all.contains(&line) {
                 all.push(line);
             }
@@ -231,10 +230,11 @@ fn edge(random: &mut Random) -> (usize, Vec<u8>) {
     (*cells, [before.as_bytes(), text, behind.as_bytes()].concat())
 }
 
-/// A right line with one byte wrong.
+/// A right line with one byte wrong: the longer of two, for many lines are all but empty.
 fn spoiled_line(random: &mut Random) -> Vec<u8> {
     let text = source::source(random, 16);
-    let mut line = lines::one_of(random, &text);
+    let (one, other) = (lines::one_of(random, &text), lines::one_of(random, &text));
+    let mut line = if one.len() < other.len() { other } else { one };
     spoil_one_byte(random, &mut line);
     line
 }
