@@ -116,6 +116,8 @@ const OTHERS: &[&str] = &[
     " RES 0-1",
     "ORG 65535\n RES 2",
     "ORG 16\na: NOP",
+    "ORG 15\n DATA 1,2",
+    "ORG 16\na: data \"\"",
     "NOP\nORG 0\n  DATA 1",
     "NOP\nORG 0\nx: RES 1",
 ];

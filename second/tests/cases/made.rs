@@ -136,6 +136,6 @@ const HASHES: [&str; 10] = [
     "85518cdcbe3222dc",
     "2f8092e391c4702e",
     "08bbacac1c166655",
-    "9c24e2b359c3e8fc",
-    "226754e1e34efda1",
+    "7feee71c6d9578cb",
+    "845f499ccca9d0a8",
 ];
