@@ -1,6 +1,6 @@
 //! Answering a case.
 
-use crate::assembler::{assemble, Refusal};
+use crate::assembler::assemble;
 use crate::case::{Case, LentImage, LentMachine, LentSource};
 use crate::image;
 use crate::isa::{self, Instruction, Opcode, Operand};
@@ -39,6 +39,8 @@ fn answer_assemble(lent: &LentSource) -> Reply {
         Ok(accepted) => Reply::Assemble {
             refusal: 0,
             line: 0,
+            column: 0,
+            place: 0,
             code: accepted.code,
             data: accepted.data,
             reserved: accepted.reserved,
@@ -46,8 +48,10 @@ fn answer_assemble(lent: &LentSource) -> Reply {
             marks: differing(&vec![0; map.len()], &map),
         },
         Err(refused) => Reply::Assemble {
-            refusal: refused.refusal.before_k4(),
+            refusal: refused.refusal.number(),
             line: refused.line.0,
+            column: refused.column.0,
+            place: refused.refusal.place(),
             code: 0,
             data: 0,
             reserved: 0,
@@ -123,7 +127,7 @@ fn answer_line(line: &[u8]) -> Reply {
     let label = Name::of(read.label);
     let name = |awaited: Option<Awaited>| Name::of(awaited.map(|awaited| awaited.name));
     let says = match read.says() {
-        Err(fault) => Err(Refusal::OfLine(fault.why).before_k4()),
+        Err(fault) => Err(fault),
         Ok(None) => Ok(LineSays::Nothing),
         Ok(Some(Statement::Org(value))) => Ok(LineSays::Org(value)),
         Ok(Some(Statement::Equ(value))) => Ok(LineSays::Equ(value)),

@@ -35,9 +35,11 @@ pub fn budget(argument: &str) -> Option<u32> {
     decimal(argument, machine::BUDGET_LIMIT)
 }
 
-/// "A refusal prints `refused=` and `line=`, one line each."
+/// "A refusal prints `refused=` and `line=`, one line each", and by document 02, K4, "a third line
+/// `column=`". 16's place has no line.
 pub fn refusal_text(refused: &Refused) -> String {
-    format!("refused={}\nline={}\n", refused.refusal.before_k4(), refused.line.0)
+    let (number, line, column) = (refused.refusal.number(), refused.line.0, refused.column.0);
+    format!("refused={}\nline={}\ncolumn={}\n", number, line, column)
 }
 
 /// What the program prints for an M argument that is none.

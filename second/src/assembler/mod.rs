@@ -56,15 +56,6 @@ impl Refusal {
             _ => 0,
         }
     }
-
-    /// The number as replies and the printed refusal have it until K4 lands as a whole: 15 and 16
-    /// are 5 there, without a place, and nothing has a column.
-    pub fn before_k4(self) -> u8 {
-        match self.number() {
-            15 | 16 => 5,
-            number => number,
-        }
-    }
 }
 
 /// A refusal, the line it names, and the column "where the fault starts".

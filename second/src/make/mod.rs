@@ -15,6 +15,7 @@ pub mod lines;
 pub mod listings;
 pub mod lookup;
 pub mod mutate;
+pub mod naming;
 pub mod nasty;
 pub mod ports;
 pub mod programs;
@@ -80,6 +81,7 @@ impl Maker {
             Kind::Machine => covered::all(&mut random),
             Kind::Print => images::edges(&mut random),
             Kind::List => listings::edges(&mut random),
+            Kind::Line => columns::edge_lines().into_iter().map(Case::Line).collect(),
             _ => Vec::new(),
         };
         Maker { kind, random, first: first.into_iter() }

@@ -1,11 +1,12 @@
-//! The generator for K4, which no committed set has yet: what it reaches, and that each column
-//! stands where document 02 says.
+//! The generator for K4: what it reaches, and that each column stands where document 02 says.
 
+use crate::committed::committed;
 use second::assembler::{assemble, Refused};
+use second::case::Case;
 use second::make::columns::{drawn, edges};
 use second::make::random::Random;
-use second::text::lines;
-use std::collections::BTreeMap;
+use second::text::{lines, read_line, Column, Statement};
+use std::collections::{BTreeMap, BTreeSet};
 
 /// How a source at M is refused.
 fn refused(cells: usize, source: &[u8]) -> Option<Refused> {
@@ -64,8 +65,10 @@ fn some_thousands_reach_every_refusal_and_both_places() {
             count(&source, refused, &mut counts);
         }
     }
+    // a source too long is drawn seldom here, and stands among the committed ones
+    counts.remove(&(2, 0));
     let reached: Vec<(u8, u8)> = counts.keys().copied().collect();
-    let alone = (1..=15).filter(|number| *number != 5).map(|number| (number, 0));
+    let alone = (1..=15).filter(|number| ![2, 5].contains(number)).map(|number| (number, 0));
     let expected: Vec<(u8, u8)> = alone.chain([(16, 1), (16, 2)]).collect();
     assert_eq!(reached, expected, "{:?}", counts);
 }
@@ -77,5 +80,89 @@ fn every_edge_is_refused() {
         let refused = refused(cells, &source);
         count(&source, refused.expect("an edge is refused"), &mut counts);
     }
-    assert_eq!(counts.len(), 16, "{:?}", counts);
+    assert_eq!(counts.len(), 15, "{:?}", counts);
+}
+
+/// The committed sources that are refused, at M that fits.
+fn refused_sources() -> Vec<(Vec<u8>, Refused)> {
+    let mut all = Vec::new();
+    for case in committed("assemble") {
+        if let Case::Assemble(lent) = case {
+            let mut map = vec![lent.map_fill; lent.map_length];
+            let refused = assemble(&lent.source, &mut lent.memory.row(), &mut map).err();
+            all.extend(refused.map(|refused| (lent.source, refused)));
+        }
+    }
+    all
+}
+
+/// How the names of a refused line's operands stand to the column: whether it is that of the second
+/// of two, and whether a blank stands between its operand's mark and it.
+fn named(line: &[u8], column: Column) -> Option<(bool, bool)> {
+    let written = match read_line(line).says() {
+        Ok(Some(Statement::Instruction(written))) => written,
+        _ => return None,
+    };
+    let columns = written.labels.map(|awaited| awaited.map(|awaited| awaited.name.column));
+    let at = column.0 as usize;
+    let is_blank = |at: usize| line.get(at).map_or(false, |byte| b" \t\r".contains(byte));
+    match columns {
+        [Some(_), Some(second)] if second == column => Some((true, is_blank(at - 2))),
+        [Some(name), _] | [None, Some(name)] if name == column => Some((false, is_blank(at - 2))),
+        // 14 is told by its operand's first byte
+        _ => Some((false, is_blank(at))),
+    }
+}
+
+#[test]
+fn the_committed_sources_have_every_refusal_away_from_its_lines_and_its_sources_start() {
+    let mut counts = BTreeMap::new();
+    let mut within = BTreeSet::new();
+    for (source, refused) in refused_sources() {
+        count(&source, refused, &mut counts);
+        if refused.line.0 > 1 && refused.column.0 > 1 {
+            within.insert((refused.refusal.number(), refused.refusal.place()));
+        }
+    }
+    let alone = (3..=15).filter(|number| *number != 5).map(|number| (number, 0));
+    assert_eq!(within, alone.chain([(16, 1), (16, 2)]).collect::<BTreeSet<_>>());
+}
+
+#[test]
+fn the_committed_sources_have_names_behind_blanks_second_names_and_the_sources_end() {
+    let mut names = BTreeSet::new();
+    let mut at_the_end = 0;
+    for (source, refused) in refused_sources() {
+        let number = refused.refusal.number();
+        if number == 13 || number == 14 {
+            let line = lines(&source).nth(refused.line.0 as usize - 1).expect("a line");
+            let (second, blank) = named(line, refused.column).expect("an instruction");
+            names.insert((number, second, blank));
+        }
+        at_the_end += usize::from(number == 6 && refused.column == Column::NONE);
+    }
+    let of_13 = [(false, false), (false, true), (true, false), (true, true)];
+    let expected = of_13.iter().map(|(second, blank)| (13, *second, *blank));
+    let expected = expected.chain([(14, false, false), (14, false, true)]);
+    assert_eq!(names, expected.collect::<BTreeSet<_>>());
+    assert!(at_the_end >= 20, "{}", at_the_end);
+}
+
+/// Each line that fails by itself is pointed at within itself, or directly behind.
+#[test]
+fn the_committed_lines_reach_both_ends() {
+    let mut behind = 0;
+    let mut counts = BTreeMap::new();
+    for case in committed("line") {
+        if let Case::Line(line) = case {
+            if let Err(fault) = read_line(&line).statement {
+                let at = fault.column.0 as usize;
+                assert!(may_start(fault.why.number(), line.get(at - 1).copied()));
+                behind += usize::from(at == line.len() + 1);
+                *counts.entry((fault.why.number(), fault.why.place())).or_insert(0) += 1;
+            }
+        }
+    }
+    assert_eq!(counts.len(), 8, "{:?}", counts);
+    assert!(counts.values().all(|count| *count >= 5) && behind >= 50, "{:?} {}", counts, behind);
 }

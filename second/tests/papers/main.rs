@@ -1,6 +1,5 @@
 //! The papers as tests: every worked example of document 01, and of document 02's requests that
 //! landed, and every row and sentence of their settled readings, each as a named case with its expected answer.
-//! K4 is in `columns`: the assembler answers by it, replies and printing not yet.
 
 mod columns;
 mod edges;

@@ -63,7 +63,8 @@ fn lines_past_the_hundredth() {
         ("FOO", 4, 121),
         ("a:\na:", 9, 122),
         ("NOP\n\nNOP 5", 3, 123),
-        ("INC #5", 5, 121),
+        ("INC #5", 16, 121),
+        ("INC", 15, 121),
         ("HALT\nORG 0\n\nHALT", 12, 124),
         ("ORG 16\nHALT", 11, 122),
         ("HALT\nBR /x\nHALT", 13, 122),
@@ -155,7 +156,7 @@ fn one_line_fails_in_several_ways() {
         ("x: HALT", 6),
         ("HALT", 11),
         ("x: FOO", 4),
-        ("x: INC #1", 5),
+        ("x: INC #1", 16),
         ("x: END", 6),
         ("x: RES 0", 6),
         ("RES 0", 0),
@@ -187,6 +188,6 @@ fn a_bad_map_and_a_source_too_long() {
         let source = vec![b'\n'; length];
         let refused =
             second::assembler::assemble(&source, &mut vec![0; cells], &mut vec![0; marks]);
-        assert_eq!(refused.map_err(|refused| refused.refusal.before_k4()), Err(expected));
+        assert_eq!(refused.map_err(|refused| refused.refusal.number()), Err(expected));
     }
 }

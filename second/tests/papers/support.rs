@@ -3,8 +3,8 @@
 use second::assembler::assemble;
 use second::machine::{run, step, Machine, Ran, Registers, Stepped, PC};
 
-/// The reply to a source at M as before K4: refusal and line, (0, 0) if accepted. Whatever was lent stays
-/// as it was on a refusal.
+/// The reply to a source at M: refusal and line, (0, 0) if accepted. Whatever was lent stays as it
+/// was on a refusal. Columns are seen in `columns`.
 pub fn reply(cells: usize, source: impl AsRef<[u8]>) -> (u8, u32) {
     let mut memory = vec![0xabcd; cells];
     let mut map = vec![7; cells];
@@ -12,7 +12,7 @@ pub fn reply(cells: usize, source: impl AsRef<[u8]>) -> (u8, u32) {
         Ok(_) => (0, 0),
         Err(refused) => {
             assert!(memory.iter().all(|cell| *cell == 0xabcd) && map.iter().all(|mark| *mark == 7));
-            (refused.refusal.before_k4(), refused.line.0)
+            (refused.refusal.number(), refused.line.0)
         }
     }
 }

@@ -1,8 +1,9 @@
-//! Document 02, K4, sentence by sentence, and what stays as it was until K4 lands as a whole.
+//! Document 02, K4, sentence by sentence.
 
-use super::{refused, rows, told};
-use crate::support::reply;
-use second::program::assemble_text;
+use super::{rows, told};
+use second::answer::answer;
+use second::case::{self, write::Hex};
+use second::program::{assemble_text, bad_size_text};
 
 /// "Split refusal 5 into 15, wrong number of operands, and 16, kind not allowed, the latter with
 /// the operand's place, 1 or 2."
@@ -69,14 +70,43 @@ fn every_opcode_takes_every_operand_by_form() {
     }
 }
 
-/// Until K4 lands as a whole, replies and the printed refusal have 5, a line, and no column.
+/// "printed as a third line `column=`"; "1 and 2 have column 0"; 16's place is not printed.
 #[test]
-fn the_border_is_as_before() {
-    for (source, number) in [("NOP .A", 5), ("INC #1", 5), ("INC", 5), ("FOO", 4), ("RES 17", 11)] {
-        let inside = refused(16, source.as_bytes()).expect("refused").refusal;
-        assert_eq!(inside.before_k4(), number, "{}", source);
-        assert_eq!(reply(16, source), (number, 1), "{}", source);
-        let printed = format!("refused={}\nline=1\n", number);
-        assert_eq!(assemble_text(16, source.as_bytes()), Err(printed), "{}", source);
+fn a_refusal_prints_its_column() {
+    for (source, printed) in [
+        (" NOP .A", "refused=15\nline=1\ncolumn=2\n"),
+        ("\nMOVE #1,#2", "refused=16\nline=2\ncolumn=9\n"),
+        ("HALT\n\tFOO", "refused=4\nline=2\ncolumn=2\n"),
+    ] {
+        assert_eq!(assemble_text(16, source.as_bytes()), Err(printed.to_string()), "{}", source);
+    }
+    let long = vec![b' '; 32_769];
+    assert_eq!(assemble_text(16, &long), Err("refused=2\nline=0\ncolumn=0\n".to_string()));
+    assert_eq!(bad_size_text(), "refused=1\nline=0\ncolumn=0\n");
+}
+
+/// "for a source 5 goes, while the encoder keeps it".
+#[test]
+fn the_encoder_keeps_5() {
+    assert_eq!((told(16, b"INC #1"), told(16, b"INC")), ("16:5/1".into(), "15:1".into()));
+    for line in ["E 10 1 1 0 0", "E 10 0 0 0 0"] {
+        assert_eq!(answer(&case::read(line).expect(line)).to_string(), "5", "{}", line);
+    }
+}
+
+/// A reply has the number, the line, the column and the operand's place; a line's own reply has
+/// the last two behind its label.
+#[test]
+fn replies_have_column_and_place() {
+    let source = "NOP\nx: MOVE #1,#2";
+    for (line, reply) in [
+        (format!("A 16 16 9 0 7 {}", Hex(source.as_bytes())), "16 2 12 2 0 0 0 0 0"),
+        (format!("A 16 16 9 0 7 {}", Hex(b"FOO")), "4 1 1 0 0 0 0 0 0"),
+        (format!("A 0 0 9 0 7 {}", Hex(b"FOO")), "1 0 0 0 0 0 0 0 0"),
+        (format!("L {}", Hex(b"x: MOVE #1,#2")), "16 0 1 12 2"),
+        (format!("L {}", Hex(b" NOP .A")), "15 0 0 2 0"),
+        (format!("L {}", Hex(b"a: ORG")), "3 0 1 7 0"),
+    ] {
+        assert_eq!(answer(&case::read(&line).expect(&line)).to_string(), reply, "{}", line);
     }
 }
