@@ -65,9 +65,9 @@ module _ (line : List ℕ) where
   its-part (alone {ts} t) = ([], [], sym (append-nil ts))
   its-part (first {us = us} c t k r) = ([], c ∷ us, refl)
   its-part (later {ts} {us} {vs} c t k r) =
-      let h = its-part r in
-      (
-        ts ++ (c ∷ h .0), h .1,
+      let h = its-part r in (
+        ts ++ (c ∷ h .0),
+        h .1,
         ap (λ (l : List Token). ts ++ (c ∷ l)) (h .2) ∙ sym (append-assoc ts (c ∷ h .0) (vs ++ h .1)),
       )
 
@@ -80,9 +80,9 @@ module _ (line : List ℕ) where
     its-mark {n} pre rest e (names {b} m t vs k q) =
         let h = before-word (s .after) in
         let f : s .tokens ≡ (h .0 ++ (w ∷ pre)) ++ (m ∷ t ∷ (vs ++ rest)) =
-            h .1
-            ∙ ap (λ (l : List Token). h .0 ++ (w ∷ l)) e
-            ∙ sym (append-assoc (h .0) (w ∷ pre) (m ∷ t ∷ (vs ++ rest))) in
+        h .1
+        ∙ ap (λ (l : List Token). h .0 ++ (w ∷ l)) e
+        ∙ sym (append-assoc (h .0) (w ∷ pre) (m ∷ t ∷ (vs ++ rest))) in
         let r = mark-exactly line m t (vs ++ rest) b k (h .0 ++ (w ∷ pre)) (subst (RowOf line) f (s .row)) in
         subst (Starts (m ∷ t ∷ vs)) (sym r ∙ ap (markBefore line) q) head
 

@@ -37,11 +37,10 @@ module _ (line : List ℕ) where
     by-label : (second : Bool) (n : Name) → nameBy (a .label) (b .label) second ≡ Named n → NameWithin (length line) n → At line second n
     unfolding nameColumn
     by-label second n g w =
-        let l : n .start ≤ length line = omega (arith, w .0, w .1) in
-        (
+        let l : n .start ≤ length line = omega (arith, w .0, w .1) in (
           ap (nameColumnBy line 13 second) e ∙ ap (nameColumnAt line 13) g ∙ in-line line (n .start) l,
           ap (nameColumnBy line 14 second) e ∙ ap (nameColumnAt line 14) g
-          ∙ in-line line (markBefore line (n .start)) (omega (arith, l, mark-below (n .start))),
+              ∙ in-line line (markBefore line (n .start)) (omega (arith, l, mark-below (n .start))),
         )
 
     within : {l : LabelIn} {n : Name} → LabelWithin (length line) l → l ≡ Named n → NameWithin (length line) n
