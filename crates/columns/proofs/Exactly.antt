@@ -60,8 +60,8 @@ use Rattle.faults.specs.Faults.{Column, column}
 use Rattle.faults.specs.Walk.{place}
 use Rattle.faults.proofs.Top as Faults
 use Rattle.columns.specs.Points as P
-use Rattle.columns.specs.Points.{AfterLabel, labelled, unlabelled, Statement, TakesExpression, org, equ, res, OfWord, unknown, count, result, Points}
-use Rattle.columns.specs.Columns.{columnAt, labelColumn, wordColumnIn, wordColumn, placeBy, placeIn, columnOf, numberOf, operandOf, pointedAt, againBy, readAgain, pointed}
+use Rattle.columns.specs.Points.{AfterLabel, labelled, unlabelled, Statement, TakesExpression, org, equ, res, OfWord, unknown, count, result, Points, operandOf}
+use Rattle.columns.specs.Columns.{columnAt, labelColumn, wordColumnIn, wordColumn, placeBy, placeIn, columnOf, pointedAt, againBy, readAgain, pointed}
 use Rattle.columns.proofs.Bounds.{Below, row-below, placed-bounded, fault-below, deep-below, form-below, operand-below, number-out-below, item-out-below}
 use Rattle.columns.proofs.Found.{in-line, label-there, of-checks}
 
@@ -355,14 +355,14 @@ exactly line {why} f =
 
 -- ---- what `pointed` hands back
 
-module _ (line : List ℕ) (number : ℕ) (l : 3 ≤ number) (h : number < 9) where
-  pub failed : {why : Failure} → lineRead line .statement ≡ Fails why → pointed line number ≡ pointedAt (numberOf why) (columnOf line why) (operandOf why)
+module _ (line : List ℕ) (number : ℕ) (nine : number ≡ 9 → ⊥) (ten : number ≡ 10 → ⊥) (eleven : number ≡ 11 → ⊥) (twelve : number ≡ 12 → ⊥) where
+  pub failed : {why : Failure} → lineRead line .statement ≡ Fails why → pointed line number ≡ pointedAt (columnOf line why) (operandOf why)
   unfolding readAgain
-  failed e = of-checks line number l h ∙ ap (againBy line number) e
+  failed e = of-checks line number nine ten eleven twelve ∙ ap (againBy line) e
 
-  pub passed : {s : Said} → lineRead line .statement ≡ Passes s → pointed line number ≡ pointedAt number (wordColumn line) 0
+  pub passed : {s : Said} → lineRead line .statement ≡ Passes s → pointed line number ≡ pointedAt (wordColumn line) 0
   unfolding readAgain
-  passed e = of-checks line number l h ∙ ap (againBy line number) e
+  passed e = of-checks line number nine ten eleven twelve ∙ ap (againBy line) e
 
 -- ---- the label and the word
 

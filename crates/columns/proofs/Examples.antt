@@ -15,43 +15,43 @@ use Rattle.faults.specs.Forms as Forms
 use Rattle.faults.specs.Walk.{begin, wordEnd, numberEnd, placeFrom, place}
 use Rattle.columns.specs.Columns.{columnAt, labelColumn, wordColumnIn, wordColumn, markBefore, placeIn, columnOf, readAgain, pointed, pointedAt}
 
--- a line of these bytes, refused with a number, points with a number at a column, and at an operand's place or 0
-abbrev At : List ℕ → ℕ → ℕ → ℕ → ℕ → Type 0
-At line refusal number column operand = pointed line refusal ≡ pointedAt number column operand
+-- a line of these bytes, refused with a number, points at a column, and at an operand's place or 0
+abbrev At : List ℕ → ℕ → ℕ → ℕ → Type 0
+At line number column operand = pointed line number ≡ pointedAt column operand
 
-abbrev pub Points : String → ℕ → ℕ → ℕ → Type 0
-Points text refusal number column = At (bytes text) refusal number column 0
+abbrev pub Points : String → ℕ → ℕ → Type 0
+Points text number column = At (bytes text) number column 0
 
 -- the same of 16
 abbrev pub Names : String → ℕ → ℕ → Type 0
-Names text column operand = At (bytes text) 5 16 column operand
+Names text column operand = At (bytes text) 16 column operand
 
 pub record Examples : Type 0 where
-  pub unknown-word : At (9 ∷ bytes "FOO") 4 4 2 0
-  pub missing : Points "ORG ;c" 3 3 7
-  pub count : Points " NOP $1" 5 15 2
+  pub unknown-word : At (9 ∷ bytes "FOO") 4 2 0
+  pub missing : Points "ORG ;c" 3 7
+  pub count : Points " NOP $1" 15 2
   pub first-kind : Names "MOVE $1,#2" 6 1
   pub second-kind : Names "MOVE #1,#2" 9 2
   pub kind-before-range : Names "INC  #70000" 6 1
   pub branch-kind : Names "BZ .R3" 4 1
-  pub number : Points "PUSH # 70000" 6 6 8
-  pub number-below-zero : Points "PUSH #-32769" 6 6 7
-  pub first-number : Points "MOVE #70000,/80000" 6 6 7
-  pub first-item : Points "DATA 70000,80000" 6 6 6
-  pub expression-number : Points "RES 65536" 6 6 5
-  pub mark-before-a-number : Points "EQU 65535*65535+70000" 6 6 10
-  pub quotient-before-a-number : Points "EQU 1/0+70000" 7 7 6
-  pub quotient : Points "EQU 1/0" 7 7 6
-  pub rest : Points "EQU 5 %  0" 7 7 7
-  pub result : Points "ORG 65535+1" 6 6 1
-  pub reserved-result : Points " RES 0-1" 6 6 2
-  pub level-33 : At (bytes "EQU " ++ (replicate 33 40 ++ (bytes "1" ++ replicate 33 41))) 8 8 37 0
-  pub label-again : Points " x: FOO" 9 9 2
-  pub past-memory : Points "a: NOP" 11 11 4
-  pub reserved-too-far : Points " RES 2" 6 6 2
-  pub label-address : Points "x: END" 6 6 4
+  pub number : Points "PUSH # 70000" 6 8
+  pub number-below-zero : Points "PUSH #-32769" 6 7
+  pub first-number : Points "MOVE #70000,/80000" 6 7
+  pub first-item : Points "DATA 70000,80000" 6 6
+  pub expression-number : Points "RES 65536" 6 5
+  pub mark-before-a-number : Points "EQU 65535*65535+70000" 6 10
+  pub quotient-before-a-number : Points "EQU 1/0+70000" 7 6
+  pub quotient : Points "EQU 1/0" 7 6
+  pub rest : Points "EQU 5 %  0" 7 7
+  pub result : Points "ORG 65535+1" 6 1
+  pub reserved-result : Points " RES 0-1" 6 2
+  pub level-33 : At (bytes "EQU " ++ (replicate 33 40 ++ (bytes "1" ++ replicate 33 41))) 8 37 0
+  pub label-again : Points " x: FOO" 9 2
+  pub past-memory : Points "a: NOP" 11 4
+  pub reserved-too-far : Points " RES 2" 6 2
+  pub label-address : Points "x: END" 6 4
   -- "column 0 for a label bound at the source's end"
-  pub label-at-the-end : Points "x:" 6 6 0
+  pub label-at-the-end : Points "x:" 6 0
   pub mark-of-a-name : markBefore (bytes "BR $ x") 5 ≡ 3
 
 pub examples : Examples

@@ -2,10 +2,11 @@
 use Prim.Native.Nat.{ℕ, zero, suc, _+_, _-_, _≤_, _<_}
 use mathlib.Core.Bool.{true, false}
 use mathlib.Core.List.{List, [], _∷_}
+use mathlib.Core.Logic.{_⊎_, inl, inr}
 use mathlib.Core.Path.{_≡_, refl, sym, ap, _∙_}
 use native.Mathlib.Omega.{arith}
 use lib.ListN.{length, getD}
-use borrow.Author.Tests.{lt-ltb, le-ltb, le-leb, lt-leb}
+use borrow.Author.Tests.{ne-eqb, le-leb, lt-leb}
 use Rattle.tokens.specs.Bytes.{isBlank}
 use Rattle.tokens.specs.Reading.{tokensFrom}
 use Rattle.tokens.specs.declared.Kind.{Kind}
@@ -27,7 +28,8 @@ use Rattle.statements.proofs.Beginning.{row-by}
 use Rattle.statements.proofs.CellsGiven.{word-row}
 use Rattle.statements.proofs.Labelling.{never}
 use Rattle.faults.specs.Walk.{place}
-use Rattle.columns.specs.Columns.{columnAt, labelColumnBy, labelColumn, wordColumnIn, wordColumn, markBefore, outPlace, placeBy, placeIn, columnOf, numberOf, operandOf, pointedAt, againBy, readAgain, pointed}
+use Rattle.columns.specs.Columns.{columnAt, labelColumnBy, labelColumn, wordColumnIn, wordColumn, markBefore, outPlace, placeBy, placeIn, columnOf, pointedAt, againBy, readAgain, pointed}
+use Rattle.columns.specs.Points.{operandOf}
 use Rattle.columns.specs.declared.Pointed.{Pointed}
 
 -- ---- the row that a token begins
@@ -115,53 +117,35 @@ module _ (line : List ℕ) where
 
 -- ---- what is pointed at
 
-module _ (line : List ℕ) (number : ℕ) where
-  pub passes-again : {l : LineRead} {s : Statement} {c : ℕ} {r : Pointed} → r ≡ pointedAt number c 0 → l ≡ lineRead line → l .statement ≡ Passes s
-      → c ≡ wordColumn line → r ≡ readAgain line number
+module _ (line : List ℕ) where
+  pub passes-again : {l : LineRead} {s : Statement} {c : ℕ} {r : Pointed} → r ≡ pointedAt c 0 → l ≡ lineRead line → l .statement ≡ Passes s
+      → c ≡ wordColumn line → r ≡ readAgain line
   unfolding readAgain
-  passes-again {l} e f g h =
-      e
-      ∙ ap (λ (k : ℕ). pointedAt number k 0) h
-      ∙ sym (ap (againBy line number) (ap (λ (x : LineRead). x .statement) (sym f) ∙ g))
+  passes-again e f g h = e ∙ ap (λ (k : ℕ). pointedAt k 0) h ∙ sym (ap (againBy line) (ap (λ (x : LineRead). x .statement) (sym f) ∙ g))
 
-  pub fails-again : {l : LineRead} {why : Failure} {n c p : ℕ} → l ≡ lineRead line → l .statement ≡ Fails why → n ≡ numberOf why
-      → c ≡ columnOf line why → p ≡ operandOf why → pointedAt n c p ≡ readAgain line number
+  pub fails-again : {l : LineRead} {why : Failure} {c p : ℕ} → l ≡ lineRead line → l .statement ≡ Fails why → c ≡ columnOf line why
+      → p ≡ operandOf why → pointedAt c p ≡ readAgain line
   unfolding readAgain
-  fails-again {l} {why} {n} {c} {p} f g e h k =
-      ap (λ (x : ℕ). pointedAt x c p) e
-      ∙ ap (λ (x : ℕ). pointedAt (numberOf why) x p) h
-      ∙ ap (λ (x : ℕ). pointedAt (numberOf why) (columnOf line why) x) k
-      ∙ sym (ap (againBy line number) (ap (λ (x : LineRead). x .statement) (sym f) ∙ g))
+  fails-again {why = why} {c} {p} f g h k =
+      ap (λ (x : ℕ). pointedAt x p) h
+      ∙ ap (λ (x : ℕ). pointedAt (columnOf line why) x) k
+      ∙ sym (ap (againBy line) (ap (λ (x : LineRead). x .statement) (sym f) ∙ g))
 
   -- by the number
-  pub of-source : number < 3 → pointed line number ≡ pointedAt number 0 0
+  pub of-label : {number : ℕ} → (number ≡ 9) ⊎ (number ≡ 10) → pointed line number ≡ pointedAt (labelColumn line) 0
   unfolding pointed
-  of-source h = rw (lt-ltb number 3 h)
+  of-label (inl e) = rw e
+  of-label (inr e) = rw e
 
-  pub of-checks : 3 ≤ number → number < 9 → pointed line number ≡ readAgain line number
+  pub of-word : {number : ℕ} → (number ≡ 11) ⊎ (number ≡ 12) → pointed line number ≡ pointedAt (wordColumn line) 0
   unfolding pointed
-  of-checks l h = rw (le-ltb number 3 l, lt-ltb number 9 h)
+  of-word (inl e) = rw e
+  of-word (inr e) = rw e
 
-  pub of-label : 9 ≤ number → number < 11 → pointed line number ≡ pointedAt number (labelColumn line) 0
+  pub of-checks : (number : ℕ) → (number ≡ 9 → ⊥) → (number ≡ 10 → ⊥) → (number ≡ 11 → ⊥) → (number ≡ 12 → ⊥)
+      → pointed line number ≡ readAgain line
   unfolding pointed
-  of-label l h =
-      let k : 3 ≤ number = omega (arith, l) in
-      rw (le-ltb number 3 k, le-ltb number 9 l, lt-ltb number 11 h)
-
-  pub of-word : 11 ≤ number → number < 13 → pointed line number ≡ pointedAt number (wordColumn line) 0
-  unfolding pointed
-  of-word l h =
-      let k : 3 ≤ number = omega (arith, l) in
-      let j : 9 ≤ number = omega (arith, l) in
-      rw (le-ltb number 3 k, le-ltb number 9 j, le-ltb number 11 l, lt-ltb number 13 h)
-
-  pub of-name : 13 ≤ number → pointed line number ≡ pointedAt number 0 0
-  unfolding pointed
-  of-name l =
-      let k : 3 ≤ number = omega (arith, l) in
-      let j : 9 ≤ number = omega (arith, l) in
-      let i : 11 ≤ number = omega (arith, l) in
-      rw (le-ltb number 3 k, le-ltb number 9 j, le-ltb number 11 i, le-ltb number 13 l)
+  of-checks number a b c d = rw (ne-eqb number 9 a, ne-eqb number 10 b, ne-eqb number 11 c, ne-eqb number 12 d)
 
 -- ---- the mark before a name
 

@@ -1,7 +1,7 @@
 -- What this crate promises, beyond the equations at its functions: what those equations' right sides mean.
-use Prim.Native.Nat.{ℕ, _+_, _≤_, _<_}
+use Prim.Native.Nat.{ℕ, _+_}
 use mathlib.Core.List.{List, _∷_, _++_}
-use mathlib.Core.Logic.{_↔_}
+use mathlib.Core.Logic.{_↔_, _⊎_}
 use mathlib.Core.Path.{_≡_, sym, _∙_}
 use Rattle.tokens.specs.Marks.{IsMark}
 use Rattle.tokens.specs.Rows.{RowOf}
@@ -13,8 +13,8 @@ use Rattle.statements.specs.Statements.{Labelled}
 use Rattle.statements.specs.declared.Failure.{Failure}
 use Rattle.statements.specs.declared.Statement.{Statement as Said}
 use Rattle.statements.specs.declared.StatementRead.the-variants.{Passes, Fails}
-use Rattle.columns.specs.Points.{Statement, Points}
-use Rattle.columns.specs.Columns.{labelColumn, wordColumn, markBefore, columnOf, numberOf, operandOf, pointedAt, pointed}
+use Rattle.columns.specs.Points.{Statement, Points, operandOf}
+use Rattle.columns.specs.Columns.{labelColumn, wordColumn, markBefore, columnOf, pointedAt, pointed}
 use Rattle.columns.proofs.Exactly as Exactly
 use Rattle.columns.proofs.Found as Found
 use Rattle.columns.proofs.Marks as Marks
@@ -36,27 +36,23 @@ one-column line e p q = sym (Exactly.one line p e) ∙ Exactly.one line q e
 
 -- ---- what `pointed` hands back
 
--- of 3 to 8: the check's number, its column, and for 16 the operand's place
-pub failed : (line : List ℕ) (number : ℕ) {why : Failure} → 3 ≤ number → number < 9 → lineRead line .statement ≡ Fails why
-    → pointed line number ≡ pointedAt (numberOf why) (columnOf line why) (operandOf why)
-failed line number l h e = Exactly.failed line number l h e
+module _ (line : List ℕ) where
+  -- "the label in 9, 10"
+  pub of-label : {number : ℕ} → (number ≡ 9) ⊎ (number ≡ 10) → pointed line number ≡ pointedAt (labelColumn line) 0
+  of-label = Found.of-label line
 
--- "the statement's word .. for a result or label address in 6": a line that passes its own checks
-pub passed : (line : List ℕ) (number : ℕ) {s : Said} → 3 ≤ number → number < 9 → lineRead line .statement ≡ Passes s
-    → pointed line number ≡ pointedAt number (wordColumn line) 0
-passed line number l h e = Exactly.passed line number l h e
+  -- "the statement's word in 11, 12"
+  pub of-word : {number : ℕ} → (number ≡ 11) ⊎ (number ≡ 12) → pointed line number ≡ pointedAt (wordColumn line) 0
+  of-word = Found.of-word line
 
--- "the label in 9, 10"
-pub of-label : (line : List ℕ) (number : ℕ) → 9 ≤ number → number < 11 → pointed line number ≡ pointedAt number (labelColumn line) 0
-of-label = Found.of-label
+  module _ (number : ℕ) (nine : number ≡ 9 → ⊥) (ten : number ≡ 10 → ⊥) (eleven : number ≡ 11 → ⊥) (twelve : number ≡ 12 → ⊥) where
+    -- the check's column, and for 16 the operand's place
+    pub failed : {why : Failure} → lineRead line .statement ≡ Fails why → pointed line number ≡ pointedAt (columnOf line why) (operandOf why)
+    failed = Exactly.failed line number nine ten eleven twelve
 
--- "the statement's word in 11, 12"
-pub of-word : (line : List ℕ) (number : ℕ) → 11 ≤ number → number < 13 → pointed line number ≡ pointedAt number (wordColumn line) 0
-of-word = Found.of-word
-
--- "1 and 2 have column 0"
-pub of-source : (line : List ℕ) (number : ℕ) → number < 3 → pointed line number ≡ pointedAt number 0 0
-of-source = Found.of-source
+    -- "the statement's word .. for a result or label address in 6": a line that passes its own checks
+    pub passed : {s : Said} → lineRead line .statement ≡ Passes s → pointed line number ≡ pointedAt (wordColumn line) 0
+    passed = Exactly.passed line number nine ten eleven twelve
 
 -- ---- the label and the word
 

@@ -1,11 +1,11 @@
 -- The columns as functions of a line, which is read once more; `proofs/Top.antt` shows that they are those of Points.antt.
-use Prim.Native.Nat.{ℕ, zero, suc, _+_, _-_}
+use Prim.Native.Nat.{ℕ, zero, suc, _+_, _-_, min}
 use mathlib.Core.Bool.{Bool, cond, _||_}
 use mathlib.Core.List.{List, [], _∷_}
 use lib.Dec.{eqb, leb}
-use lib.ListN.{length, getD}
+use lib.ListN.{length, getD, drop}
 use Rattle.tokens.specs.Bytes.{isBlank}
-use Rattle.tokens.specs.Reading.{tokensFrom, linesOf}
+use Rattle.tokens.specs.Reading.{tokensFrom, lineLength, linesOf}
 use Rattle.tokens.specs.declared.Token.{Token}
 use Rattle.names.specs.Names.{wordOf}
 use Rattle.names.specs.declared.Word.{Word}
@@ -148,3 +148,15 @@ lineAfter (b ∷ bs) (suc i) = lineAfter bs i
 -- lines are counted from 1
 abbrev pub lineNumbered : List ℕ → ℕ → List ℕ
 lineNumbered source k = lineAfter (linesOf source) (k - 1)
+
+-- where the line behind that at a place starts: behind its LF, or at the source's end
+unfoldable pub nextStart : List ℕ → ℕ → ℕ
+nextStart source from = min (length source) (from + lineLength (drop from source) + 1)
+
+-- where the line starts that is so many behind the one at a place
+unfoldable pub startAfter : List ℕ → ℕ → ℕ → ℕ
+startAfter source zero from = from
+startAfter source (suc i) from = startAfter source i (nextStart source from)
+
+abbrev pub lineStart : List ℕ → ℕ → ℕ
+lineStart source k = startAfter source (k - 1) 0

@@ -1,25 +1,31 @@
 // The line of a number, found in its source once more (specs/Columns.antt, `lineNumbered`), and where its refusal points.
 ghost use mathlib.Core.Path.{_≡_};
-ghost use Prim.Native.Nat.{_≤_};
-ghost use lib.ListN.{length};
-ghost use Rattle.columns.specs.Columns.{lineNumbered, pointed, nameColumn};
+ghost use Rattle.columns.specs.Columns.{nextStart, lineStart, lineNumbered, pointed, nameColumn};
 use super::Column;
 use super::Pointed;
 use super::naming::name_column;
 use super::pointing::pointed;
 use tokens::lines::line_end;
 
-// Where the line starts; behind the last line, the source's end.
-fn line_start(source: &[u8], number: usize) -> usize
-    ensures { λ r. ⌜ r ≤ length (now (source .entry)) ⌝ }
+// Where the line behind that at a place starts: behind its LF, or at the source's end.
+fn next_start(source: &[u8], from: usize) -> usize
+    ensures { λ r. ⌜ r ≡ nextStart (now (source .entry)) from ⌝ }
+{
+    let end = line_end(source, from);
+    if end < source.len() {
+        return end + 1;
+    }
+    source.len()
+}
+
+// Where the line of a number starts; behind the last line, the source's end.
+pub fn line_start(source: &[u8], number: usize) -> usize
+    ensures { λ r. ⌜ r ≡ lineStart (now (source .entry)) number ⌝ }
 {
     let mut from: usize = 0;
     let mut left: usize = number;
     while 1 < left {
-        if source.len() <= from {
-            return source.len();
-        }
-        from = line_end(source, from) + 1;
+        from = next_start(source, from);
         left -= 1;
     }
     from

@@ -119,11 +119,11 @@ fn read_again(line: &[u8]) -> Pointed
 pub fn pointed(line: &[u8], number: u8) -> Pointed
     ensures { λ r. ⌜ r ≡ pointed (now (line .entry)) number ⌝ }
 {
-    if number == 9 || number == 10 {
-        return beside(label_column(line));
+    match number {
+        9 => beside(label_column(line)),
+        10 => beside(label_column(line)),
+        11 => beside(word_column(line)),
+        12 => beside(word_column(line)),
+        _ => read_again(line),
     }
-    if number == 11 || number == 12 {
-        return beside(word_column(line));
-    }
-    read_again(line)
 }
