@@ -12,7 +12,9 @@ use Rattle.sources.specs.Pointing.{FailsAt}
 use Rattle.sources.specs.Image.{Accepted, cellsMarked}
 use Rattle.sources.proofs.Top as sources
 use Rattle.assembler.specs.Promise.{Told, told, acceptance, refusal, Replies, accepts, refuses}
+use Rattle.assembler.specs.BeforeK4.{ToldBefore, forgotten, RepliesBefore}
 use Rattle.assembler.specs.declared.Reply.{Reply}
+use Rattle.assembler.proofs.BeforeK4 as BeforeK4
 
 -- a reply's numbers are all of it
 same-reply : (r s : Reply) → told r ≡ told s → r ≡ s
@@ -101,6 +103,16 @@ module _ {source memory map : List ℕ} where
         out (accepts a e) = absurd (n (ap (λ (t : Told). t .number) e))
         out (refuses why c i f e g h) =
             (g, h, ap (λ (t : Told). t .code-cells) e, ap (λ (t : Told). t .data-cells) e, ap (λ (t : Told). t .reserved-cells) e)
+
+    -- ---- "for a source 5 goes" (02, K4), and nothing else
+
+    -- With 15 and 16 read as 5, and without where it points, every reply is that of before,
+    pub as-it-was : RepliesBefore source memory map (forgotten (told r)) memory′ map′
+    as-it-was = BeforeK4.as-it-was reply
+
+    -- and no other was.
+    pub only-as-it-was : {t : ToldBefore} {m k : List ℕ} → RepliesBefore source memory map t m k → (t ≡ forgotten (told r)) × (m ≡ memory′) × (k ≡ map′)
+    only-as-it-was old = BeforeK4.only-as-it-was old reply
 
 -- An accepted image depends on source and M alone: what memory and map held plays no part.
 pub source-and-M-alone : {source memory map memory₂ map₂ m k m₂ k₂ : List ℕ} {r r₂ : Reply} → Replies source memory map r m k
