@@ -250,7 +250,7 @@ module _ (line : List ℕ) where
   one (P.word {why} {w} {x} {ts} k s) f = its-column line s why (word-place line (w .start) x ts k) (its-below line s .0)
   one (P.form c) f = form-column line c
   one (P.kind {op = op} {ts} {i} {p} s o) f =
-      let m = Operands.kind-exactly line ts op .0 (kind-told op (instructionRead line op ts) (sym (its-reading line s) ∙ f)) in
+      let m = Operands.place-exactly line ts op .0 (kind-told op (instructionRead line op ts) (sym (its-reading line s) ∙ f)) in
       let e = kind-exactly line op (m .operands) (m .reading) (m .counted) (m .wrong-there) .1 o in
       its-column line s (WrongKind i) e (omega (arith, e, operand-below (length line) ts (cond (eqb i 2) 2 1) (its-below line s .1)))
   one (P.deep {ts = ts} {e = e} {p} s t r d) f =
@@ -302,7 +302,7 @@ module _ (line : List ℕ) where
   instruction-pointed s f I.WrongForm q e = subst Pointed (fails-one e) (form-pointed (f ∙ sym e))
   instruction-pointed s f I.WrongCount q e = subst Pointed (fails-one e) (_, P.word count s)
   instruction-pointed {op = op} {ts} s f (I.WrongKind i) q e =
-      let m = Operands.kind-exactly line ts op .0 q in
+      let m = Operands.place-exactly line ts op .0 q in
       subst Pointed (fails-one e) (_, P.kind s (kind-exactly line op (m .operands) (m .reading) (m .counted) (m .wrong-there) .0 refl))
   instruction-pointed {op = op} {ts} s f I.OutOfRange q e =
       let m = Operands.range-exactly line ts op .0 (ap Checks.refusalOf q) in

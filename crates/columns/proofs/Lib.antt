@@ -4,6 +4,9 @@ pub mod LineStarts
 pub mod NameColumns
 pub mod Bounds
 pub mod Exactly
+pub mod Refused
+pub mod Named
+pub mod Marked
 pub mod Marks
 pub mod Examples
 pub mod Top
