@@ -12,7 +12,7 @@ use Rattle.sources.specs.Inner.Assembling.{passes, verdictOf, Assembled,
 use Rattle.sources.proofs.Computing.{computedSource}
 
 -- the texts as lines, each with its LF
-abbrev sourceOf : List String → List ℕ
+abbrev pub sourceOf : List String → List ℕ
 sourceOf [] = []
 sourceOf (t ∷ ts) = bytes t ++ (10 ∷ sourceOf ts)
 

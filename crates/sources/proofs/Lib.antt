@@ -18,6 +18,9 @@ pub mod Counts
 pub mod Below
 pub mod Numbers
 pub mod BeforeK4
+pub mod PointedLines
+pub mod PointedLabels
+pub mod Pointing
 pub mod Edges
 pub mod Spacing
 pub mod CommentLines
@@ -27,4 +30,5 @@ pub mod Comments
 pub mod Computing
 pub mod SpacingExamples
 pub mod Examples
+pub mod PointedExamples
 pub mod Top
