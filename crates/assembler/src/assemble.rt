@@ -3,6 +3,7 @@ ghost use mathlib.Core.Path.{_≡_};
 ghost use Prim.Native.Nat.{_≤_, _<_};
 ghost use lib.ListN.{length};
 ghost use Rattle.codes.specs.Limits.{mostCells, longestSource};
+ghost use Rattle.columns.specs.Columns.{lineNumbered, pointed};
 ghost use Rattle.labels.specs.Inner.Labels.{labelsIn, Reach};
 ghost use Rattle.sources.specs.Order.{_on_};
 ghost use Rattle.sources.specs.Inner.Assembling.{passes};
@@ -10,7 +11,7 @@ ghost use Rattle.sources.specs.Inner.Pointing.{nowhere};
 ghost use Rattle.uses.specs.Inner.Held.{usesHeld, Room, mostUses};
 ghost use Rattle.walking.specs.Inner.Walking.{Lent};
 ghost use Rattle.assembler.specs.Promise.{told, refusal, Replies};
-ghost use Rattle.assembler.specs.Inner.Parts.{outcome, outcomeBy, outcomeOfUses, outcomeOf};
+ghost use Rattle.assembler.specs.Inner.Parts.{refusalAt, outcome, outcomeBy, outcomeOfUses, outcomeOf};
 use super::Reply;
 use super::copying::copy_cells;
 use super::copying::copy_marks;
@@ -45,6 +46,15 @@ fn refused(number: u8, line: Line, column: Column, place: u8) -> Reply
         data: 0,
         reserved: 0,
     }
+}
+
+// A line is refused: it is read once more, for where the refusal points.
+fn refused_line(s: &[u8], number: u8, line: Line) -> Reply
+    ensures { λ r. ⌜ told r ≡ refusalAt (number on line .0) (pointed (lineNumbered (now (s .entry)) (line .0)) number) ⌝ }
+{
+    let l = line.0;
+    let p = pointed_in(s, l, number);
+    refused(number, Line(l), p.column, p.place)
 }
 
 // Acceptance: the whole memory and the whole map are rewritten.
@@ -137,9 +147,7 @@ fn assemble_over(
 {
     match walk(s, starts, keys, values, marks, cells, row, aways) {
         Walked::Refused(f, l) => {
-            let number = l.0;
-            let p = pointed_in(s, number, f);
-            return refused(f, Line(number), p.column, p.place);
+            return refused_line(s, f, l);
         }
         Walked::Late(l) => {
             return refused(6, l, Column(0), 0);

@@ -52,6 +52,8 @@ accepting marks =
     record {
       refusal = 0;
       line = record { 0 = 0 };
+      column = record { 0 = 0 };
+      place = 0;
       code = cellsMarked codeMark marks;
       «data» = cellsMarked dataMark marks;
       reserved = cellsMarked reservedMark marks;
