@@ -110,7 +110,7 @@ module _ (source : List ℕ) (bs : List Bound) where
           ((columnsIn bytes l ++ columnsIn bytes m) ++ cs)
       by-labels Absent Absent e f = none-here
       by-labels (Named n) Absent e f = one before _ _ us cs (named false _ first-here (OfColumns.first-name bytes says e)) behind-here
-      by-labels Absent (Named n) e f = one before _ _ us cs (named false _ first-here (OfColumns.only-name bytes false says e f)) behind-here
+      by-labels Absent (Named n) e f = one before _ _ us cs (named false _ first-here (OfColumns.only-name bytes says false e f)) behind-here
       by-labels (Named m) (Named n) e f =
           one before _ _ (_ ∷ us) (_ ∷ cs) (named false _ first-here (OfColumns.first-name bytes says e))
           (one k _ _ us cs (named true _ (eq-eqb k k refl) (OfColumns.second-name bytes says e f)) behind-here)
