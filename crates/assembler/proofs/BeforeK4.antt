@@ -4,7 +4,6 @@ use mathlib.Core.List.{List}
 use mathlib.Core.Path.{_≡_, sym, ap, _∙_}
 use lib.ListN.{length}
 use Rattle.sources.specs.Placing.{start}
-use Rattle.sources.specs.Order.{Refusal}
 use Rattle.sources.specs.Image.{Accepted}
 use Rattle.sources.specs.BeforeK4.{before}
 use Rattle.sources.proofs.Top as sources

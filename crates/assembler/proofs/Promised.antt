@@ -11,7 +11,7 @@ use Rattle.columns.specs.declared.Pointed.{Pointed}
 use Rattle.sources.specs.Order.{_on_, loanChecks}
 use Rattle.sources.specs.Pointing.{FailsAt, of-loans}
 use Rattle.sources.specs.Image.{Accepted}
-use Rattle.sources.specs.Inner.Assembling.{Verdict, passes, refused, loanVerdict, workOf, verdictOf, memoryOf, refuses, assembledBy, assembleOf, sourceVerdict}
+use Rattle.sources.specs.Inner.Assembling.{Verdict, passes, refused, loanVerdict, workOf, verdictOf, memoryOf, assembledBy, assembleOf, sourceVerdict}
 use Rattle.sources.specs.Inner.Pointing.{nowhereThen, sourcePoint, pointOf}
 use Rattle.sources.proofs.Verdicts.{tells-pass}
 use Rattle.sources.proofs.LateDecided.{loans-tell}

@@ -7,7 +7,7 @@ use native.Mathlib.Omega.{arith}
 use lib.ListN.{length}
 use Rattle.codes.specs.Marks.{codeMark, dataMark, reservedMark}
 use Rattle.sources.specs.Sources.{Said}
-use Rattle.sources.specs.Order.{Refusal, _on_, FirstFailing, Passing}
+use Rattle.sources.specs.Order.{_on_, FirstFailing, Passing}
 use Rattle.sources.specs.Pointing.{FailsAt}
 use Rattle.sources.specs.Image.{Accepted, cellsMarked}
 use Rattle.sources.proofs.Top as sources
