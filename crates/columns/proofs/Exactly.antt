@@ -49,7 +49,7 @@ use Rattle.statements.specs.Checks.{leastUnsigned, leastSigned, resultIn}
 use Rattle.statements.specs.Judging.{resultOf, instructionResult}
 use Rattle.statements.specs.Reading.{isWord, afterLabel, byWord, statementRead, lineRead, expressionResult, itemsResult}
 use Rattle.statements.specs.declared.Failure.{Failure}
-use Rattle.statements.specs.declared.Failure.the-variants.{UnknownWord, WrongForm, WrongCount, WrongKind, TooDeep, OutOfRange, ByZero, ResultOut}
+use Rattle.statements.specs.declared.Failure.the-variants.{WrongForm, WrongCount, WrongKind, TooDeep, OutOfRange, ByZero, ResultOut}
 use Rattle.statements.specs.declared.Statement.{Statement as Said}
 use Rattle.statements.specs.declared.Statement.the-variants.{Org, Equ, Res}
 use Rattle.statements.specs.declared.StatementRead.{StatementRead}

@@ -1,5 +1,5 @@
 -- What stands before a name, blanks apart, is the mark before it in the line's row.
-use Prim.Native.Nat.{ℕ, zero, suc, _+_, _-_, _≤_, _<_}
+use Prim.Native.Nat.{ℕ, zero, suc, _+_, _-_, _<_}
 use mathlib.Core.Bool.{Bool, true, false, not, _&&_}
 use mathlib.Core.List.{List, [], _∷_, _++_}
 use mathlib.Core.Path.{_≡_, refl, sym, ap, subst, _∙_}
@@ -19,7 +19,7 @@ use Rattle.tokens.specs.declared.Token.{Token}
 use Rattle.tokens.proofs.Blanks.{blanks-more, blanks-stop, blanks-none}
 use Rattle.tokens.proofs.Heads.{row-of, ends-of, row-head}
 use Rattle.tokens.proofs.Meanings.{Means, token-means}
-use Rattle.tokens.proofs.Places.{EndsAt, here-stands}
+use Rattle.tokens.proofs.Places.{here-stands}
 use Rattle.tokens.proofs.Top.{line-row, one-row}
 use Rattle.statements.proofs.Labelling.{never, goes-on}
 use Rattle.columns.specs.Columns.{markBefore}
