@@ -58,10 +58,11 @@ returns : tie.Need-returns Inv-loop μ-loop
 returns c =
     let start = c .before .before .before .before in
     let part = start .args .part .now in
-    let l = length-map part shownByte in
-    (omega (arith, l),
-    copy-end _ _ (map shownByte part) _ _ _ (c .before .loop .inv) (omega arith)
-    ∙ ap (overwrite _ _) (take-all (length part) (map shownByte part) (omega (arith, l))))
+    let l = length-map part shownByte in (
+      omega (arith, l),
+      copy-end _ _ (map shownByte part) _ _ _ (c .before .loop .inv) (omega arith)
+          ∙ ap (overwrite _ _) (take-all (length part) (map shownByte part) (omega (arith, l))),
+    )
 
 pub put-shown-spec : {M : Type 1} → statement M
 put-shown-spec =
