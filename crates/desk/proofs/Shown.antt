@@ -6,7 +6,7 @@ use Prim.Native.Nat.{ℕ, zero, suc, _+_, _-_, _≤_, _<_}
 use native.Mathlib.Decide.{decLe}
 use native.Mathlib.Omega.{arith}
 use borrow.Author.Tests.{ne-eqb, le-leb, lt-leb}
-use lib.ListN.{length, getD, replicate, take, drop, length-append, length-drop, length-map, length-replicate, replicate-append-replicate, List·getD-map}
+use lib.ListN.{length, getD, replicate, take, drop, length-drop, length-map, length-replicate, replicate-append-replicate, List·getD-map}
 use lib.Seq.{take-all, take-at}
 use Rattle.numerals.specs.Bytes.{bytes, LF}
 use Rattle.texts.specs.Lines.{textOf}
