@@ -69,4 +69,10 @@ emulator=$tools/bin/qemu-x86_64
 ran() { $emulator "$tools/lib/ld-linux-x86-64.so.2" --library-path "$tools/lib" "$program" "$@"; }
 
 # Whether a refusal was printed, whole.
-is_refused() { [ "$(wc -l < "$text")" -eq 2 ] && sed -n 1p "$text" | grep -q '^refused=[0-9]*$' && sed -n 2p "$text" | grep -q '^line=[0-9]*$'; }
+is_refused() {
+    awk -v lines="$(wc -l < "$text")" '
+        NR == 1 { number = /^refused=[0-9]+$/ }
+        NR == 2 { line = /^line=[0-9]+$/ }
+        NR == 3 { column = /^column=[0-9]+$/ }
+        END { exit !(number && line && column && lines == 3 && NR == 3) }' "$text"
+}

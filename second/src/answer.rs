@@ -7,7 +7,7 @@ use crate::isa::{self, Instruction, Opcode, Operand};
 use crate::listing;
 use crate::machine::{self, Machine, Registers};
 use crate::reply::{changed_runs, differing, Left, LineSays, Name, Reply};
-use crate::text::{read_line, Statement};
+use crate::text::{read_line, Awaited, Statement};
 
 pub fn answer(case: &Case) -> Reply {
     match case {
@@ -39,6 +39,8 @@ fn answer_assemble(lent: &LentSource) -> Reply {
         Ok(accepted) => Reply::Assemble {
             refusal: 0,
             line: 0,
+            column: 0,
+            place: 0,
             code: accepted.code,
             data: accepted.data,
             reserved: accepted.reserved,
@@ -48,6 +50,8 @@ fn answer_assemble(lent: &LentSource) -> Reply {
         Err(refused) => Reply::Assemble {
             refusal: refused.refusal.number(),
             line: refused.line.0,
+            column: refused.column.0,
+            place: refused.refusal.place(),
             code: 0,
             data: 0,
             reserved: 0,
@@ -120,19 +124,19 @@ fn answer_list(lent: &LentImage) -> Reply {
 /// What the line by itself says: nothing of other lines or of addresses.
 fn answer_line(line: &[u8]) -> Reply {
     let read = read_line(line);
-    let name = |word: Option<&[u8]>| Name::of(line, word);
-    let says = match read.statement {
-        Err(fault) => Err(fault as u8),
+    let label = Name::of(read.label);
+    let name = |awaited: Option<Awaited>| Name::of(awaited.map(|awaited| awaited.name));
+    let says = match read.says() {
+        Err(fault) => Err(fault),
         Ok(None) => Ok(LineSays::Nothing),
         Ok(Some(Statement::Org(value))) => Ok(LineSays::Org(value)),
         Ok(Some(Statement::Equ(value))) => Ok(LineSays::Equ(value)),
         Ok(Some(Statement::Res(value))) => Ok(LineSays::Res(value)),
         Ok(Some(Statement::End)) => Ok(LineSays::End),
         Ok(Some(Statement::Data(cells))) => Ok(LineSays::Data(cells)),
-        Ok(Some(Statement::Instruction(written))) => Ok(LineSays::Instruction(
-            written.instruction,
-            [name(written.labels[0]), name(written.labels[1])],
-        )),
+        Ok(Some(Statement::Instruction(written))) => {
+            Ok(LineSays::Instruction(written.instruction, written.labels.map(name)))
+        }
     };
-    Reply::Line(name(read.label), says)
+    Reply::Line(label, says)
 }

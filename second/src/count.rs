@@ -11,20 +11,20 @@ use std::fmt::{self, Display, Formatter};
 
 /// The groups in which replies are counted, with the highest number of each.
 const GROUPS: [(&str, usize); 8] = [
-    ("assemble, by refusal", 14),
+    ("assemble, by refusal", 16),
     ("encode, by reply", 5),
     ("decode, by reply", 5),
     ("step, by stop", 10),
     ("run, by stop", 10),
     ("print, by reply", 2),
-    ("line, by refusal", 8),
+    ("line, by refusal", 16),
     ("list, by reply", 3),
 ];
 
 /// How many cases of each group got each number.
 #[derive(Debug, Default, PartialEq, Eq)]
 pub struct Counts {
-    pub by_group: [[u64; 15]; 8],
+    pub by_group: [[u64; 17]; 8],
     /// The allowed first words that a step found at PC, and those whose step completed.
     pub first_words: BTreeSet<u16>,
     pub completed: BTreeSet<u16>,
@@ -44,7 +44,7 @@ impl Counts {
             Reply::Run(stop, _, _) => (4, stop),
             Reply::Print { code, .. } => (5, code),
             Reply::Line(_, Ok(_)) => (6, 0),
-            Reply::Line(_, Err(refusal)) => (6, refusal),
+            Reply::Line(_, Err(fault)) => (6, fault.why.number()),
             Reply::List { code, .. } => (7, code),
         };
         if let Case::Step(lent) = case {

@@ -49,10 +49,10 @@ pub enum Sign {
     IsOperation,
 }
 
-/// Reads a number that starts at `at`; gives it and the position after it, or nothing if no
-/// well-formed number stands there.
-pub fn read(bytes: &[u8], at: usize, sign: Sign) -> Option<(Number, usize)> {
-    let rest = bytes.get(at..)?;
+/// Reads a number that starts at `at`; gives it and the position after it, or the position of the
+/// first byte that no number has there: `at` itself if none begins there.
+pub fn read(bytes: &[u8], at: usize, sign: Sign) -> Result<(Number, usize), usize> {
+    let rest = bytes.get(at..).ok_or(at)?;
     let negative = sign == Sign::Allowed && rest.first() == Some(&b'-');
     let hex = rest.starts_with(b"0x");
     let before_digits = if hex { 2 } else { usize::from(negative) };
@@ -67,15 +67,15 @@ pub fn read(bytes: &[u8], at: usize, sign: Sign) -> Option<(Number, usize)> {
     }
     let followed = rest.get(end).map_or(false, |byte| is_word_byte(*byte));
     if end == before_digits || followed {
-        return None;
+        return Err(at + end);
     }
-    Some((Number { magnitude, negative, hex }, at + end))
+    Ok((Number { magnitude, negative, hex }, at + end))
 }
 
 /// "A line that isn't wholly a number as above reads 0" (What a step does).
 pub fn of_line(line: &[u8]) -> u16 {
     match read(line, 0, Sign::Allowed) {
-        Some((number, end)) if end == line.len() => number.value().unwrap_or(0),
+        Ok((number, end)) if end == line.len() => number.value().unwrap_or(0),
         _ => 0,
     }
 }

@@ -1,7 +1,7 @@
 //! Document 01's program: "assembles a file at an M of 1 to 16,384 (any other prints refusal 1,
 //! line 0) and prints the image".
 
-use crate::assembler::{assemble, Line, Refusal, Refused};
+use crate::assembler::{assemble, Refusal, Refused};
 use crate::image;
 use crate::machine::{self, Machine, Ran, Registers, Stop, REGISTER_NAMES};
 
@@ -35,14 +35,16 @@ pub fn budget(argument: &str) -> Option<u32> {
     decimal(argument, machine::BUDGET_LIMIT)
 }
 
-/// "A refusal prints `refused=` and `line=`, one line each."
+/// "A refusal prints `refused=` and `line=`, one line each", and by document 02, K4, "a third line
+/// `column=`". 16's place has no line.
 pub fn refusal_text(refused: &Refused) -> String {
-    format!("refused={}\nline={}\n", refused.refusal.number(), refused.line.0)
+    let (number, line, column) = (refused.refusal.number(), refused.line.0, refused.column.0);
+    format!("refused={}\nline={}\ncolumn={}\n", number, line, column)
 }
 
 /// What the program prints for an M argument that is none.
 pub fn bad_size_text() -> String {
-    refusal_text(&Refused { refusal: Refusal::BadLoan, line: Line(0) })
+    refusal_text(&Refused::of_no_line(Refusal::BadLoan))
 }
 
 /// Assembles at M cells: the image's text, or the refusal's.

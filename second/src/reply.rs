@@ -2,6 +2,7 @@
 
 use crate::case::write::{Hex, Pairs};
 use crate::isa::Instruction;
+use crate::text::{At, Column, Fault};
 use std::fmt::{self, Display, Formatter};
 
 /// Cells or map bytes by ascending address.
@@ -23,6 +24,8 @@ pub enum Reply {
     Assemble {
         refusal: u8,
         line: u32,
+        column: u32,
+        place: u8,
         code: u32,
         data: u32,
         reserved: u32,
@@ -46,8 +49,8 @@ pub enum Reply {
         length: usize,
         changed: Listed<Vec<u8>>,
     },
-    /// A line's label and what it says, or the number of the first of its own checks that fails.
-    Line(Name, Result<LineSays, u8>),
+    /// A line's label and what it says, or the first of its own checks that fails.
+    Line(Name, Result<LineSays, Fault>),
 }
 
 /// How many of DATA's cells a reply shows, after their number.
@@ -58,13 +61,13 @@ const MOST_SHOWN: usize = 64;
 pub struct Name(pub usize, pub usize);
 
 impl Name {
-    /// The place of a word that was cut out of a line.
-    pub fn of(line: &[u8], word: Option<&[u8]>) -> Name {
+    /// The place of a word that was read: columns count from 1, places from 0.
+    pub fn of(word: Option<At<&[u8]>>) -> Name {
         match word {
             None => Name(0, 0),
-            Some(word) => {
-                let start = word.as_ptr() as usize - line.as_ptr() as usize;
-                Name(start, start + word.len())
+            Some(At { what, column: Column(column) }) => {
+                let start = column as usize - 1;
+                Name(start, start + what.len())
             }
         }
     }
@@ -149,8 +152,19 @@ impl Display for LineSays {
 impl Display for Reply {
     fn fmt(&self, out: &mut Formatter) -> fmt::Result {
         match self {
-            Reply::Assemble { refusal, line, code, data, reserved, cells, marks } => {
-                write!(out, "{} {} {} {} {} ", refusal, line, code, data, reserved)?;
+            Reply::Assemble {
+                refusal,
+                line,
+                column,
+                place,
+                code,
+                data,
+                reserved,
+                cells,
+                marks,
+            } => {
+                write!(out, "{} {} {} {} ", refusal, line, column, place)?;
+                write!(out, "{} {} {} ", code, data, reserved)?;
                 write!(out, "{} {}", Pairs(cells), Pairs(marks))
             }
             Reply::Encoded(words) => {
@@ -173,7 +187,9 @@ impl Display for Reply {
                 write!(out, "{} {} {} {}", code, address, length, Runs(changed))
             }
             Reply::Line(label, Ok(says)) => write!(out, "0 {} {}", label, says),
-            Reply::Line(label, Err(refusal)) => write!(out, "{} {}", refusal, label),
+            Reply::Line(label, Err(Fault { why, column: Column(column) })) => {
+                write!(out, "{} {} {} {}", why.number(), label, column, why.place())
+            }
         }
     }
 }

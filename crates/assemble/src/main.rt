@@ -1,8 +1,9 @@
-// `assemble FILE M`: assembles a file and prints its image, or `refused=` and `line=` (document 01, "The printed image"). A refusal is told
-// on standard error too, in one sentence; so is a file that cannot be read, and output that cannot be written. M is judged before the file
-// is opened. A program of this kit has no exit status of its own: the script `assemble` at the root gives one by what was printed.
+// `assemble FILE M`: assembles a file and prints its image, or `refused=`, `line=` and `column=` (document 01, "The printed image"; 02, K4). A
+// refusal is told on standard error too, in one sentence with the line and a caret; so is a file that cannot be read, and output that cannot
+// be written. M is judged before the file is opened. A program of this kit has no exit status of its own: the script `assemble` at the root gives one by what was printed.
 mod printing; // the image, written out
 
+use columns::Column;
 use desk::refusals::print_refusal;
 use desk::rooms;
 use sources::Line;
@@ -14,7 +15,7 @@ fn assemble_at(path: &[u8], text: &[u8], memory: &mut [u16], map: &mut [u8]) {
         printing::print_image(memory, map);
         return;
     }
-    print_refusal(path, reply.refusal, reply.line);
+    print_refusal(path, text, reply.refusal, reply.line, reply.column);
 }
 
 // Lends as many cells as M says.
@@ -49,7 +50,7 @@ fn main() {
     let mut path = io::buffer();
     let n = os::arg(1, &mut path);
     if size == 0 {
-        print_refusal(&path[..n], 1, Line(0));
+        print_refusal(&path[..n], b"", 1, Line(0), Column(0));
         return;
     }
     if os::errno() != 0 {

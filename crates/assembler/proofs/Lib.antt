@@ -3,4 +3,5 @@ pub mod Rows
 pub mod Outcomes
 pub mod Walks
 pub mod Promised
+pub mod BeforeK4
 pub mod Top

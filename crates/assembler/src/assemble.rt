@@ -3,13 +3,15 @@ ghost use mathlib.Core.Path.{_≡_};
 ghost use Prim.Native.Nat.{_≤_, _<_};
 ghost use lib.ListN.{length};
 ghost use Rattle.codes.specs.Limits.{mostCells, longestSource};
+ghost use Rattle.columns.specs.Columns.{lineNumbered, pointed};
 ghost use Rattle.labels.specs.Inner.Labels.{labelsIn, Reach};
 ghost use Rattle.sources.specs.Order.{_on_};
 ghost use Rattle.sources.specs.Inner.Assembling.{passes};
+ghost use Rattle.sources.specs.Inner.Pointing.{nowhere};
 ghost use Rattle.uses.specs.Inner.Held.{usesHeld, Room, mostUses};
 ghost use Rattle.walking.specs.Inner.Walking.{Lent};
 ghost use Rattle.assembler.specs.Promise.{told, refusal, Replies};
-ghost use Rattle.assembler.specs.Inner.Parts.{outcome, outcomeBy, outcomeOfUses, outcomeOf};
+ghost use Rattle.assembler.specs.Inner.Parts.{refusalAt, outcome, outcomeBy, outcomeOfUses, outcomeOf};
 use super::Reply;
 use super::copying::copy_cells;
 use super::copying::copy_marks;
@@ -20,6 +22,9 @@ use codes::limits::MOST_LABELS;
 use codes::marks::CODE;
 use codes::marks::DATA;
 use codes::marks::RESERVED;
+use columns::Column;
+use columns::lines::name_in;
+use columns::lines::pointed_in;
 use labels::chains::KEY_CELLS;
 use settling::Settled;
 use settling::settle::settle;
@@ -29,16 +34,27 @@ use uses::keeping::ROW_CELLS;
 use walking::Walked;
 use walking::walk::walk;
 
-fn refused(number: u8, line: Line) -> Reply
-    ensures { λ r. ⌜ told r ≡ refusal (number on line .0) ⌝ }
+fn refused(number: u8, line: Line, column: Column, place: u8) -> Reply
+    ensures { λ r. ⌜ told r ≡ refusal (number on line .0) (column .0) place ⌝ }
 {
     Reply {
         refusal: number,
         line: line,
+        column: column,
+        place: place,
         code: 0,
         data: 0,
         reserved: 0,
     }
+}
+
+// A line is refused: it is read once more, for where the refusal points.
+fn refused_line(s: &[u8], number: u8, line: Line) -> Reply
+    ensures { λ r. ⌜ told r ≡ refusalAt (number on line .0) (pointed (lineNumbered (now (s .entry)) (line .0)) number) ⌝ }
+{
+    let l = line.0;
+    let p = pointed_in(s, l, number);
+    refused(number, Line(l), p.column, p.place)
 }
 
 // Acceptance: the whole memory and the whole map are rewritten.
@@ -46,7 +62,7 @@ fn accept(cells: &[u16], marks: &[u8], memory: &mut [u16], map: &mut [u8]) -> Re
     requires { ⌜ (length (now cells) ≡ length (now memory)) × (length (now marks) ≡ length (now map)) ⌝ }
     ensures { λ r. ⌜
         outcome r (now (memory .exit)) (now (map .exit))
-        ≡ outcomeBy passes (now (cells .entry)) (now (marks .entry)) (now (memory .entry)) (now (map .entry))
+        ≡ outcomeBy passes nowhere (now (cells .entry)) (now (marks .entry)) (now (memory .entry)) (now (map .entry))
         ⌝ }
 {
     copy_cells(cells, memory);
@@ -57,6 +73,8 @@ fn accept(cells: &[u16], marks: &[u8], memory: &mut [u16], map: &mut [u8]) -> Re
     Reply {
         refusal: 0,
         line: Line(0),
+        column: Column(0),
+        place: 0,
         code: code,
         data: data,
         reserved: reserved,
@@ -87,14 +105,16 @@ fn settle_and_accept(
         ⌝ }
     ensures { λ r. ⌜
         outcome r (now (memory .exit)) (now (map .exit))
-        ≡ outcomeOfUses (labelsIn (now (s .entry)) (now (starts .entry)) (now (keys .entry)) (now (values .entry)) labels)
+        ≡ outcomeOfUses (now (s .entry)) (labelsIn (now (s .entry)) (now (starts .entry)) (now (keys .entry)) (now (values .entry)) labels)
         (usesHeld (now (s .entry)) (now (row .entry)) (now (aways .entry)) uses)
         (now (cells .entry)) (now (marks .entry)) (now (memory .entry)) (now (map .entry))
         ⌝ }
 {
     match settle(s, starts, keys, values, labels, row, aways, uses, cells) {
-        Settled::Refused(f, l) => {
-            return refused(f, l);
+        Settled::Refused(f, l, second) => {
+            let number = l.0;
+            let column = name_in(s, number, f, second);
+            return refused(f, Line(number), column, 0);
         }
         Settled::Done => {
             return accept(cells, marks, memory, map);
@@ -127,7 +147,10 @@ fn assemble_over(
 {
     match walk(s, starts, keys, values, marks, cells, row, aways) {
         Walked::Refused(f, l) => {
-            return refused(f, l);
+            return refused_line(s, f, l);
+        }
+        Walked::Late(l) => {
+            return refused(6, l, Column(0), 0);
         }
         Walked::Passes(labels, uses) => {
             return settle_and_accept(
@@ -184,16 +207,16 @@ pub fn assemble(source: &[u8], memory: &mut [u16], map: &mut [u8]) -> Reply
 {
     let m = memory.len();
     if m == 0 {
-        return refused(1, Line(0));
+        return refused(1, Line(0), Column(0), 0);
     }
     if MOST_CELLS < m {
-        return refused(1, Line(0));
+        return refused(1, Line(0), Column(0), 0);
     }
     if map.len() != m {
-        return refused(1, Line(0));
+        return refused(1, Line(0), Column(0), 0);
     }
     if LONGEST_SOURCE < source.len() {
-        return refused(2, Line(0));
+        return refused(2, Line(0), Column(0), 0);
     }
     assemble_lent(source, memory, map)
 }

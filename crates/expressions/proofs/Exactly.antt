@@ -9,7 +9,7 @@ use borrow.Author.Tests.{ltb-true, lt-ltb, leb-true, leb-false, le-leb, lt-leb}
 use Rattle.tokens.specs.declared.Token.{Token}
 use Rattle.expressions.specs.Grammar.{Sum}
 use Rattle.codes.specs.Limits.{deepest}
-use Rattle.expressions.specs.Trees.{Tree, literal, node, enclosed, depth, Expression}
+use Rattle.expressions.specs.Trees.{Tree, literalOf, nodeOf, enclosedOf, depth, Expression}
 use Rattle.expressions.specs.Worths.{worthOf}
 use Rattle.expressions.specs.Reading.{nothing, Outcome, reads, wrong, operand, treeRead, judged, expressionRead}
 use Rattle.expressions.specs.Inner.Scanning.{rightForm, passes}
@@ -23,13 +23,14 @@ use Rattle.expressions.proofs.Depths.{deeper}
 use Rattle.expressions.proofs.Steps.{never}
 
 -- a row's reading, over any kind of value
-pub value-exactly : (W : Type 0) (number : ℕ → W) (operate : Operation → W → W → W) (enclose : W → W) (ts : List Token) {v : W}
+pub value-exactly : (W : Type 0) (number : Token → ℕ → W) (operate : Token → Operation → W → W → W) (enclose : Token → W → W)
+    (ts : List Token) {v : W}
     → (operand W number operate enclose ts nothing nothing [] ≡ reads v) ↔ Sum W number operate enclose ts v
 value-exactly W number operate enclose ts {v} = (sound W number operate enclose ts v, λ s. complete W number operate enclose s)
 
 module _ (ts : List Token) where
   pub tree-exactly : {tree : Tree} → (treeRead ts ≡ reads tree) ↔ Expression ts tree
-  tree-exactly = value-exactly Tree literal node enclosed ts
+  tree-exactly = value-exactly Tree literalOf nodeOf enclosedOf ts
 
   -- a row has a tree or none
   pub data Found : Type 0 where
@@ -39,7 +40,7 @@ module _ (ts : List Token) where
   pub found : Found
   found = go (treeRead ts) refl
     where
-      go : (r : Outcome Tree literal node enclosed) → treeRead ts ≡ r → Found
+      go : (r : Outcome Tree literalOf nodeOf enclosedOf) → treeRead ts ≡ r → Found
       go (reads tree) e = tree-is tree e (tree-exactly .0 e)
       go wrong e = none-is e (λ tree s. let z : wrong ≡ reads tree = sym e ∙ tree-exactly .1 s in never (cc))
 
@@ -95,12 +96,12 @@ module _ (ts : List Token) where
   -- ---- the scan
 
   pub form-exactly : (rightForm ts true 0 ≡ true) ↔ ((tree : Tree) × Expression ts tree)
-  form-exactly = go found (form-read Tree literal node enclosed ts)
+  form-exactly = go found (form-read Tree literalOf nodeOf enclosedOf ts)
     where
-      go : Found → rightForm ts true 0 ≡ isRead Tree literal node enclosed (treeRead ts) → (rightForm ts true 0 ≡ true) ↔ ((tree : Tree) × Expression ts tree)
-      go (tree-is tree e s) f = (λ g. (tree, s), λ g. f ∙ ap (isRead Tree literal node enclosed) e)
+      go : Found → rightForm ts true 0 ≡ isRead Tree literalOf nodeOf enclosedOf (treeRead ts) → (rightForm ts true 0 ≡ true) ↔ ((tree : Tree) × Expression ts tree)
+      go (tree-is tree e s) f = (λ g. (tree, s), λ g. f ∙ ap (isRead Tree literalOf nodeOf enclosedOf) e)
       go (none-is e n) f =
-          (λ g. let z : true ≡ false = sym g ∙ f ∙ ap (isRead Tree literal node enclosed) e in never (cc), λ g. absurd (n (g .0) (g .1)))
+          (λ g. let z : true ≡ false = sym g ∙ f ∙ ap (isRead Tree literalOf nodeOf enclosedOf) e in never (cc), λ g. absurd (n (g .0) (g .1)))
 
 pub depth-exactly : {ts : List Token} {tree : Tree} → Expression ts tree → (room : ℕ) → (passes ts room ≡ true) ↔ (room < depth tree)
 depth-exactly {tree = tree} s room = (λ e. ltb-true room (depth tree) (sym (deeper s room) ∙ e), λ h. deeper s room ∙ lt-ltb room (depth tree) h)

@@ -13,6 +13,7 @@ use Rattle.tokens.specs.Reading.{blanks, closing, tokenHere, tokenAt, tokensWit
 use Rattle.expressions.specs.Trees.{depth}
 use Rattle.expressions.specs.Worths.{within32, ofNumber, operation, operate, worthOf}
 use Rattle.expressions.specs.Reading.{markSymbol, operand, operator, expressionRead}
+use Rattle.expressions.specs.Places.{strip, evaluate, foundOf, faultIn, deepFrom, tooDeepIn}
 use Rattle.expressions.specs.declared.Worth.the-variants.{Is, OutOfRange, ByZero}
 use Rattle.expressions.specs.declared.ExpressionRead.{ExpressionRead}
 use Rattle.expressions.specs.declared.ExpressionRead.the-variants.{Read, TooDeep, WrongForm}
@@ -29,6 +30,14 @@ NoExpressions (text ∷ texts) = Says text WrongForm × NoExpressions texts
 -- a text in so many parentheses
 abbrev pub within : ℕ → String → List ℕ
 within n text = replicate n 40 ++ (bytes text ++ replicate n 41)
+
+-- the first fault of the expression after a word of three letters, and the parenthesis that opens level 33, start here, counted from 0: the
+-- column is one more
+abbrev pub Fault : String → ℕ → Type 0
+Fault text at = faultIn (tokensFrom (bytes text) 3) ≡ at
+
+abbrev pub Deep : List ℕ → ℕ → Type 0
+Deep s at = tooDeepIn (tokensFrom (bytes "EQU " ++ s) 3) ≡ at
 
 pub record Examples : Type 0 where
   pub one-in-another : Says "(2+3*(5-1)/(4-2))%5" (Read (Is (pos 3)))
@@ -63,9 +72,27 @@ pub record Examples : Type 0 where
   pub depth-before-faults : expressionRead (tokensFrom (within 33 "1/0") 0) ≡ TooDeep
   pub form-before-depth : expressionRead (tokensFrom (within 33 "5+") 0) ≡ WrongForm
   pub unclosed : expressionRead (tokensFrom (replicate 100 40) 0) ≡ WrongForm
+  pub mark-of-a-product : Fault "EQU 65535*65535" 9
+  pub mark-before-a-number : Fault "EQU 65535*65535+70000" 9
+  pub mark-of-a-quotient : Fault "EQU 1/0" 5
+  pub quotient-before-a-number : Fault "EQU 1/0+70000" 5
+  pub mark-between-blanks : Fault "EQU 5 %  0" 6
+  pub number-itself : Fault "RES 65536" 4
+  pub number-on-the-right : Fault "EQU 1+ 70000" 7
+  pub left-number-first : Fault "EQU 70000+80000" 4
+  pub inside-parentheses : Fault "EQU 2*(3+(4/(5-5)))" 11
+  pub second-mark : Fault "EQU 65535*32768+32768" 15
+  pub no-fault : Fault "EQU 1+2" 0
+  pub form-first : Fault "EQU 1/0+" 0
+  pub depth-first : faultIn (tokensFrom (bytes "EQU " ++ within 33 "1/0") 3) ≡ 0
+  pub level-33 : Deep (within 33 "1") 36
+  pub level-34 : Deep (within 34 "1") 36
+  pub leftmost-level-33 : Deep (within 32 "1+(2)+(3)") 38
+  pub beside-one-another : Deep (bytes "(1)+" ++ within 33 "1") 40
+  pub level-32 : Deep (within 32 "1") 0
 
 pub examples : Examples
-unfolding rank worthAfter run digitsAt radixAt unsignedAt isBlank isMark blanks closing tokenHere tokenAt tokensWithin tokensFrom depth within32 ofNumber operation operate worthOf markSymbol operand operator expressionRead
+unfolding rank worthAfter run digitsAt radixAt unsignedAt isBlank isMark blanks closing tokenHere tokenAt tokensWithin tokensFrom depth within32 ofNumber operation operate worthOf markSymbol operand operator expressionRead strip evaluate foundOf faultIn deepFrom tooDeepIn
 examples =
     record {
       one-in-another = refl;
@@ -100,4 +127,22 @@ examples =
       depth-before-faults = refl;
       form-before-depth = refl;
       unclosed = refl;
+      mark-of-a-product = refl;
+      mark-before-a-number = refl;
+      mark-of-a-quotient = refl;
+      quotient-before-a-number = refl;
+      mark-between-blanks = refl;
+      number-itself = refl;
+      number-on-the-right = refl;
+      left-number-first = refl;
+      inside-parentheses = refl;
+      second-mark = refl;
+      no-fault = refl;
+      form-first = refl;
+      depth-first = refl;
+      level-33 = refl;
+      level-34 = refl;
+      leftmost-level-33 = refl;
+      beside-one-another = refl;
+      level-32 = refl;
     }

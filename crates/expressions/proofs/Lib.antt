@@ -8,12 +8,15 @@ pub mod Depths
 pub mod Ranges
 pub mod Spacing
 pub mod Examples
-pub mod Places
+pub mod Rows
 pub mod Steps
 pub mod Operands
+pub mod Placed
 pub mod Verdicts
 pub mod Seen
+pub mod Levels
 pub mod Exactly
 pub mod Numbers
+pub mod Faults
 pub mod Kept
 pub mod Top

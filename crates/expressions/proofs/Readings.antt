@@ -17,7 +17,7 @@ use Rattle.expressions.specs.declared.Symbol.the-variants as Y
 use Rattle.expressions.proofs.Meanings.{Means, number, sums, products, opening, shutting, means, sum-mark, product-mark, open-mark, shut-mark}
 use Rattle.expressions.proofs.Turns.{at-number, at-opens, at-sum, at-product, at-shuts}
 
-module _ (W : Type 0) (of : ℕ → W) (operate : Operation → W → W → W) (enclose : W → W) where
+module _ (W : Type 0) (of : Token → ℕ → W) (operate : Token → Operation → W → W → W) (enclose : Token → W → W) where
   abbrev Wait : Type 0
   Wait = Waiting W of operate enclose
 
@@ -42,29 +42,29 @@ module _ (W : Type 0) (of : ℕ → W) (operate : Operation → W → W → W) (
   FactorRead ts v =
       (rest : List Token) (l p : Wait) (k : Stack) → operand W of operate enclose (ts ++ rest) l p k ≡ operator W of operate enclose rest l (join p v) k
 
-  read-sum : (ts us : List Token) (a b : W) (o : Operation) (t : Token) → SumMark t o → SumRead ts a → ProductRead us b → SumRead (ts ++ (t ∷ us)) (operate o a b)
+  read-sum : (ts us : List Token) (a b : W) (o : Operation) (t : Token) → SumMark t o → SumRead ts a → ProductRead us b → SumRead (ts ++ (t ∷ us)) (operate t o a b)
   read-sum ts us a b o t m h p =
-      let l = waits (join (h .0) (h .1)) o in (
+      let l = waits (join (h .0) (h .1)) t o in (
         l,
         b,
         (λ rest k. rw append-assoc (h .2 (t ∷ (us ++ rest)) k ∙ at-sum W of operate enclose t (us ++ rest) o (sum-mark m) (h .0) (h .1) k ∙ p rest l k)),
-        ap (λ (x : W). operate o x b) (h .3),
+        ap (λ (x : W). operate t o x b) (h .3),
       )
 
-  read-product : (ts us : List Token) (a b : W) (o : Operation) (t : Token) → ProductMark t o → ProductRead ts a → FactorRead us b → ProductRead (ts ++ (t ∷ us)) (operate o a b)
+  read-product : (ts us : List Token) (a b : W) (o : Operation) (t : Token) → ProductMark t o → ProductRead ts a → FactorRead us b → ProductRead (ts ++ (t ∷ us)) (operate t o a b)
   read-product ts us a b o t m p f rest l k =
-      rw append-assoc (p (t ∷ (us ++ rest)) l k ∙ at-product W of operate enclose t (us ++ rest) o (product-mark m) l a k ∙ f rest l (waits a o) k)
+      rw append-assoc (p (t ∷ (us ++ rest)) l k ∙ at-product W of operate enclose t (us ++ rest) o (product-mark m) l a k ∙ f rest l (waits a t o) k)
 
-  read-literal : (t : Token) (v : ℕ) (k : Radix) → t .kind ≡ K.Number v k → FactorRead (t ∷ []) (of v)
+  read-literal : (t : Token) (v : ℕ) (k : Radix) → t .kind ≡ K.Number v k → FactorRead (t ∷ []) (of t v)
   read-literal t v k e rest l p q = at-number W of operate enclose t rest v (rw e) l p q
 
-  read-parentheses : (a z : Token) (ts : List Token) (v : W) → IsMark (code "(") a → IsMark (code ")") z → SumRead ts v → FactorRead (a ∷ (ts ++ (z ∷ []))) (enclose v)
+  read-parentheses : (a z : Token) (ts : List Token) (v : W) → IsMark (code "(") a → IsMark (code ")") z → SumRead ts v → FactorRead (a ∷ (ts ++ (z ∷ []))) (enclose a v)
   read-parentheses a z ts v m n h rest l p k =
       rw append-assoc
       (at-opens W of operate enclose a (ts ++ (z ∷ rest)) (open-mark a m) l p k
-      ∙ h .2 (z ∷ rest) (record { sum = l; product = p } ∷ k)
-      ∙ at-shuts W of operate enclose z rest (shut-mark z n) (h .0) (h .1) (record { sum = l; product = p }) k
-      ∙ ap (λ (x : W). operator W of operate enclose rest l (join p (enclose x)) k) (h .3))
+      ∙ h .2 (z ∷ rest) (record { sum = l; product = p; opening = a } ∷ k)
+      ∙ at-shuts W of operate enclose z rest (shut-mark z n) (h .0) (h .1) (record { sum = l; product = p; opening = a }) k
+      ∙ ap (λ (x : W). operator W of operate enclose rest l (join p (enclose a x)) k) (h .3))
 
   sum-read : {ts : List Token} {v : W} → Sum W of operate enclose ts v → SumRead ts v
   sum-read s =
@@ -84,16 +84,16 @@ module _ (W : Type 0) (of : ℕ → W) (operate : Operation → W → W → W) (
   -- what has been passed, by what waits: a sum and its mark, a product and its mark, the open parentheses
   abbrev SumLeft : List Token → Wait → Type 0
   SumLeft y nothing = y ≡ []
-  SumLeft y (waits a o) = (us : List Token) × (t : Token) × (y ≡ us ++ (t ∷ [])) × SumMark t o × Sum W of operate enclose us a
+  SumLeft y (waits a t o) = (us : List Token) × (y ≡ us ++ (t ∷ [])) × SumMark t o × Sum W of operate enclose us a
 
   abbrev ProductLeft : List Token → Wait → Type 0
   ProductLeft z nothing = z ≡ []
-  ProductLeft z (waits a o) = (us : List Token) × (t : Token) × (z ≡ us ++ (t ∷ [])) × ProductMark t o × Product W of operate enclose us a
+  ProductLeft z (waits a t o) = (us : List Token) × (z ≡ us ++ (t ∷ [])) × ProductMark t o × Product W of operate enclose us a
 
   abbrev Opened : List Token → Stack → Type 0
   Opened x [] = x ≡ []
   Opened x (f ∷ k) =
-      (x′ y z : List Token) × (t : Token) × (x ≡ x′ ++ y ++ z ++ (t ∷ [])) × IsMark (code "(") t
+      (x′ y z : List Token) × (x ≡ x′ ++ y ++ z ++ (f .opening ∷ [])) × IsMark (code "(") (f .opening)
       × Opened x′ k × SumLeft y (f .sum) × ProductLeft z (f .product)
 
   never : {v : W} → _≡_ {A = Outcome W of operate enclose} wrong (reads v) → ⊥
@@ -101,11 +101,11 @@ module _ (W : Type 0) (of : ℕ → W) (operate : Operation → W → W → W) (
 
   with-factor : (z us : List Token) (p : Wait) (v : W) → ProductLeft z p → Factor W of operate enclose us v → Product W of operate enclose (z ++ us) (join p v)
   with-factor z us nothing v h f = rw h (one-factor f)
-  with-factor z us (waits a o) v h f = rw (h .2, append-assoc) (product (h .1) (h .4) (h .3) f)
+  with-factor z us (waits a t o) v h f = rw (h .1, append-assoc) (product t (h .3) (h .2) f)
 
   with-product : (y z : List Token) (l : Wait) (v : W) → SumLeft y l → Product W of operate enclose z v → Sum W of operate enclose (y ++ z) (join l v)
   with-product y z nothing v h p = rw h (one-product p)
-  with-product y z (waits a o) v h p = rw (h .2, append-assoc) (sum (h .1) (h .4) (h .3) p)
+  with-product y z (waits a t o) v h p = rw (h .1, append-assoc) (sum t (h .3) (h .2) p)
 
   -- the whole row is a sum, wherever the reader has come to
   abbrev OperandSound : List Token → Type 0
@@ -120,37 +120,37 @@ module _ (W : Type 0) (of : ℕ → W) (operate : Operation → W → W → W) (
 
   module _ (t : Token) (ts : List Token) (f : OperandSound ts) (g : OperatorSound ts) where
     operand-turn : (s : Symbol) → Means t s → (l p : Wait) (k : Stack) (x y z : List Token) (v : W) → Opened x k → SumLeft y l → ProductLeft z p
-        → atOperand W of operate enclose s (λ l v k. operator W of operate enclose ts l v k) (λ l p k. operand W of operate enclose ts l p k) l p k ≡ reads v
+        → atOperand W of operate enclose t s (λ l v k. operator W of operate enclose ts l v k) (λ l p k. operand W of operate enclose ts l p k) l p k ≡ reads v
         → Sum W of operate enclose (x ++ y ++ z ++ (t ∷ ts)) v
     operand-turn (Y.Number n) (number e) l p k x y z v hx hy hz r =
-        let s = g l (join p (of n)) k x y (z ++ (t ∷ [])) v hx hy (with-factor z (t ∷ []) p (of n) hz (literal e)) r in
+        let s = g l (join p (of t n)) k x y (z ++ (t ∷ [])) v hx hy (with-factor z (t ∷ []) p (of t n) hz (literal e)) r in
         simp append-assoc (simp append-assoc at s)
     operand-turn (Y.Sums o) m l p k x y z v hx hy hz r = absurd (never r)
     operand-turn (Y.Products o) m l p k x y z v hx hy hz r = absurd (never r)
     operand-turn Y.Opens (opening e) l p k x y z v hx hy hz r =
-        let s = f nothing nothing (record { sum = l; product = p } ∷ k) (x ++ y ++ z ++ (t ∷ [])) [] [] v (x, y, z, t, refl, e, hx, hy, hz) refl refl r in
+        let s = f nothing nothing (record { sum = l; product = p; opening = t } ∷ k) (x ++ y ++ z ++ (t ∷ [])) [] [] v (x, y, z, refl, e, hx, hy, hz) refl refl r in
         simp append-assoc (simp append-assoc at s)
     operand-turn Y.Shuts m l p k x y z v hx hy hz r = absurd (never r)
     operand-turn Y.Other m l p k x y z v hx hy hz r = absurd (never r)
 
     operator-turn : (s : Symbol) → Means t s → (l : Wait) (w : W) (k : Stack) (x y z : List Token) (v : W) → Opened x k → SumLeft y l → Product W of operate enclose z w
-        → atOperator W of operate enclose s (λ l v k. operator W of operate enclose ts l v k) (λ l p k. operand W of operate enclose ts l p k) l w k ≡ reads v
+        → atOperator W of operate enclose t s (λ l v k. operator W of operate enclose ts l v k) (λ l p k. operand W of operate enclose ts l p k) l w k ≡ reads v
         → Sum W of operate enclose (x ++ y ++ z ++ (t ∷ ts)) v
     operator-turn (Y.Number n) m l w k x y z v hx hy hz r = absurd (never r)
     operator-turn (Y.Sums o) (sums m) l w k x y z v hx hy hz r =
-        let s = f (waits (join l w) o) nothing k x ((y ++ z) ++ (t ∷ [])) [] v hx (y ++ z, t, refl, m, with-product y z l w hy hz) refl r in
+        let s = f (waits (join l w) t o) nothing k x ((y ++ z) ++ (t ∷ [])) [] v hx (y ++ z, refl, m, with-product y z l w hy hz) refl r in
         simp append-assoc (simp append-assoc at s)
     operator-turn (Y.Products o) (products m) l w k x y z v hx hy hz r =
-        let s = f l (waits w o) k x y (z ++ (t ∷ [])) v hx hy (z, t, refl, m, hz) r in
+        let s = f l (waits w t o) k x y (z ++ (t ∷ [])) v hx hy (z, refl, m, hz) r in
         simp append-assoc (simp append-assoc at s)
     operator-turn Y.Opens m l w k x y z v hx hy hz r = absurd (never r)
     operator-turn Y.Shuts (shutting m) l w [] x y z v hx hy hz r = absurd (never r)
     operator-turn Y.Shuts (shutting m) l w (q ∷ k) x y z v hx hy hz r =
-        let u = hx .3 ∷ ((y ++ z) ++ (t ∷ [])) in
+        let u = q .opening ∷ ((y ++ z) ++ (t ∷ [])) in
         let s =
-        g (q .sum) (join (q .product) (enclose (join l w))) k (hx .0) (hx .1) (hx .2 ++ u) v (hx .6) (hx .7)
-        (with-factor (hx .2) u (q .product) (enclose (join l w)) (hx .8) (parentheses t (hx .5) (with-product y z l w hy hz) m)) r in
-        rw (hx .4) (simp append-assoc (simp append-assoc at s))
+        g (q .sum) (join (q .product) (enclose (q .opening) (join l w))) k (hx .0) (hx .1) (hx .2 ++ u) v (hx .5) (hx .6)
+        (with-factor (hx .2) u (q .product) (enclose (q .opening) (join l w)) (hx .7) (parentheses t (hx .4) (with-product y z l w hy hz) m)) r in
+        rw (hx .3) (simp append-assoc (simp append-assoc at s))
     operator-turn Y.Other m l w k x y z v hx hy hz r = absurd (never r)
 
   mutual

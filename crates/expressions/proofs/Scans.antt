@@ -17,10 +17,10 @@ use Rattle.expressions.specs.declared.ScanStep.{ScanStep}
 use Rattle.expressions.specs.declared.ScanStep.the-variants.{On, Wrong}
 use Rattle.expressions.specs.declared.Symbol.{Symbol}
 use Rattle.expressions.specs.declared.Symbol.the-variants as Y
-use Rattle.expressions.proofs.Places.{Heads, heads, Begins, ended, some, begins, row-ended}
+use Rattle.expressions.proofs.Rows.{Heads, heads, Begins, ended, some, begins, row-ended}
 use Rattle.expressions.proofs.Steps.{never}
 
-module _ (W : Type 0) (of : ℕ → W) (operated : Operation → W → W → W) (enclose : W → W) where
+module _ (W : Type 0) (of : Token → ℕ → W) (operated : Token → Operation → W → W → W) (enclose : Token → W → W) where
   abbrev Wait : Type 0
   Wait = Waiting W of operated enclose
 
@@ -48,29 +48,29 @@ module _ (W : Type 0) (of : ℕ → W) (operated : Operation → W → W → W) 
   OperatorForm ts =
       (l : Wait) (v : W) (k : Stack) → rightForm ts false (length k) ≡ isRead (operatorV ts l v k)
 
-  module _ (ts : List Token) (f : OperandForm ts) (g : OperatorForm ts) where
+  module _ (t : Token) (ts : List Token) (f : OperandForm ts) (g : OperatorForm ts) where
     operand-turn : (s : Symbol) (l p : Wait) (k : Stack)
         → scanOn (scanStep s true (length k)) (λ q d. rightForm ts q d)
-        ≡ isRead (atOperand W of operated enclose s (operatorV ts) (operandV ts) l p k)
-    operand-turn (Y.Number n) l p k = g l (join p (of n)) k
+        ≡ isRead (atOperand W of operated enclose t s (operatorV ts) (operandV ts) l p k)
+    operand-turn (Y.Number n) l p k = g l (join p (of t n)) k
     operand-turn (Y.Sums o) l p k = refl
     operand-turn (Y.Products o) l p k = refl
-    operand-turn Y.Opens l p k = ap (λ (d : ℕ). rightForm ts true d) (add-one (length k)) ∙ f nothing nothing (record { sum = l; product = p } ∷ k)
+    operand-turn Y.Opens l p k = ap (λ (d : ℕ). rightForm ts true d) (add-one (length k)) ∙ f nothing nothing (record { sum = l; product = p; opening = t } ∷ k)
     operand-turn Y.Shuts l p k = refl
     operand-turn Y.Other l p k = refl
 
     operator-turn : (s : Symbol) (l : Wait) (v : W) (k : Stack)
         → scanOn (scanStep s false (length k)) (λ q d. rightForm ts q d)
-        ≡ isRead (atOperator W of operated enclose s (operatorV ts) (operandV ts) l v k)
+        ≡ isRead (atOperator W of operated enclose t s (operatorV ts) (operandV ts) l v k)
     operator-turn (Y.Number n) l v k = refl
-    operator-turn (Y.Sums o) l v k = f (waits (join l v) o) nothing k
-    operator-turn (Y.Products o) l v k = f l (waits v o) k
+    operator-turn (Y.Sums o) l v k = f (waits (join l v) t o) nothing k
+    operator-turn (Y.Products o) l v k = f l (waits v t o) k
     operator-turn Y.Opens l v k = refl
     operator-turn Y.Shuts l v [] = refl
     operator-turn Y.Shuts l v (q ∷ k) =
         let n = length k in
         let e : suc n - 1 ≡ n = omega arith in
-        rw (eqb·suc-zero n, e) (g (q .sum) (join (q .product) (enclose (join l v))) k)
+        rw (eqb·suc-zero n, e) (g (q .sum) (join (q .product) (enclose (q .opening) (join l v))) k)
     operator-turn Y.Other l v k = refl
 
   mutual
@@ -78,12 +78,12 @@ module _ (W : Type 0) (of : ℕ → W) (operated : Operation → W → W → W) 
 
     operand-form : (ts : List Token) → OperandForm ts
     operand-form [] l p k = refl
-    operand-form (t ∷ ts) l p k = operand-turn ts (λ l p k. operand-form ts l p k) (λ l v k. operator-form ts l v k) (kindSymbol (t .kind)) l p k
+    operand-form (t ∷ ts) l p k = operand-turn t ts (λ l p k. operand-form ts l p k) (λ l v k. operator-form ts l v k) (kindSymbol (t .kind)) l p k
 
     operator-form : (ts : List Token) → OperatorForm ts
     operator-form [] l v [] = refl
     operator-form [] l v (f ∷ k) = eqb·suc-zero (length k)
-    operator-form (t ∷ ts) l v k = operator-turn ts (λ l p k. operand-form ts l p k) (λ l v k. operator-form ts l v k) (kindSymbol (t .kind)) l v k
+    operator-form (t ∷ ts) l v k = operator-turn t ts (λ l p k. operand-form ts l p k) (λ l v k. operator-form ts l v k) (kindSymbol (t .kind)) l v k
 
   pub form-read : (ts : List Token) → rightForm ts true 0 ≡ isRead (operand W of operated enclose ts nothing nothing [])
   form-read ts = operand-form ts nothing nothing []
@@ -119,7 +119,7 @@ other-stops true h = refl
 other-stops false h = refl
 
 module _ (s : List ℕ) (at : ℕ) (q : Bool) (h : ℕ) {t : Token} (k : t ≡ tokenAt s at) {e : Bool} (f : e ≡ isEnd (t .kind)) where
-  ends-as : isEnd (tokenAt s at .kind) ≡ e
+  pub ends-as : isEnd (tokenAt s at .kind) ≡ e
   ends-as = sym (f ∙ ap (λ (t : Token). isEnd (t .kind)) k)
 
   pub scan-ended : e ≡ true → rightForm (tokensFrom s at) q h ≡ scanEnd q h
@@ -127,7 +127,7 @@ module _ (s : List ℕ) (at : ℕ) (q : Bool) (h : ℕ) {t : Token} (k : t ≡ t
   scan-ended g = ap (λ (ts : List Token). rightForm ts q h) (row-ended s at (ends-as ∙ g))
 
   module _ {y : Symbol} (l : y ≡ kindSymbol (t .kind)) {r : ScanStep} (m : r ≡ scanStep y q h) where
-    steps-as : scanStep (kindSymbol (tokenAt s at .kind)) q h ≡ r
+    pub steps-as : scanStep (kindSymbol (tokenAt s at .kind)) q h ≡ r
     steps-as = sym (m ∙ ap (λ (y : Symbol). scanStep y q h) (l ∙ ap (λ (t : Token). kindSymbol (t .kind)) k))
 
     pub scan-wrong : e ≡ false → r ≡ Wrong → rightForm (tokensFrom s at) q h ≡ false
@@ -139,7 +139,7 @@ module _ (s : List ℕ) (at : ℕ) (q : Bool) (h : ℕ) {t : Token} (k : t ≡ t
         go (some {ts} x) = ap (λ (r : ScanStep). scanOn r (λ q h. rightForm ts q h)) (steps-as ∙ n)
 
     module _ {q′ : Bool} {h′ : ℕ} (n : r ≡ On q′ h′) where
-      on-by : Heads s at
+      pub on-by : Heads s at
       on-by =
           heads s at refl
           (λ x. let z : Wrong ≡ On q′ h′ = sym (ap (λ (y : Symbol). scanStep y q h) x ∙ other-stops q h) ∙ steps-as ∙ n in never (cc))

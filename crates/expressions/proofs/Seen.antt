@@ -8,9 +8,11 @@ use Rattle.numerals.specs.declared.Cursor.{Cursor}
 use Rattle.tokens.specs.Reading.{tokenAt}
 use Rattle.tokens.specs.declared.Token.{Token}
 use Rattle.expressions.specs.Worths.{ofNumber}
+use Rattle.expressions.specs.Places.{foundAt}
 use Rattle.expressions.specs.Reading.{kindSymbol}
-use Rattle.expressions.specs.Inner.Parts.{startOf, joinedPart, closedPart, Level, factors, sums, Says}
+use Rattle.expressions.specs.Inner.Parts.{startOf, joinedPart, closedPart, numberAt, Level, factors, sums, Says}
 use Rattle.expressions.specs.declared.Operation.{Operation}
+use Rattle.expressions.specs.declared.Found.{Found}
 use Rattle.expressions.specs.declared.Worth.{Worth}
 use Rattle.expressions.specs.declared.Mark.{Mark}
 use Rattle.expressions.specs.declared.Mark.the-variants.{Joins, Absent}
@@ -31,10 +33,11 @@ module _ (s : List ℕ) (at : ℕ) {t : Token} {y : Symbol} (k : t ≡ tokenAt s
     pub seen-neither : m ≡ S.Neither → Says factors factors s at room Wrong
     seen-neither g = factor-neither s at room (seen startOf e g)
 
-    pub seen-number : {v : ℕ} {w : Worth} → m ≡ S.Number v → w ≡ ofNumber v → Says factors factors s at room (Done w (t .next))
-    seen-number {v} g h =
-        subst⁻¹ (λ (w : Worth). Says factors factors s at room (Done w (t .next))) h
-        (subst⁻¹ (λ (t : Token). Says factors factors s at room (Done (ofNumber v) (t .next))) k (factor-number s at room v (seen startOf e g)))
+    pub seen-number : {v : ℕ} {w : Worth} {r : Found} → m ≡ S.Number v → w ≡ ofNumber v → r ≡ foundAt (t .start) w
+        → Says factors factors s at room (Done r (t .next))
+    seen-number {v} g h f =
+        subst⁻¹ (λ (r : Found). Says factors factors s at room (Done r (t .next))) (f ∙ ap (foundAt (t .start)) h)
+        (subst⁻¹ (λ (t : Token). Says factors factors s at room (Done (numberAt t v) (t .next))) k (factor-number s at room v (seen startOf e g)))
 
     module _ (g : m ≡ S.Opens) where
       pub seen-deep : room ≡ 0 → Says factors factors s at room Deep
@@ -46,7 +49,7 @@ module _ (s : List ℕ) (at : ℕ) {t : Token} {y : Symbol} (k : t ≡ tokenAt s
           (factor-closed s at (seen startOf e g) z p (subst (λ (t : Token). Says sums sums s (t .next .at) room′ p) k h))
 
 -- the loops of products and of sums, at a part that was read so far
-module _ {inner outer : Level} {mark : Symbol → Mark} (n : Nests inner outer mark) (s : List ℕ) (at room : ℕ) {part : Part} {v : Worth} {c : Cursor}
+module _ {inner outer : Level} {mark : Symbol → Mark} (n : Nests inner outer mark) (s : List ℕ) (at room : ℕ) {part : Part} {v : Found} {c : Cursor}
     (d : part ≡ Done v c) (h : Says outer inner s at room part) {t : Token} {y : Symbol} {m : Mark}
     (k : t ≡ tokenAt s (c .at)) (l : y ≡ kindSymbol (t .kind)) (e : m ≡ mark y) where
   so-far : Says outer inner s at room (Done v c)
@@ -55,15 +58,18 @@ module _ {inner outer : Level} {mark : Symbol → Mark} (n : Nests inner outer m
   pub seen-stop : m ≡ Absent → Says outer outer s at room (Done v c)
   seen-stop g = part-stop n s at room v c so-far (seen s (c .at) k l mark e g)
 
-  module _ {o : Operation} (g : m ≡ Joins o) (p : Part) {p′ : Part} (q : p′ ≡ joinedPart o v p) (r : Says inner inner s (t .next .at) room p) where
+  module _ {o : Operation} (g : m ≡ Joins o) (p : Part) {p′ : Part} (q : p′ ≡ joinedPart (t .start) o v p) (r : Says inner inner s (t .next .at) room p) where
     further : Says inner inner s (tokenAt s (c .at) .next .at) room p
     further = subst (λ (t : Token). Says inner inner s (t .next .at) room p) k r
 
+    joined-as : p′ ≡ joinedPart (tokenAt s (c .at) .start) o v p
+    joined-as = q ∙ ap (λ (t : Token). joinedPart (t .start) o v p) k
+
     pub seen-next : Says outer inner s at room p′
-    seen-next = subst⁻¹ (λ (p : Part). Says outer inner s at room p) q (part-next n s at room v c so-far o (seen s (c .at) k l mark e g) p further)
+    seen-next = subst⁻¹ (λ (p : Part). Says outer inner s at room p) joined-as (part-next n s at room v c so-far o (seen s (c .at) k l mark e g) p further)
 
     pub seen-less : left (length s) p′ < left (length s) part
     seen-less =
         subst⁻¹ (λ (p : Part). left (length s) p′ < left (length s) p) d
-        (subst⁻¹ (λ (p : Part). left (length s) p < left (length s) (Done v c)) q
+        (subst⁻¹ (λ (p : Part). left (length s) p < left (length s) (Done v c)) joined-as
         (part-less n s at room v c so-far o (seen s (c .at) k l mark e g) p further))

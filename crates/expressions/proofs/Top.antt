@@ -1,4 +1,4 @@
--- What this crate promises, beyond the equation at `expression`: what that equation's right side means.
+-- What this crate promises, beyond the equations at `expression`, `fault` and `too_deep`: what the right sides of these mean.
 use Prim.Native.Nat.{ℕ, _≤_, _<_}
 use mathlib.Core.Bool.{true}
 use mathlib.Core.List.{List, []}
@@ -8,11 +8,13 @@ use lib.IntN.{ℤ}
 use Rattle.tokens.specs.declared.Token.{Token}
 use Rattle.expressions.specs.Grammar.{Sum}
 use Rattle.codes.specs.Limits.{deepest}
-use Rattle.expressions.specs.Trees.{Tree, node, depth, Expression}
+use Rattle.expressions.specs.Trees.{Tree, node, literalOf, nodeOf, enclosedOf, depth, Expression}
 use Rattle.expressions.specs.Worths.{operation, operate, worthOf}
 use Rattle.expressions.specs.Reading.{nothing, reads, wrong, operand, treeRead, expressionRead, refusalOf}
-use Rattle.expressions.specs.Inner.Scanning.{rightForm, passes}
+use Rattle.expressions.specs.Places.{Placed, literalAt, nodeAt, enclosedAt, PlacedExpression, strip, foundOf, plain, faultIn, here, deepAt, placeOr, tooDeepIn}
+use Rattle.expressions.specs.Inner.Scanning.{rightForm, passes, levelAt}
 use Rattle.expressions.specs.declared.Operation.{Operation}
+use Rattle.expressions.specs.declared.Found.the-variants as F
 use Rattle.expressions.specs.declared.Worth.{Worth}
 use Rattle.expressions.specs.declared.Worth.the-variants.{Is, OutOfRange, ByZero}
 use Rattle.expressions.specs.declared.ExpressionRead.the-variants.{Read, TooDeep, WrongForm}
@@ -21,6 +23,9 @@ use Rattle.expressions.proofs.Folds as Folds
 use Rattle.expressions.proofs.Folds.{foldOutcome}
 use Rattle.expressions.proofs.Exactly as Exactly
 use Rattle.expressions.proofs.Numbers as Numbers
+use Rattle.expressions.proofs.Placed as Placed
+use Rattle.expressions.proofs.Levels as Levels
+use Rattle.expressions.proofs.Faults as Faults
 use Rattle.expressions.proofs.Kept as Kept
 use Rattle.expressions.proofs.Kept.{Within}
 use Rattle.expressions.proofs.Examples as Examples
@@ -30,13 +35,14 @@ use Rattle.expressions.proofs.Examples.{Examples}
 
 -- "`+ - * / %` with usual precedence, left to right; an operand is a number or an expression in parentheses": over any kind of
 -- value, the reader finds a value exactly where the grammar has it.
-pub value-exactly : (W : Type 0) (number : ℕ → W) (operate : Operation → W → W → W) (enclose : W → W) (ts : List Token) {v : W}
+pub value-exactly : (W : Type 0) (number : Token → ℕ → W) (operate : Token → Operation → W → W → W) (enclose : Token → W → W)
+    (ts : List Token) {v : W}
     → (operand W number operate enclose ts nothing nothing [] ≡ reads v) ↔ Sum W number operate enclose ts v
 value-exactly = Exactly.value-exactly
 
 -- A row of tokens has one reading at most, and the reader finds a tree exactly where there is one.
 pub one-reading : {ts : List Token} {tree tree′ : Tree} → Expression ts tree → Expression ts tree′ → tree ≡ tree′
-one-reading s r = Readings.once Tree Tree.literal node Tree.enclosed s r
+one-reading s r = Readings.once Tree literalOf nodeOf enclosedOf s r
 
 pub tree-exactly : (ts : List Token) {tree : Tree} → (treeRead ts ≡ reads tree) ↔ Expression ts tree
 tree-exactly = Exactly.tree-exactly
@@ -46,7 +52,7 @@ no-tree = Exactly.no-tree
 
 -- Read over any kind of value, a row is worth what its one tree is worth.
 pub folds : (W : Type 0) (number : ℕ → W) (operate : Operation → W → W → W) (enclose : W → W) (ts : List Token)
-    → operand W number operate enclose ts nothing nothing [] ≡ foldOutcome W number operate enclose (treeRead ts)
+    → operand W (λ t. number) (λ t. operate) (λ t. enclose) ts nothing nothing [] ≡ foldOutcome W number operate enclose (treeRead ts)
 folds = Folds.read-folds
 
 -- ---- the three answers of `expression`
@@ -110,6 +116,46 @@ module _ (o : Operation) (a b : Tree) where
   pub then-operation : {x y : ℤ} → worthOf a ≡ Is x → worthOf b ≡ Is y → worthOf (node o a b) ≡ operation o x y
   unfolding worthOf operate
   then-operation e f = ap₂ (operate o) e f
+
+-- ---- the places of 6, 7 and 8 (02, K4)
+
+-- A row with a reading has one tree with places, and that tree stripped of them is the row's tree.
+pub one-placed : {ts : List Token} {p q : Placed} → PlacedExpression ts p → PlacedExpression ts q → p ≡ q
+one-placed s r = Readings.once Placed literalAt nodeAt enclosedAt s r
+
+pub placed-exactly : (ts : List Token) {tree : Tree} → Expression ts tree ↔ ((p : Placed) × PlacedExpression ts p × (strip p ≡ tree))
+placed-exactly = Faults.placed-exactly
+
+-- What is found in it is the tree's worth.
+pub plain-found : (p : Placed) → plain (foundOf p) ≡ worthOf (strip p)
+plain-found = Placed.plain-found
+
+-- "the number or the operation's mark in 6, 7": the refusal is 6, or 7, and `fault` answers a place, exactly where the tree with places has
+-- its first fault there.
+pub fault-exactly : (ts : List Token) {at : ℕ}
+    → (((refusalOf (expressionRead ts) ≡ 6) × (faultIn ts ≡ at))
+    ↔ ((p : Placed) × PlacedExpression ts p × (depth (strip p) ≤ deepest) × (foundOf p ≡ F.OutOfRange at)))
+    × (((refusalOf (expressionRead ts) ≡ 7) × (faultIn ts ≡ at))
+    ↔ ((p : Placed) × PlacedExpression ts p × (depth (strip p) ≤ deepest) × (foundOf p ≡ F.ByZero at)))
+fault-exactly ts = (Faults.fault-6 ts, Faults.fault-7 ts)
+
+pub fault-none : (ts : List Token) → (refusalOf (expressionRead ts) ≡ 6 → ⊥) → (refusalOf (expressionRead ts) ≡ 7 → ⊥) → faultIn ts ≡ 0
+fault-none = Faults.fault-none
+
+-- "the parenthesis opening level 33 in 8": a tree is too deep exactly where one opens it; `too_deep` answers its place, and that is where
+-- the scan of the row from the left first has more than 32 open.
+pub opens-exactly : (p : Placed) → ((at : ℕ) × (deepAt p ≡ here at)) ↔ (deepest < depth (strip p))
+opens-exactly = Placed.deep-exactly
+
+pub deep-place : (ts : List Token) {at : ℕ}
+    → ((expressionRead ts ≡ TooDeep) × (tooDeepIn ts ≡ at)) ↔ ((p : Placed) × PlacedExpression ts p × (deepAt p ≡ here at))
+deep-place = Faults.deep-place
+
+pub deep-none : (ts : List Token) → (expressionRead ts ≡ TooDeep → ⊥) → tooDeepIn ts ≡ 0
+deep-none = Faults.deep-none
+
+pub deep-leftmost : {ts : List Token} {p : Placed} → PlacedExpression ts p → levelAt ts true 0 ≡ placeOr (deepAt p) 0
+deep-leftmost = Levels.level-found
 
 -- ---- form and depth in constant space
 

@@ -7,7 +7,7 @@ use Rattle.expressions.specs.Reading.{kindSymbol, Waiting, nothing, wait
 use Rattle.expressions.specs.declared.Operation.{Operation}
 use Rattle.expressions.specs.declared.Symbol.the-variants as Y
 
-module _ (W : Type 0) (number : ℕ → W) (operate : Operation → W → W → W) (enclose : W → W) where
+module _ (W : Type 0) (number : Token → ℕ → W) (operate : Token → Operation → W → W → W) (enclose : Token → W → W) where
   abbrev Wait : Type 0
   Wait = Waiting W number operate enclose
 
@@ -19,27 +19,27 @@ module _ (W : Type 0) (number : ℕ → W) (operate : Operation → W → W → 
 
   module _ (t : Token) (ts : List Token) where
     pub at-number : (n : ℕ) → kindSymbol (t .kind) ≡ Y.Number n → (l p : Wait) (k : Stack)
-        → operand W number operate enclose (t ∷ ts) l p k ≡ operator W number operate enclose ts l (join p (number n)) k
+        → operand W number operate enclose (t ∷ ts) l p k ≡ operator W number operate enclose ts l (join p (number t n)) k
     unfolding operand operator
     at-number n e l p k = rw e
 
     pub at-opens : kindSymbol (t .kind) ≡ Y.Opens → (l p : Wait) (k : Stack)
-        → operand W number operate enclose (t ∷ ts) l p k ≡ operand W number operate enclose ts nothing nothing (record { sum = l; product = p } ∷ k)
+        → operand W number operate enclose (t ∷ ts) l p k ≡ operand W number operate enclose ts nothing nothing (record { sum = l; product = p; opening = t } ∷ k)
     unfolding operand operator
     at-opens e l p k = rw e
 
     pub at-sum : (o : Operation) → kindSymbol (t .kind) ≡ Y.Sums o → (l : Wait) (v : W) (k : Stack)
-        → operator W number operate enclose (t ∷ ts) l v k ≡ operand W number operate enclose ts (waits (join l v) o) nothing k
+        → operator W number operate enclose (t ∷ ts) l v k ≡ operand W number operate enclose ts (waits (join l v) t o) nothing k
     unfolding operand operator
     at-sum o e l v k = rw e
 
     pub at-product : (o : Operation) → kindSymbol (t .kind) ≡ Y.Products o → (l : Wait) (v : W) (k : Stack)
-        → operator W number operate enclose (t ∷ ts) l v k ≡ operand W number operate enclose ts l (waits v o) k
+        → operator W number operate enclose (t ∷ ts) l v k ≡ operand W number operate enclose ts l (waits v t o) k
     unfolding operand operator
     at-product o e l v k = rw e
 
     pub at-shuts : kindSymbol (t .kind) ≡ Y.Shuts → (l : Wait) (v : W) (f : Frame W number operate enclose) (k : Stack)
         → operator W number operate enclose (t ∷ ts) l v (f ∷ k)
-        ≡ operator W number operate enclose ts (f .sum) (join (f .product) (enclose (join l v))) k
+        ≡ operator W number operate enclose ts (f .sum) (join (f .product) (enclose (f .opening) (join l v))) k
     unfolding operand operator
     at-shuts e l v f k = rw e

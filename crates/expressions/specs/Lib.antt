@@ -6,4 +6,5 @@ pub mod Grammar
 pub mod Trees
 pub mod Worths
 pub mod Reading
+pub mod Places
 pub mod Inner

@@ -8,7 +8,7 @@ use Rattle.tokens.specs.declared.Kind.{Kind}
 use Rattle.tokens.specs.declared.Kind.the-variants as K
 use Rattle.tokens.specs.declared.Token.{Token}
 use Rattle.codes.specs.Limits.{deepest}
-use Rattle.expressions.specs.Trees.{Tree, depth, literal, node, enclosed}
+use Rattle.expressions.specs.Trees.{Tree, literalOf, nodeOf, enclosedOf, depth}
 use Rattle.expressions.specs.Worths.{worthOf, faultOf}
 use Rattle.expressions.specs.declared.Operation.{Operation}
 use Rattle.expressions.specs.declared.Operation.the-variants.{Plus, Minus, Times, Over, Rest}
@@ -36,11 +36,11 @@ kindSymbol (K.Number v k) = Number v
 kindSymbol K.Text = Other
 kindSymbol (K.Mark b) = markSymbol b
 
--- the reader goes through the tokens once, with what waits to the left; over any kind of value
-module _ (W : Type 0) (number : ℕ → W) (operate : Operation → W → W → W) (enclose : W → W) where
+-- the reader goes through the tokens once, with what waits to the left; over any kind of value, made with the tokens
+module _ (W : Type 0) (number : Token → ℕ → W) (operate : Token → Operation → W → W → W) (enclose : Token → W → W) where
   pub data Waiting : Type 0 where
     nothing : Waiting
-    waits : W → Operation → Waiting
+    waits : W → Token → Operation → Waiting
 
   pub data Outcome : Type 0 where
     reads : W → Outcome
@@ -48,35 +48,36 @@ module _ (W : Type 0) (number : ℕ → W) (operate : Operation → W → W → 
 
   abbrev pub joined : Waiting → W → W
   joined nothing v = v
-  joined (waits a o) v = operate o a v
+  joined (waits a t o) v = operate t o a v
 
-  -- what waits outside a parenthesis
+  -- what waits outside a parenthesis, and the parenthesis
   pub record Frame : Type 0 where
     pub sum : Waiting
     pub product : Waiting
+    pub opening : Token
 
   -- what is next at an operand's place, with the reader of what follows an operand and that of a further operand
-  abbrev pub atOperand : Symbol → (Waiting → W → List Frame → Outcome) → (Waiting → Waiting → List Frame → Outcome) → Waiting → Waiting
+  abbrev pub atOperand : Token → Symbol → (Waiting → W → List Frame → Outcome) → (Waiting → Waiting → List Frame → Outcome) → Waiting → Waiting
       → List Frame → Outcome
-  atOperand (Number n) operators operands l p k = operators l (joined p (number n)) k
-  atOperand (Sums o) operators operands l p k = wrong
-  atOperand (Products o) operators operands l p k = wrong
-  atOperand Opens operators operands l p k = operands nothing nothing (record { sum = l; product = p } ∷ k)
-  atOperand Shuts operators operands l p k = wrong
-  atOperand Other operators operands l p k = wrong
+  atOperand t (Number n) operators operands l p k = operators l (joined p (number t n)) k
+  atOperand t (Sums o) operators operands l p k = wrong
+  atOperand t (Products o) operators operands l p k = wrong
+  atOperand t Opens operators operands l p k = operands nothing nothing (record { sum = l; product = p; opening = t } ∷ k)
+  atOperand t Shuts operators operands l p k = wrong
+  atOperand t Other operators operands l p k = wrong
 
   abbrev pub shut : (Waiting → W → List Frame → Outcome) → Waiting → W → List Frame → Outcome
   shut operators l v [] = wrong
-  shut operators l v (f ∷ k) = operators (f .sum) (joined (f .product) (enclose (joined l v))) k
+  shut operators l v (f ∷ k) = operators (f .sum) (joined (f .product) (enclose (f .opening) (joined l v))) k
 
-  abbrev pub atOperator : Symbol → (Waiting → W → List Frame → Outcome) → (Waiting → Waiting → List Frame → Outcome) → Waiting → W
+  abbrev pub atOperator : Token → Symbol → (Waiting → W → List Frame → Outcome) → (Waiting → Waiting → List Frame → Outcome) → Waiting → W
       → List Frame → Outcome
-  atOperator (Number n) operators operands l v k = wrong
-  atOperator (Sums o) operators operands l v k = operands (waits (joined l v) o) nothing k
-  atOperator (Products o) operators operands l v k = operands l (waits v o) k
-  atOperator Opens operators operands l v k = wrong
-  atOperator Shuts operators operands l v k = shut operators l v k
-  atOperator Other operators operands l v k = wrong
+  atOperator t (Number n) operators operands l v k = wrong
+  atOperator t (Sums o) operators operands l v k = operands (waits (joined l v) t o) nothing k
+  atOperator t (Products o) operators operands l v k = operands l (waits v t o) k
+  atOperator t Opens operators operands l v k = wrong
+  atOperator t Shuts operators operands l v k = shut operators l v k
+  atOperator t Other operators operands l v k = wrong
 
   abbrev pub atEnd : Waiting → W → List Frame → Outcome
   atEnd l v [] = reads (joined l v)
@@ -86,18 +87,18 @@ module _ (W : Type 0) (number : ℕ → W) (operate : Operation → W → W → 
     -- an operand is next
     pub operand : List Token → Waiting → Waiting → List Frame → Outcome
     operand [] l p k = wrong
-    operand (t ∷ ts) l p k = atOperand (kindSymbol (t .kind)) (λ l v k. operator ts l v k) (λ l p k. operand ts l p k) l p k
+    operand (t ∷ ts) l p k = atOperand t (kindSymbol (t .kind)) (λ l v k. operator ts l v k) (λ l p k. operand ts l p k) l p k
 
     -- an operation, a closing parenthesis or the end is next
     pub operator : List Token → Waiting → W → List Frame → Outcome
     operator [] l v k = atEnd l v k
-    operator (t ∷ ts) l v k = atOperator (kindSymbol (t .kind)) (λ l v k. operator ts l v k) (λ l p k. operand ts l p k) l v k
+    operator (t ∷ ts) l v k = atOperator t (kindSymbol (t .kind)) (λ l v k. operator ts l v k) (λ l p k. operand ts l p k) l v k
 
-abbrev pub treeRead : List Token → Outcome Tree literal node enclosed
-treeRead ts = operand Tree literal node enclosed ts nothing nothing []
+abbrev pub treeRead : List Token → Outcome Tree literalOf nodeOf enclosedOf
+treeRead ts = operand Tree literalOf nodeOf enclosedOf ts nothing nothing []
 
 -- form 3, then depth 8, then the worth with its 6 or 7
-abbrev pub judged : Outcome Tree literal node enclosed → ExpressionRead
+abbrev pub judged : Outcome Tree literalOf nodeOf enclosedOf → ExpressionRead
 judged (reads tree) = cond (leb (depth tree) deepest) (Read (worthOf tree)) TooDeep
 judged wrong = WrongForm
 

@@ -10,9 +10,19 @@ pub data Tree : Type 0 where
   node : Operation → Tree → Tree → Tree
   enclosed : Tree → Tree
 
+-- a tree without places leaves the tokens out
+abbrev pub literalOf : Token → ℕ → Tree
+literalOf t v = literal v
+
+abbrev pub nodeOf : Token → Operation → Tree → Tree → Tree
+nodeOf t o a b = node o a b
+
+abbrev pub enclosedOf : Token → Tree → Tree
+enclosedOf t a = enclosed a
+
 -- the reading of a row of tokens
 abbrev pub Expression : List Token → Tree → Type 0
-Expression ts tree = G.Sum Tree literal node enclosed ts tree
+Expression ts tree = G.Sum Tree literalOf nodeOf enclosedOf ts tree
 
 -- how deep its parentheses are
 unfoldable pub depth : Tree → ℕ

@@ -1,11 +1,12 @@
-// Expressions of ORG, EQU and RES (document 01, "Rules of writing"). The meaning is in specs/: Grammar.antt, Trees.antt and
-// Worths.antt.
+// Expressions of ORG, EQU and RES (document 01, "Rules of writing"). The meaning is in specs/: Grammar.antt, Trees.antt, Worths.antt,
+// and Places.antt for the places of refusals.
 use numerals::Cursor;
 
-mod symbols; // what a token is to an expression
+pub mod symbols; // what a token is to an expression
 pub mod reading; // the expression at a cursor
+pub mod places; // the place of its refusal
 mod parts; // sums, products and factors
-mod scanning; // form and depth in constant space
+pub mod scanning; // form and depth in constant space
 mod worths; // what numbers and operations are worth
 
 pub enum Operation {
@@ -23,6 +24,13 @@ pub enum Worth {
     ByZero,
 }
 
+// What an expression is worth, with the place of the fault: the number, or the operation's mark.
+pub enum Found {
+    Is(i32),
+    OutOfRange(usize),
+    ByZero(usize),
+}
+
 // What a line's tokens from a cursor on are as an expression: refusal 3 for form, 8 for depth, or the worth.
 pub enum ExpressionRead {
     Read(Worth),
@@ -31,7 +39,7 @@ pub enum ExpressionRead {
 }
 
 // What a token is to an expression: an operand, a mark of sums or of products, a parenthesis, or nothing that one has.
-enum Symbol {
+pub enum Symbol {
     Number(u32),
     Sums(Operation),
     Products(Operation),
@@ -53,15 +61,15 @@ enum Mark {
     Absent,
 }
 
-// What reading a sum, a product or a factor gives: its worth and the cursor after it, a wrong form, or parentheses too deep.
+// What reading a sum, a product or a factor gives: what was found and the cursor after it, a wrong form, or parentheses too deep.
 enum Part {
-    Done(Worth, Cursor),
+    Done(Found, Cursor),
     Wrong,
     Deep,
 }
 
 // A token more of the scan: whether an operand is next and how many parentheses are open, or the form is wrong.
-enum ScanStep {
+pub enum ScanStep {
     On(bool, usize),
     Wrong,
 }

@@ -1,27 +1,28 @@
 // Sums, products and factors (specs/Inner/Parts.antt). The three readers call each other; the room for parentheses falls.
 ghost use mathlib.Core.Path.{_≡_};
 ghost use Rattle.expressions.specs.Inner.Parts.{factors, products, sums, joinedPart, closedPart, Says};
+use super::Found;
 use super::Mark;
 use super::Operation;
 use super::Part;
 use super::Start;
-use super::Worth;
 use super::symbols::is_shut;
 use super::symbols::product_mark;
 use super::symbols::start_of;
 use super::symbols::sum_mark;
 use super::symbols::symbol_of;
 use super::worths::combined;
+use super::worths::found_at;
 use super::worths::number_worth;
 use numerals::Cursor;
 use tokens::tokens::next_token;
 
-// A further part, joined to what stands to its left.
-fn joined(o: Operation, v: Worth, further: Part) -> Part
-    ensures { λ r. ⌜ r ≡ joinedPart o v further ⌝ }
+// A further part, joined to what stands to its left by a mark at a place.
+fn joined(at: usize, o: Operation, v: Found, further: Part) -> Part
+    ensures { λ r. ⌜ r ≡ joinedPart at o v further ⌝ }
 {
     match further {
-        Part::Done(w, c) => Part::Done(combined(o, v, w), c),
+        Part::Done(w, c) => Part::Done(combined(at, o, v, w), c),
         Part::Wrong => Part::Wrong,
         Part::Deep => Part::Deep,
     }
@@ -52,9 +53,10 @@ fn factor(s: &[u8], from: Cursor, room: u32) -> Part
 {
     let t = next_token(s, from);
     let kind = t.kind;
+    let start = t.start;
     let next = t.next;
     match start_of(symbol_of(kind)) {
-        Start::Number(v) => Part::Done(number_worth(v), next),
+        Start::Number(v) => Part::Done(found_at(start, number_worth(v)), next),
         Start::Opens => {
             if room == 0 {
                 return Part::Deep;
@@ -75,10 +77,11 @@ fn product(s: &[u8], from: Cursor, room: u32) -> Part
             Part::Done(v, c) => {
                 let t = next_token(s, c);
                 let kind = t.kind;
+                let mark = t.start;
                 let next = t.next;
                 match product_mark(symbol_of(kind)) {
                     Mark::Joins(o) => {
-                        part = joined(o, v, factor(s, next, room));
+                        part = joined(mark, o, v, factor(s, next, room));
                     }
                     Mark::Absent => {
                         return Part::Done(v, c);
@@ -105,10 +108,11 @@ pub(crate) fn sum(s: &[u8], from: Cursor, room: u32) -> Part
             Part::Done(v, c) => {
                 let t = next_token(s, c);
                 let kind = t.kind;
+                let mark = t.start;
                 let next = t.next;
                 match sum_mark(symbol_of(kind)) {
                     Mark::Joins(o) => {
-                        part = joined(o, v, product(s, next, room));
+                        part = joined(mark, o, v, product(s, next, room));
                     }
                     Mark::Absent => {
                         return Part::Done(v, c);

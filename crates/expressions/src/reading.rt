@@ -7,6 +7,7 @@ use super::Part;
 use super::parts::sum;
 use super::scanning::right_form;
 use super::symbols::is_end;
+use super::worths::plain_worth;
 use codes::limits::DEEPEST;
 use numerals::Cursor;
 use tokens::tokens::next_token;
@@ -22,7 +23,7 @@ pub fn expression(s: &[u8], from: Cursor) -> ExpressionRead
             let t = next_token(s, c);
             let kind = t.kind;
             if is_end(kind) {
-                ExpressionRead::Read(w)
+                ExpressionRead::Read(plain_worth(w))
             } else {
                 ExpressionRead::WrongForm
             }

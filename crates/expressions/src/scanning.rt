@@ -12,7 +12,7 @@ use numerals::Cursor;
 use tokens::tokens::next_token;
 
 // One token where an operand is next or not, and so many parentheses are open.
-fn scan_step(y: Symbol, operand: bool, height: usize) -> ScanStep
+pub fn scan_step(y: Symbol, operand: bool, height: usize) -> ScanStep
     requires { ⌜ height < 18446744073709551615 ⌝ }
     ensures { λ r. ⌜ r ≡ scanStep y operand height ⌝ }
 {
@@ -47,7 +47,7 @@ fn shut_step(height: usize) -> ScanStep
 }
 
 // Whether a row may end here.
-fn may_end(operand: bool, height: usize) -> bool
+pub fn may_end(operand: bool, height: usize) -> bool
     ensures { λ r. ⌜ r ≡ scanEnd operand height ⌝ }
 {
     if operand {

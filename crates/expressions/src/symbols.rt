@@ -8,7 +8,7 @@ use super::Start;
 use super::Symbol;
 use tokens::Kind;
 
-fn mark_symbol(b: u8) -> Symbol
+pub fn mark_symbol(b: u8) -> Symbol
     ensures { λ r. ⌜ r ≡ markSymbol b ⌝ }
 {
     match b {

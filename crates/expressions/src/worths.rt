@@ -1,6 +1,9 @@
-// What numbers and operations are worth (specs/Worths.antt): computed at 64 bits, kept within 32.
+// What numbers and operations are worth (specs/Worths.antt): computed at 64 bits, kept within 32; with the places of faults
+// (specs/Places.antt).
 ghost use mathlib.Core.Path.{_≡_};
-ghost use Rattle.expressions.specs.Worths.{within32, ofNumber, operation, operate};
+ghost use Rattle.expressions.specs.Worths.{within32, ofNumber, operation};
+ghost use Rattle.expressions.specs.Places.{foundAt, evaluate, plain, faultPlace};
+use super::Found;
 use super::Operation;
 use super::Worth;
 
@@ -51,17 +54,50 @@ fn operation_on(o: Operation, a: i32, b: i32) -> Worth
     }
 }
 
-// Left, right, operation: the first fault is the whole's.
-pub(crate) fn combined(o: Operation, a: Worth, b: Worth) -> Worth
-    ensures { λ r. ⌜ r ≡ operate o a b ⌝ }
+// A worth whose fault, if it is one, is at a place.
+pub(crate) fn found_at(at: usize, w: Worth) -> Found
+    ensures { λ r. ⌜ r ≡ foundAt at w ⌝ }
+{
+    match w {
+        Worth::Is(z) => Found::Is(z),
+        Worth::OutOfRange => Found::OutOfRange(at),
+        Worth::ByZero => Found::ByZero(at),
+    }
+}
+
+// Left, right, operation: the first fault is the whole's. The operation's is at its mark.
+pub(crate) fn combined(at: usize, o: Operation, a: Found, b: Found) -> Found
+    ensures { λ r. ⌜ r ≡ evaluate at o a b ⌝ }
 {
     match a {
-        Worth::Is(x) => match b {
-            Worth::Is(y) => operation_on(o, x, y),
-            Worth::OutOfRange => Worth::OutOfRange,
-            Worth::ByZero => Worth::ByZero,
+        Found::Is(x) => match b {
+            Found::Is(y) => found_at(at, operation_on(o, x, y)),
+            Found::OutOfRange(right) => Found::OutOfRange(right),
+            Found::ByZero(right) => Found::ByZero(right),
         },
-        Worth::OutOfRange => Worth::OutOfRange,
-        Worth::ByZero => Worth::ByZero,
+        Found::OutOfRange(left) => Found::OutOfRange(left),
+        Found::ByZero(left) => Found::ByZero(left),
+    }
+}
+
+// The worth without its place.
+pub(crate) fn plain_worth(w: Found) -> Worth
+    ensures { λ r. ⌜ r ≡ plain w ⌝ }
+{
+    match w {
+        Found::Is(z) => Worth::Is(z),
+        Found::OutOfRange(_) => Worth::OutOfRange,
+        Found::ByZero(_) => Worth::ByZero,
+    }
+}
+
+// The place of the fault, 0 where there is none.
+pub(crate) fn fault_place(w: Found) -> usize
+    ensures { λ r. ⌜ r ≡ faultPlace w ⌝ }
+{
+    match w {
+        Found::Is(_) => 0,
+        Found::OutOfRange(at) => at,
+        Found::ByZero(at) => at,
     }
 }

@@ -14,6 +14,7 @@ use Rattle.values.specs.Values.{numeral}
 use Rattle.items.specs.Items.{Item, number, string, Items, cellsOf, allInRange}
 use Rattle.items.specs.Reading.{characters, item, reads, walk, itemsRead}
 use Rattle.items.specs.Writing.{cellsFrom}
+use Rattle.items.specs.Places.{digitsOut, startsOut, outFrom, numberOutIn}
 use Rattle.items.specs.declared.ItemsRead.{ItemsRead}
 use Rattle.items.specs.declared.ItemsRead.the-variants.{Cells, WrongForm, OutOfRange}
 use Rattle.items.proofs.Readings.{in-line, sound}
@@ -27,6 +28,9 @@ dataIn line = itemsRead (bytes line) (tokensFrom (bytes line) 4)
 
 abbrev pub written : String → List ℕ
 written line = cellsFrom (bytes line) (tokensFrom (bytes line) 4)
+
+abbrev pub outIn : String → ℕ
+outIn line = numberOutIn (tokensFrom (bytes line) 4)
 
 read-in : (line : String) {is : List Item} → walk (bytes line) item (tokensFrom (bytes line) 4) ≡ reads is → ItemsIn line is
 read-in line e = sound (bytes line) (in-line (bytes line) 4) e
@@ -72,9 +76,14 @@ pub record Examples : Type 0 where
   -- form 3 comes before range 6
   pub form-first : dataIn "DATA -32769," ≡ WrongForm
   pub form-first-of-the-rest : dataIn "DATA 99999,x" ≡ WrongForm
+  -- places, from 0: the number's first byte, its `-` included, from the left
+  pub first-out : outIn "DATA 70000,80000" ≡ 5
+  pub below-zero-out : outIn "DATA 1,-32769" ≡ 7
+  pub out-behind-a-string : outIn "DATA \"a,70000\", 70000" ≡ 16
+  pub none-out : outIn "DATA 1,\"70000\"" ≡ 0
 
 pub examples : Examples
-unfolding cellsFrom itemsRead walk characters cellsOf allInRange tokensFrom tokensWithin tokenAt tokenHere blanks closing isBlank isMark unsignedAt digitsAt radixAt run rank worthAfter
+unfolding outFrom startsOut digitsOut cellsFrom itemsRead walk characters cellsOf allInRange tokensFrom tokensWithin tokenAt tokenHere blanks closing isBlank isMark unsignedAt digitsAt radixAt run rank worthAfter
 examples =
     record {
       newline-items = read-in "DATA \"ab\\n\",7" refl;
@@ -106,4 +115,8 @@ examples =
       refused-not-written = refl;
       form-first = refl;
       form-first-of-the-rest = refl;
+      first-out = refl;
+      below-zero-out = refl;
+      out-behind-a-string = refl;
+      none-out = refl;
     }

@@ -8,6 +8,7 @@ pub mod Verdicts
 pub mod Numbers
 pub mod Writes
 pub mod Small
+pub mod Located
 pub mod Spacing
 pub mod Examples
 pub mod Top

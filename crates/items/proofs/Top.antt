@@ -15,6 +15,7 @@ use Rattle.tokens.specs.declared.Token.{Token}
 use Rattle.items.specs.Items.{Item, number, Items, itemCells, cellsOf, allInRange}
 use Rattle.items.specs.Reading.{item, reads, wrong, walk, itemsRead, refusalOf}
 use Rattle.items.specs.Writing.{cellsFrom}
+use Rattle.items.specs.Places.{FirstOut, numberOutIn}
 use Rattle.items.specs.declared.ItemsRead.the-variants.{Cells, WrongForm, OutOfRange}
 use Rattle.items.proofs.Readings as Readings
 use Rattle.items.proofs.Readings.{in-line}
@@ -23,6 +24,7 @@ use Rattle.items.proofs.Verdicts as Verdicts
 use Rattle.items.proofs.Numbers as Numbers
 use Rattle.items.proofs.Writes as Writes
 use Rattle.items.proofs.Small as Small
+use Rattle.items.proofs.Located as Located
 use Rattle.items.proofs.Examples as Examples
 use Rattle.items.proofs.Examples.{Examples}
 
@@ -123,6 +125,17 @@ number-cell = Writes.number-cell
 -- Each is a cell.
 pub cells-small : (line : List ℕ) (at k : ℕ) → getD (cellsFrom line (tokensFrom line at)) k 0 < 65536
 cells-small = Small.cells-small
+
+-- ---- what `number_out` hands back (02, K4)
+
+-- "the number .. in 6", its `-` included: where a number among the items is out of range, the place at which the first such starts;
+pub number-out-exactly : (line : List ℕ) {ts : List Token} {is : List Item} → Items line ts is → allInRange is ≡ false → {p : ℕ}
+    → (numberOutIn ts ≡ p) ↔ FirstOut line ts p
+number-out-exactly = Located.number-out-exactly
+
+-- 0 where each is in range.
+pub number-out-none : (line : List ℕ) {ts : List Token} {is : List Item} → Items line ts is → allInRange is ≡ true → numberOutIn ts ≡ 0
+number-out-none = Located.number-out-none
 
 -- ---- examples, and one reply
 

@@ -2,6 +2,7 @@
 // specs/Items.antt.
 use numerals::Cursor;
 
+pub mod places; // where the first number out of range stands
 pub mod reading; // the items that follow DATA
 mod single; // one item
 mod strings; // how many characters a string has

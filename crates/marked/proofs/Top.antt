@@ -59,4 +59,12 @@ assembled text cells mark row {memory} {map} p q reply =
     accepting : List ℕ → Reply
     accepting marks =
         let t = acceptance marks in
-        record { refusal = t .number; line = record { 0 = t .line }; code = t .code-cells; «data» = t .data-cells; reserved = t .reserved-cells }
+        record {
+          refusal = t .number;
+          line = record { 0 = t .line };
+          column = record { 0 = t .column };
+          place = t .place;
+          code = t .code-cells;
+          «data» = t .data-cells;
+          reserved = t .reserved-cells;
+        }

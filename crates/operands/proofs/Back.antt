@@ -26,7 +26,7 @@ use Rattle.operands.specs.declared.Given.{Given}
 use Rattle.operands.specs.declared.InstructionRead.the-variants.{Read}
 use Rattle.operands.specs.declared.Written.{Written}
 use Rattle.operands.specs.declared.Written.the-variants.{Absent, Immediate, Register, Memory, Indirect, IndexedX, IndexedY, IndexedSp, Relative}
-use Rattle.operands.proofs.Exactly.{fits-exactly}
+use Rattle.operands.proofs.Exactly.{fits-exactly, judged-fitting}
 use Rattle.operands.proofs.Settled.{same-kind}
 
 -- ---- an operand, written
@@ -170,7 +170,7 @@ module _ (i : Instruction) (t : allowed i ≡ true) where
   -- and it is read as it is
   pub judged-back : isa.wordOf (i .first) < 65536 → isa.wordOf (i .second) < 65536
       → judged (i .op) (writtenIn i) ≡ Read (plainly (i .first)) (plainly (i .second))
-  unfolding judged
   judged-back h k =
-      rw (fits-back, first-back, second-back, word-back (i .first) h, word-back (i .second) k)
+      judged-fitting (i .op) (writtenIn i) fits-back
+      ∙ rw (first-back, second-back, word-back (i .first) h, word-back (i .second) k)
       (ap₂ Read (given-back (i .first)) (given-back (i .second)))

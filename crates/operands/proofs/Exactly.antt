@@ -1,27 +1,29 @@
 -- What is answered exactly when: each answer from a reading of the row, and back. Top.antt restates these.
-use Prim.Native.Nat.{ℕ}
+use Prim.Native.Nat.{ℕ, suc}
 use mathlib.Core.Bool.{Bool, true, false, cond, _&&_}
 use mathlib.Core.List.{List}
 use mathlib.Core.Logic.{_↔_, _⊎_, inl, inr}
 use mathlib.Core.Path.{_≡_, refl, sym, ap, ap₂, subst, _∙_}
 use native.Mathlib.Omega.{arith}
 use lib.Dec.{eqb}
-use lib.ListN.{length}
+use lib.ListN.{length, List·getD-eq-default}
 use borrow.Author.Tests.{eqb-true, eq-eqb}
 use Rattle.numerals.specs.declared.Kept.{Kept}
 use Rattle.numerals.specs.declared.Kept.the-variants as N
 use Rattle.isa.specs.Opcodes.{table, countOf}
 use Rattle.isa.specs.Operands.{allows}
 use Rattle.isa.specs.declared.Opcode.{Opcode}
+use Rattle.isa.proofs.Top.{few-operands}
 use Rattle.tokens.specs.declared.Token.{Token}
 use Rattle.values.proofs.Walks.{never}
 use Rattle.operands.specs.Operands.{OperandField}
 use Rattle.operands.specs.Reading.{Result, reads, wrong, operandsOf}
-use Rattle.operands.specs.Checks.{operandWith, operandAt, fits, wordOf, given, ranged, judged, judgedForm, instructionRead, refusalOf}
+use Rattle.operands.specs.Checks.{operandWith, operandAt, rightCount, kindAllowed, fits, wordOf, given, ranged, judged, judgedForm, instructionRead, refusalOf}
 use Rattle.operands.specs.declared.Given.{Given}
 use Rattle.operands.specs.declared.InstructionRead.{InstructionRead}
-use Rattle.operands.specs.declared.InstructionRead.the-variants.{Read, WrongForm, WrongOperands, OutOfRange}
+use Rattle.operands.specs.declared.InstructionRead.the-variants.{Read, WrongForm, WrongCount, WrongKind, OutOfRange}
 use Rattle.operands.specs.declared.Written.{Written}
+use Rattle.operands.specs.declared.Written.the-variants.{Absent}
 use Rattle.operands.proofs.Readings.{field-sound, field-complete}
 
 -- ---- number and kinds
@@ -55,7 +57,42 @@ fits-exactly op os = (there, back)
     back : Fits op os → (eqb (length os) (countOf op) && (first && second)) ≡ true
     back h = rw (eq-eqb (length os) (countOf op) (h .as-many), h .first-kind, h .second-kind)
 
--- ---- the four answers
+-- the first operand that is wrong in kind, by its place
+pub data FirstWrong (op : Opcode) (os : List Written) : ℕ → Type 0 where
+  first-wrong : kindAllowed op os 0 ≡ false → FirstWrong op os 1
+  second-wrong : kindAllowed op os 0 ≡ true → kindAllowed op os 1 ≡ false → FirstWrong op os 2
+
+module _ (op : Opcode) (os : List Written) where
+  fitting-kinds : rightCount op os ≡ true → kindAllowed op os 0 ≡ true → kindAllowed op os 1 ≡ true → fits op os ≡ true
+  unfolding fits
+  fitting-kinds c k l = rw (c, k, l)
+
+  -- a right count leaves no third operand
+  pub third-allowed : (i : ℕ) → rightCount op os ≡ true → kindAllowed op os (suc (suc i)) ≡ true
+  unfolding allows
+  third-allowed i c =
+      let few = eqb-true (length os) (countOf op) c in
+      let none : operandAt os (suc (suc i)) ≡ Absent = List·getD-eq-default os Absent (omega (arith, few, few-operands op)) in
+      rw none
+
+  -- what is judged of operands that fit, and what of operands that do not
+  pub judged-fitting : fits op os ≡ true
+      → judged op os ≡ ranged (operandAt os 0) (wordOf (operandAt os 0)) (operandAt os 1) (wordOf (operandAt os 1))
+  unfolding judged
+  judged-fitting e =
+      let h = fits-exactly op os .0 e in
+      rw (eq-eqb (length os) (countOf op) (h .as-many), h .first-kind, h .second-kind)
+
+  judged-miscounted : rightCount op os ≡ false → judged op os ≡ WrongCount
+  unfolding judged
+  judged-miscounted c = rw c
+
+  judged-misfit : {place : ℕ} → rightCount op os ≡ true → FirstWrong op os place → judged op os ≡ WrongKind place
+  unfolding judged
+  judged-misfit c (first-wrong k) = rw (c, k)
+  judged-misfit c (second-wrong k l) = rw (c, k, l)
+
+-- ---- the five answers
 
 module _ (line : List ℕ) (ts : List Token) where
   pub reads-exactly : {os : List Written} → (operandsOf line ts ≡ reads os) ↔ OperandField line ts os
@@ -101,10 +138,16 @@ module _ (line : List ℕ) (ts : List Token) where
       pub second-in-range : wordOf (operandAt operands 1) ≡ N.Cell second-word
       pub second-given : b ≡ given (operandAt operands 1) second-word
 
-    pub record Unfit : Type 0 where
+    pub record Miscounted : Type 0 where
       pub operands : List Written
       pub reading : OperandField line ts operands
-      pub not-fitting : fits op operands ≡ false
+      pub miscounted : rightCount op operands ≡ false
+
+    pub record Misfit (place : ℕ) : Type 0 where
+      pub operands : List Written
+      pub reading : OperandField line ts operands
+      pub counted : rightCount op operands ≡ true
+      pub wrong-there : FirstWrong op operands place
 
     pub record Unranged : Type 0 where
       pub operands : List Written
@@ -116,12 +159,13 @@ module _ (line : List ℕ) (ts : List Token) where
     abbrev Tells : InstructionRead → Type 0
     Tells (Read a b) = Accepted a b
     Tells WrongForm = (os : List Written) → OperandField line ts os → ⊥
-    Tells WrongOperands = Unfit
+    Tells WrongCount = Miscounted
+    Tells (WrongKind place) = Misfit place
     Tells OutOfRange = Unranged
 
     judged-tells : (os : List Written) → OperandField line ts os → Tells (judged op os)
     unfolding judged
-    judged-tells os r = by-fit (fits op os) refl
+    judged-tells os r = by-kinds (rightCount op os) (kindAllowed op os 0) (kindAllowed op os 1) refl refl refl
       where
         a : Written
         a = operandAt os 0
@@ -145,9 +189,12 @@ module _ (line : List ℕ) (ts : List Token) where
         by-words e (N.Cell x) N.OutOfRange p q = record { operands = os; reading = r; fitting = e; out-of-range = inr q }
         by-words e N.OutOfRange l p q = record { operands = os; reading = r; fitting = e; out-of-range = inl p }
 
-        by-fit : (t : Bool) → fits op os ≡ t → Tells (cond t (ranged a (wordOf a) b (wordOf b)) WrongOperands)
-        by-fit true e = by-words e (wordOf a) (wordOf b) refl refl
-        by-fit false e = record { operands = os; reading = r; not-fitting = e }
+        by-kinds : (c k l : Bool) → rightCount op os ≡ c → kindAllowed op os 0 ≡ k → kindAllowed op os 1 ≡ l
+            → Tells (cond c (cond k (cond l (ranged a (wordOf a) b (wordOf b)) (WrongKind 2)) (WrongKind 1)) WrongCount)
+        by-kinds true true true p q s = by-words (fitting-kinds op os p q s) (wordOf a) (wordOf b) refl refl
+        by-kinds true true false p q s = record { operands = os; reading = r; counted = p; wrong-there = second-wrong q s }
+        by-kinds true false l p q s = record { operands = os; reading = r; counted = p; wrong-there = first-wrong q }
+        by-kinds false k l p q s = record { operands = os; reading = r; miscounted = p }
 
     pub tells : {r : InstructionRead} → instructionRead line op ts ≡ r → Tells r
     tells e = subst Tells e (go found)
@@ -160,8 +207,9 @@ module _ (line : List ℕ) (ts : List Token) where
     abbrev TellsBy : ℕ → Type 0
     TellsBy n =
         cond (eqb n 3) ((os : List Written) → OperandField line ts os → ⊥)
-        (cond (eqb n 5) Unfit
-        (cond (eqb n 6) Unranged ((a : Given) × (b : Given) × Accepted a b)))
+        (cond (eqb n 15) Miscounted
+        (cond (eqb n 16) ((place : ℕ) × Misfit place)
+        (cond (eqb n 6) Unranged ((a : Given) × (b : Given) × Accepted a b))))
 
     pub number-tells : {n : ℕ} → refusalOf (instructionRead line op ts) ≡ n → TellsBy n
     number-tells e = subst TellsBy e (go (instructionRead line op ts) (tells refl))
@@ -169,24 +217,26 @@ module _ (line : List ℕ) (ts : List Token) where
         go : (r : InstructionRead) → Tells r → TellsBy (refusalOf r)
         go (Read a b) h = (a, b, h)
         go WrongForm h = h
-        go WrongOperands h = h
+        go WrongCount h = h
+        go (WrongKind place) h = (place, h)
         go OutOfRange h = h
 
     -- ---- and back
 
     pub accepted-back : {a b : Given} → Accepted a b → instructionRead line op ts ≡ Read a b
-    unfolding judged
     accepted-back h =
-        with-reading (reads-exactly .1 (h .reading))
-        ∙ rw (h .fitting, h .first-in-range, h .second-in-range) (ap₂ Read (sym (h .first-given)) (sym (h .second-given)))
+        with-reading (reads-exactly .1 (h .reading)) ∙ judged-fitting op (h .operands) (h .fitting)
+        ∙ rw (h .first-in-range, h .second-in-range) (ap₂ Read (sym (h .first-given)) (sym (h .second-given)))
 
-    pub unfit-back : Unfit → instructionRead line op ts ≡ WrongOperands
-    unfolding judged
-    unfit-back h = with-reading (reads-exactly .1 (h .reading)) ∙ rw (h .not-fitting)
+    pub miscounted-back : Miscounted → instructionRead line op ts ≡ WrongCount
+    miscounted-back h = with-reading (reads-exactly .1 (h .reading)) ∙ judged-miscounted op (h .operands) (h .miscounted)
+
+    pub misfit-back : {place : ℕ} → Misfit place → instructionRead line op ts ≡ WrongKind place
+    misfit-back h = with-reading (reads-exactly .1 (h .reading)) ∙ judged-misfit op (h .operands) (h .counted) (h .wrong-there)
 
     pub unranged-back : Unranged → instructionRead line op ts ≡ OutOfRange
-    unfolding judged
-    unranged-back h = with-reading (reads-exactly .1 (h .reading)) ∙ rw (h .fitting) (out (wordOf a) refl (h .out-of-range))
+    unranged-back h =
+        with-reading (reads-exactly .1 (h .reading)) ∙ judged-fitting op (h .operands) (h .fitting) ∙ out (wordOf a) refl (h .out-of-range)
       where
         a : Written
         a = operandAt (h .operands) 0

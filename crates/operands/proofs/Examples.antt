@@ -20,11 +20,12 @@ use Rattle.tokens.specs.Reading.{blanks, closing, tokenHere, tokenAt, tokensWit
 use Rattle.values.specs.Ranges.{displacementOf}
 use Rattle.values.specs.declared.LabelIn.the-variants as L
 use Rattle.operands.specs.Reading.{starts, indexStep, walk, operandsOf}
-use Rattle.operands.specs.Checks.{fits, wordOf, labelIn, judged, instructionRead}
+use Rattle.operands.specs.Checks.{wordOf, labelIn, judged, instructionRead}
+use Rattle.operands.specs.Places.{startOf, afterComma, afterCommas, operandStartIn, numberStartIn, numberOutIn}
 use Rattle.operands.specs.Settling.{settledInstruction}
 use Rattle.operands.specs.declared.Given.{Given}
 use Rattle.operands.specs.declared.InstructionRead.{InstructionRead}
-use Rattle.operands.specs.declared.InstructionRead.the-variants.{Read, WrongForm, WrongOperands, OutOfRange}
+use Rattle.operands.specs.declared.InstructionRead.the-variants.{Read, WrongForm, WrongCount, WrongKind, OutOfRange}
 
 -- what a line of operands alone is, after an opcode
 abbrev pub Says : Opcode → String → InstructionRead → Type 0
@@ -41,7 +42,8 @@ labelled o start end = record { operand = o; label = L.Named (record { start = s
 abbrev pub settledIn : Opcode → InstructionRead → ℕ → ℕ → List Operand
 settledIn op (Read a b) v w = settledInstruction op a b v w .first ∷ settledInstruction op a b v w .second ∷ []
 settledIn op WrongForm v w = []
-settledIn op WrongOperands v w = []
+settledIn op WrongCount v w = []
+settledIn op (WrongKind place) v w = []
 settledIn op OutOfRange v w = []
 
 abbrev pub Settles : Opcode → String → ℕ → ℕ → Operand → Operand → Type 0
@@ -73,6 +75,13 @@ abbrev pub OutOfRanges : Opcode → List String → Type 0
 OutOfRanges op [] = Unit {0}
 OutOfRanges op (text ∷ texts) = Says op text OutOfRange × OutOfRanges op texts
 
+-- the place of the first or the second operand, of what follows a word of 4 bytes, and of the first number out of range there
+abbrev pub startIn : String → ℕ → ℕ
+startIn line i = operandStartIn (tokensFrom (bytes line) 4) i
+
+abbrev pub outIn : String → ℕ
+outIn line = numberOutIn (bytes line) (tokensFrom (bytes line) 4)
+
 pub record Examples : Type 0 where
   -- each shape at the ends of its range: "Range -32768..65535"; "A decimal displacement .. lies in -32768..32767; a hex one .. is a bit pattern"
   pub numbers : Reads PUSH (shown "#-32768" (Immediate 32768) ∷ shown "#65535" (Immediate 65535) ∷ shown "/-32768" (Memory 32768) ∷ shown "/65535" (Memory 65535) ∷ [])
@@ -97,16 +106,20 @@ pub record Examples : Type 0 where
   pub wrong-forms : WrongForms ("#- 5" ∷ "#5[.R1]" ∷ "#1," ∷ ",#1" ∷ "#1 #2" ∷ ".R10" ∷ "R1" ∷ "[R1]" ∷ "/1[.IX]" ∷ "#5[.IX" ∷ "#-0x5" ∷ "5" ∷ "#\"a\"" ∷ [])
   pub form-first : Says NOP ".A,.A,.X" WrongForm
   -- 5: number and kinds; "Testing mode 7 by code lets `INC $3` pass as SP-indexed"
-  pub relative : Says INC "$3" WrongOperands
-  pub indexed : Says BR "#3[.SP]" WrongOperands
+  pub relative : Says INC "$3" (WrongKind 1)
+  pub indexed : Says BR "#3[.SP]" (WrongKind 1)
   pub indexed-there : Says INC "#3[.SP]" (Read (plain (IndexedSp 3)) (plain Absent))
   -- "Its `BZ .R3` is refused: the opcode's own list decides"
-  pub branch : Says BZ ".R3" WrongOperands
-  pub three : Says MOVE ".A,.A,.A" WrongOperands
-  pub none-given : Says PUSH "" WrongOperands
-  pub register-for-a-place : Says INSTR ".A" WrongOperands
-  pub kind-before-range : Says INC "$40000" WrongOperands
-  pub count-before-range : Says INC "/99999,/99999" WrongOperands
+  pub branch : Says BZ ".R3" (WrongKind 1)
+  pub three : Says MOVE ".A,.A,.A" WrongCount
+  pub none-given : Says PUSH "" WrongCount
+  pub register-for-a-place : Says INSTR ".A" (WrongKind 1)
+  pub kind-before-range : Says INC "$40000" (WrongKind 1)
+  pub count-before-range : Says INC "/99999,/99999" WrongCount
+  -- "15 comes before 16 in its old place, and of two operands wrong in kind the first is named" (02, K4)
+  pub count-before-kind : Says NOP "$1" WrongCount
+  pub first-of-two : Says MOVE "$1,#2" (WrongKind 1)
+  pub second-alone : Says MOVE "#1,#2" (WrongKind 2)
   -- 6: ranges; "A decimal displacement .. lies in -32768..32767; a hex one .. is a bit pattern"
   pub decimal-displacement : Says BR "$32768" OutOfRange
   pub hexadecimal-displacement : Says BR "$0x8000" (Read (plain (Relative 32768)) (plain Absent))
@@ -119,9 +132,17 @@ pub record Examples : Type 0 where
   pub second-settled : Settles MOVE ".R1,#x[.IX]" 7 8 (Register 1) (IndexedX 8)
   pub both-settled : Settles MOVE "#x,/x" 7 8 (Immediate 7) (Memory 8)
   pub number-stays : Settles MOVE "#5,.A" 7 8 (Immediate 5) (Register A)
+  -- places, from 0: the number's first byte, its `-` included, from the left; the operand's first byte
+  pub number-after-blank : outIn "PUSH # 70000" ≡ 7
+  pub number-below-zero : outIn "PUSH #-32769" ≡ 6
+  pub first-number : outIn "MOVE #70000,/80000" ≡ 6
+  pub second-number : outIn "MOVE #x,#40000[.IX]" ≡ 9
+  pub no-number : outIn "MOVE #1,.A" ≡ 0
+  pub first-operand : startIn "MOVE $1,#2" 1 ≡ 5
+  pub second-operand : startIn "MOVE #1,#2" 2 ≡ 8
 
 pub examples : Examples
-unfolding rank worthAfter keptOf run digitsAt radixAt unsignedAt table countOf allows capital isNamed registers placeIn registerCode isBlank isMark blanks closing tokenHere tokenAt tokensWithin tokensFrom displacementOf starts indexStep walk operandsOf fits wordOf labelIn judged instructionRead
+unfolding rank worthAfter keptOf run digitsAt radixAt unsignedAt table countOf allows capital isNamed registers placeIn registerCode isBlank isMark blanks closing tokenHere tokenAt tokensWithin tokensFrom displacementOf starts indexStep walk operandsOf wordOf labelIn judged instructionRead startOf afterComma afterCommas operandStartIn numberStartIn numberOutIn
 examples =
     record {
       numbers = (refl, (refl, (refl, (refl, tt))));
@@ -149,6 +170,9 @@ examples =
       register-for-a-place = refl;
       kind-before-range = refl;
       count-before-range = refl;
+      count-before-kind = refl;
+      first-of-two = refl;
+      second-alone = refl;
       decimal-displacement = refl;
       hexadecimal-displacement = refl;
       indexed-displacement = refl;
@@ -159,4 +183,11 @@ examples =
       second-settled = refl;
       both-settled = refl;
       number-stays = refl;
+      number-after-blank = refl;
+      number-below-zero = refl;
+      first-number = refl;
+      second-number = refl;
+      no-number = refl;
+      first-operand = refl;
+      second-operand = refl;
     }

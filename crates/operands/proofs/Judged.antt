@@ -4,6 +4,7 @@ use mathlib.Core.Bool.{Bool, true, false}
 use mathlib.Core.List.{List, [], _∷_}
 use mathlib.Core.Path.{_≡_, refl, sym, ap, ap₂, _∙_}
 use native.Mathlib.Omega.{arith}
+use lib.Dec.{eqb}
 use lib.ListN.{length}
 use borrow.Author.Tests.{eq-eqb, ne-eqb}
 use Rattle.numerals.specs.declared.Kept.{Kept}
@@ -17,10 +18,10 @@ use Rattle.isa.specs.declared.Operand.{Operand}
 use Rattle.isa.specs.declared.Row.{Row}
 use Rattle.values.specs.declared.LabelIn.{LabelIn}
 use Rattle.operands.specs.Reading.{Result, reads, wrong}
-use Rattle.operands.specs.Checks.{operandWith, fits, wordOf, labelIn, given, ranged, judged, judgedForm}
-use Rattle.operands.specs.Inner.Peeks.{keep, keepAll, noneListed, listed, fitsListed, judgedListed}
+use Rattle.operands.specs.Checks.{operandWith, wordOf, labelIn, given, ranged, judged, judgedForm}
+use Rattle.operands.specs.Inner.Peeks.{keep, keepAll, noneListed, listed, judgedListed}
 use Rattle.operands.specs.declared.InstructionRead.{InstructionRead}
-use Rattle.operands.specs.declared.InstructionRead.the-variants.{Read, WrongForm, WrongOperands, OutOfRange}
+use Rattle.operands.specs.declared.InstructionRead.the-variants.{Read, WrongForm, WrongCount, WrongKind, OutOfRange}
 use Rattle.operands.specs.declared.Given.{Given}
 use Rattle.operands.specs.declared.ListRead.the-variants as L
 use Rattle.operands.specs.declared.FirstTwo.{FirstTwo}
@@ -38,26 +39,19 @@ unfolding countOf
 count-most op = omega (arith, present-most (table op .first), present-most (table op .second))
 
 -- from the third operand on nothing more is kept
-keep-no-more : (a b : Written) (os : List Written) → keepAll (record { count = 3; first = a; second = b }) os ≡ record { count = 3; first = a; second = b }
+pub keep-no-more : (a b : Written) (os : List Written) → keepAll (record { count = 3; first = a; second = b }) os ≡ record { count = 3; first = a; second = b }
 unfolding keepAll keep
 keep-no-more a b [] = refl
 keep-no-more a b (o ∷ os) = keep-no-more a b os
 
 module _ (op : Opcode) (a b c : Written) (os : List Written) where
-  too-many : fits op (a ∷ b ∷ c ∷ os) ≡ false
-  unfolding fits
-  too-many = rw (ne-eqb (length (a ∷ b ∷ c ∷ os)) (countOf op) (λ q. omega (arith, count-most op)))
-
-  too-many-listed : fitsListed op (record { count = 3; first = a; second = b }) ≡ false
-  unfolding fitsListed
-  too-many-listed = rw (ne-eqb 3 (countOf op) (λ q. omega (arith, count-most op)))
-
   judged-many : judgedListed op (record { count = 3; first = a; second = b }) ≡ judged op (a ∷ b ∷ c ∷ os)
   unfolding judgedListed judged
-  judged-many = rw (too-many, too-many-listed)
+  judged-many =
+      rw (ne-eqb (length (a ∷ b ∷ c ∷ os)) (countOf op) (λ q. omega (arith, count-most op)), ne-eqb 3 (countOf op) (λ q. omega (arith, count-most op)))
 
 listed-judged : (op : Opcode) (os : List Written) → judgedListed op (keepAll noneListed os) ≡ judged op os
-unfolding keepAll keep judgedListed judged fitsListed fits
+unfolding keepAll keep judgedListed judged
 listed-judged op [] = refl
 listed-judged op (a ∷ []) = refl
 listed-judged op (a ∷ b ∷ []) = refl
@@ -75,26 +69,34 @@ wrong-judged op wrong e = refl
 -- ---- what the code of instruction.rt finds
 
 module _ (op : Opcode) (all : FirstTwo) {n : ℕ} (counts : n ≡ countOf op) where
-  pub count-differs : (all .count ≡ n → ⊥) → false ≡ fitsListed op all
-  unfolding fitsListed
+  pub count-differs : (all .count ≡ n → ⊥) → WrongCount ≡ judgedListed op all
+  unfolding judgedListed
   count-differs h = rw (ne-eqb (all .count) (countOf op) (λ q. h (q ∙ sym counts)))
 
   module _ {its : Row} {o : Operand} {t : Bool} (as-many : all .count ≡ n) (row : its ≡ rowOf op) (kind : o ≡ operandWith (all .first) 0)
       (allowed : t ≡ allows (its .first) o) where
-    first-allowed : t ≡ allows (table op .first) (operandWith (all .first) 0)
-    first-allowed = allowed ∙ ap₂ (λ (r : Row) (x : Operand). allows (r .first) x) row kind
+    counted : eqb (all .count) (countOf op) ≡ true
+    counted = eq-eqb (all .count) (countOf op) (as-many ∙ counts)
 
-    pub first-unfit : t ≡ false → false ≡ fitsListed op all
-    unfolding fitsListed
-    first-unfit e =
-        let a : allows (table op .first) (operandWith (all .first) 0) ≡ false = sym first-allowed ∙ e in
-        rw (eq-eqb (all .count) (countOf op) (as-many ∙ counts), a)
+    first-allowed : allows (table op .first) (operandWith (all .first) 0) ≡ t
+    first-allowed = sym (allowed ∙ ap₂ (λ (r : Row) (x : Operand). allows (r .first) x) row kind)
 
-    pub second-decides : {p : Operand} {u : Bool} → t ≡ true → p ≡ operandWith (all .second) 0 → u ≡ allows (its .second) p → u ≡ fitsListed op all
-    unfolding fitsListed
-    second-decides e f g =
-        let a : allows (table op .first) (operandWith (all .first) 0) ≡ true = sym first-allowed ∙ e in
-        rw (eq-eqb (all .count) (countOf op) (as-many ∙ counts), a) (g ∙ ap₂ (λ (r : Row) (x : Operand). allows (r .second) x) row f)
+    pub first-unfit : t ≡ false → WrongKind 1 ≡ judgedListed op all
+    unfolding judgedListed
+    first-unfit e = rw (counted, first-allowed ∙ e)
+
+    module _ {p : Operand} {u : Bool} (fitting : t ≡ true) (its-kind : p ≡ operandWith (all .second) 0) (its-allowed : u ≡ allows (its .second) p) where
+      second-allowed : allows (table op .second) (operandWith (all .second) 0) ≡ u
+      second-allowed = sym (its-allowed ∙ ap₂ (λ (r : Row) (x : Operand). allows (r .second) x) row its-kind)
+
+      pub second-unfit : u ≡ false → WrongKind 2 ≡ judgedListed op all
+      unfolding judgedListed
+      second-unfit e = rw (counted, first-allowed ∙ fitting, second-allowed ∙ e)
+
+      pub both-fit : {r : InstructionRead} → u ≡ true → r ≡ ranged (all .first) (wordOf (all .first)) (all .second) (wordOf (all .second))
+          → r ≡ judgedListed op all
+      unfolding judgedListed
+      both-fit e f = rw (counted, first-allowed ∙ fitting, second-allowed ∙ e) f
 
 pub given-is : (o : Written) (w : ℕ) {x : Operand} {l : LabelIn} → x ≡ operandWith o w → l ≡ labelIn o → record { operand = x; label = l } ≡ given o w
 given-is o w p q = rw (p, q)
@@ -115,12 +117,3 @@ module _ (a b : Written) {k : Kept} (first : k ≡ wordOf a) where
         let p : wordOf a ≡ N.Cell x = sym first ∙ cell in
         let q : wordOf b ≡ N.Cell y = sym second ∙ e in
         rw (p, q) (ap₂ Read f d)
-
-module _ (op : Opcode) (all : FirstTwo) {t : Bool} (fitted : t ≡ fitsListed op all) where
-  pub fitting : {r : InstructionRead} → t ≡ true → r ≡ ranged (all .first) (wordOf (all .first)) (all .second) (wordOf (all .second)) → r ≡ judgedListed op all
-  unfolding judgedListed
-  fitting e f = let q : fitsListed op all ≡ true = sym fitted ∙ e in rw q f
-
-  pub not-fitting : t ≡ false → WrongOperands ≡ judgedListed op all
-  unfolding judgedListed
-  not-fitting e = let q : fitsListed op all ≡ false = sym fitted ∙ e in rw q

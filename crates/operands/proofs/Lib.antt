@@ -9,6 +9,7 @@ pub mod Settled
 pub mod Back
 pub mod Encodes
 pub mod Within
+pub mod Located
 pub mod Spacing
 pub mod Examples
 pub mod Top

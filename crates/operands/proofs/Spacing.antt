@@ -24,7 +24,7 @@ use Rattle.values.specs.declared.Value.{Value}
 use Rattle.values.proofs.Spacing.{AlikeValue, number, label, AlikeLabel, absent, named, AlikeList, none, some, AlikeResult, reads, wrong, AlikeStep, to, emit, halt, pick-alike, mark-alike, walk-alike}
 use Rattle.operands.specs.Reading as W
 use Rattle.operands.specs.Reading.{Shape, hash, slash, dollar, State, put, starts, indexStep, finish, step, walk, operandsOf}
-use Rattle.operands.specs.Checks.{operandWith, operandAt, fits, cellOf, wordOf, labelOf, labelIn, ranged, judged, judgedForm, instructionRead}
+use Rattle.operands.specs.Checks.{operandWith, operandAt, rightCount, kindAllowed, cellOf, wordOf, labelOf, labelIn, ranged, judged, judgedForm, instructionRead}
 use Rattle.operands.specs.declared.Given.{Given}
 use Rattle.operands.specs.declared.InstructionRead.{InstructionRead}
 use Rattle.operands.specs.declared.InstructionRead.the-variants as I
@@ -52,7 +52,8 @@ module _ (line line′ : List ℕ) where
   pub data AlikeRead : InstructionRead → InstructionRead → Type 0 where
     read : {a a′ b b′ : Given} → AlikeGiven a a′ → AlikeGiven b b′ → AlikeRead (I.Read a b) (I.Read a′ b′)
     wrong-form : AlikeRead I.WrongForm I.WrongForm
-    wrong-operands : AlikeRead I.WrongOperands I.WrongOperands
+    wrong-count : AlikeRead I.WrongCount I.WrongCount
+    wrong-kind : (place : ℕ) → AlikeRead (I.WrongKind place) (I.WrongKind place)
     out-of-range : AlikeRead I.OutOfRange I.OutOfRange
 
   -- ---- the walk
@@ -245,16 +246,18 @@ module _ (line line′ : List ℕ) where
   ranged-alike h g N.OutOfRange y = out-of-range
 
   judged-alike : (op : Opcode) {os os′ : List Written} → AlikeList AlikeWritten os os′ → AlikeRead (judged op os) (judged op os′)
-  unfolding judged fits
+  unfolding judged
   judged-alike op {os} {os′} l =
       let h = at-alike l 0 in
       let g = at-alike l 1 in
       rw (length-same l, shape-same 0 h, shape-same 0 g, word-same h, word-same g)
-      (go (fits op os′) (ranged-alike h g (wordOf (operandAt os′ 0)) (wordOf (operandAt os′ 1))))
+      (pick (rightCount op os′)
+      (pick (kindAllowed op os′ 0)
+      (pick (kindAllowed op os′ 1) (ranged-alike h g (wordOf (operandAt os′ 0)) (wordOf (operandAt os′ 1))) (wrong-kind 2)) (wrong-kind 1)) wrong-count)
     where
-      go : (y : Bool) {r r′ : InstructionRead} → AlikeRead r r′ → AlikeRead (cond y r I.WrongOperands) (cond y r′ I.WrongOperands)
-      go true h = h
-      go false h = wrong-operands
+      pick : (y : Bool) {r r′ x x′ : InstructionRead} → AlikeRead r r′ → AlikeRead x x′ → AlikeRead (cond y r x) (cond y r′ x′)
+      pick true h g = h
+      pick false h g = g
 
   form-alike : (op : Opcode) {r r′ : W.Result} → AlikeResult AlikeWritten r r′ → AlikeRead (judgedForm op r) (judgedForm op r′)
   form-alike op (reads l) = judged-alike op l

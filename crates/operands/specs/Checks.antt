@@ -1,8 +1,8 @@
 -- What is judged of an opcode's operands once their form is right (01, "Refusing a source"): 5, "opcode's operand count, or kind
--- not allowed", then 6, "number .. out of range".
+-- not allowed", then 6, "number .. out of range". Of 5 it is told which, and of kinds the first that is wrong (02, K4).
 use Prim.Native.Nat.{ℕ}
 use mathlib.Core.Bool.{Bool, cond, _&&_}
-use mathlib.Core.List.{List}
+use mathlib.Core.List.{List, [], _∷_}
 use lib.Dec.{eqb}
 use lib.ListN.{length, getD}
 use Rattle.numerals.specs.Numbers.{keptOf}
@@ -11,6 +11,8 @@ use Rattle.numerals.specs.declared.Kept.the-variants as N
 use Rattle.numerals.specs.declared.Numeral.{Numeral}
 use Rattle.isa.specs.Opcodes.{table, countOf}
 use Rattle.isa.specs.Operands.{allows}
+use Rattle.isa.specs.declared.Kinds.{Kinds}
+use Rattle.isa.specs.declared.Kinds.the-variants.{Nothing}
 use Rattle.isa.specs.declared.Opcode.{Opcode}
 use Rattle.isa.specs.declared.Operand.{Operand}
 use Rattle.isa.specs.declared.Operand.the-variants as O
@@ -23,7 +25,7 @@ use Rattle.values.specs.declared.Value.the-variants.{Number, Label}
 use Rattle.operands.specs.Reading.{Result, reads, wrong, operandsOf}
 use Rattle.operands.specs.declared.Given.{Given}
 use Rattle.operands.specs.declared.InstructionRead.{InstructionRead}
-use Rattle.operands.specs.declared.InstructionRead.the-variants.{Read, WrongForm, WrongOperands, OutOfRange}
+use Rattle.operands.specs.declared.InstructionRead.the-variants.{Read, WrongForm, WrongCount, WrongKind, OutOfRange}
 use Rattle.operands.specs.declared.Written.{Written}
 use Rattle.operands.specs.declared.Written.the-variants.{Absent, Immediate, Register, Memory, Indirect, IndexedX, IndexedY, IndexedSp, Relative}
 
@@ -44,11 +46,20 @@ operandWith (Relative v) w = O.Relative w
 abbrev pub operandAt : List Written → ℕ → Written
 operandAt os i = getD os i Absent
 
+-- "opcode's operand count"
+abbrev pub rightCount : Opcode → List Written → Bool
+rightCount op os = eqb (length os) (countOf op)
+
+abbrev pub kindsAt : Opcode → ℕ → Kinds
+kindsAt op i = getD (table op .first ∷ table op .second ∷ []) i Nothing
+
+-- the table allows the kind of the operand at its place, which is 1 + i; else "kind not allowed"
+abbrev pub kindAllowed : Opcode → List Written → ℕ → Bool
+kindAllowed op os i = allows (kindsAt op i) (operandWith (operandAt os i) 0)
+
 -- as many as the opcode has, each of a kind that the table allows at its place
 unfoldable pub fits : Opcode → List Written → Bool
-fits op os =
-    eqb (length os) (countOf op)
-    && (allows (table op .first) (operandWith (operandAt os 0) 0) && allows (table op .second) (operandWith (operandAt os 1) 0))
+fits op os = rightCount op os && (kindAllowed op os 0 && kindAllowed op os 1)
 
 -- ---- ranges (6)
 
@@ -94,12 +105,16 @@ ranged a (N.Cell x) b (N.Cell y) = Read (given a x) (given b y)
 ranged a (N.Cell x) b N.OutOfRange = OutOfRange
 ranged a N.OutOfRange b k = OutOfRange
 
--- 5, then 6
+-- the count, then the first operand's kind, then the second's: "of two operands wrong in kind the first is named" (02, K4); then 6
 unfoldable pub judged : Opcode → List Written → InstructionRead
 judged op os =
-    cond (fits op os)
+    cond (rightCount op os)
+    (cond (kindAllowed op os 0)
+    (cond (kindAllowed op os 1)
     (ranged (operandAt os 0) (wordOf (operandAt os 0)) (operandAt os 1) (wordOf (operandAt os 1)))
-    WrongOperands
+    (WrongKind 2))
+    (WrongKind 1))
+    WrongCount
 
 -- form 3 first
 abbrev pub judgedForm : Opcode → Result → InstructionRead
@@ -109,10 +124,11 @@ judgedForm op wrong = WrongForm
 unfoldable pub instructionRead : List ℕ → Opcode → List Token → InstructionRead
 instructionRead line op ts = judgedForm op (operandsOf line ts)
 
--- the paper's number for each answer: 0 where the operands pass, 3 "form, unknown registers included", 5 "opcode's operand count, or
--- kind not allowed", 6 "number .. out of range"
+-- the paper's number for each answer: 0 where the operands pass, 3 "form, unknown registers included", "15, wrong number of operands,
+-- and 16, kind not allowed" (02, K4), 6 "number .. out of range"
 abbrev pub refusalOf : InstructionRead → ℕ
 refusalOf (Read a b) = 0
 refusalOf WrongForm = 3
-refusalOf WrongOperands = 5
+refusalOf WrongCount = 15
+refusalOf (WrongKind place) = 16
 refusalOf OutOfRange = 6

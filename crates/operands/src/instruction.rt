@@ -1,8 +1,8 @@
-// The operands that follow an opcode (specs/Checks.antt): form, then number and kinds, then ranges.
+// The operands that follow an opcode (specs/Checks.antt): form, number, kinds, ranges.
 ghost use mathlib.Core.Path.{_≡_};
 ghost use Rattle.tokens.specs.Reading.{tokensFrom};
 ghost use Rattle.operands.specs.Checks.{wordOf, given, ranged, instructionRead};
-ghost use Rattle.operands.specs.Inner.Peeks.{fitsListed, judgedListed};
+ghost use Rattle.operands.specs.Inner.Peeks.{judgedListed};
 use super::FirstTwo;
 use super::Given;
 use super::InstructionRead;
@@ -18,24 +18,6 @@ use isa::opcodes::row;
 use isa::operands::allowed_kind;
 use numerals::Cursor;
 use numerals::Kept;
-
-// As many operands as the opcode has, each of a kind that it allows there.
-fn fit(op: Opcode, all: FirstTwo) -> bool
-    ensures { λ r. ⌜ r ≡ fitsListed op all ⌝ }
-{
-    let first = all.first;
-    let second = all.second;
-    if all.count != operand_count(op) {
-        return false;
-    }
-    let its = row(op);
-    let one = its.first;
-    let two = its.second;
-    if allowed_kind(one, operand_with(first, 0)) {
-        return allowed_kind(two, operand_with(second, 0));
-    }
-    false
-}
 
 fn given_with(o: Written, word: u16) -> Given
     ensures { λ r. ⌜ r ≡ given o word ⌝ }
@@ -61,16 +43,25 @@ fn in_range(a: Written, b: Written) -> InstructionRead
     }
 }
 
-// Number and kinds (5) before ranges (6).
+// Number (15) before kinds (16), the first operand's before the second's, and kinds before ranges (6).
 fn judge(op: Opcode, all: FirstTwo) -> InstructionRead
     ensures { λ r. ⌜ r ≡ judgedListed op all ⌝ }
 {
     let first = all.first;
     let second = all.second;
-    if fit(op, all) {
-        return in_range(first, second);
+    if all.count != operand_count(op) {
+        return InstructionRead::WrongCount;
     }
-    InstructionRead::WrongOperands
+    let its = row(op);
+    let one = its.first;
+    let two = its.second;
+    if allowed_kind(one, operand_with(first, 0)) {
+        if allowed_kind(two, operand_with(second, 0)) {
+            return in_range(first, second);
+        }
+        return InstructionRead::WrongKind(2);
+    }
+    InstructionRead::WrongKind(1)
 }
 
 pub fn instruction(s: &[u8], op: Opcode, from: Cursor) -> InstructionRead

@@ -1,5 +1,5 @@
 // An opcode's operands (document 01, "Rules of writing"): their form, their number and kinds, and the ranges of their numbers. The
-// meaning is in specs/: Operands.antt, Checks.antt and Settling.antt.
+// meaning is in specs/: Operands.antt, Checks.antt, Settling.antt and Places.antt.
 use isa::Operand;
 use numerals::Cursor;
 use values::LabelIn;
@@ -7,6 +7,7 @@ use values::Value;
 
 pub mod instruction; // the operands that follow an opcode
 mod listed; // what is kept of a list of operands
+pub mod places; // where an operand and its number stand
 mod shapes; // one operand
 mod words; // what an operand's word is
 
@@ -29,11 +30,12 @@ pub struct Given {
     pub label: LabelIn,
 }
 
-// What the tokens after an opcode are: its operands, or refusal 3, 5 or 6.
+// What the tokens after an opcode are: its operands, or refusal 3, 15, 16 or 6. A wrong kind names the operand's place, 1 or 2.
 pub enum InstructionRead {
     Read(Given, Given),
     WrongForm,
-    WrongOperands,
+    WrongCount,
+    WrongKind(u8),
     OutOfRange,
 }
 

@@ -57,7 +57,8 @@ module _ (bs : List Bound) (bytes : List ℕ) (next : ℕ) where
       let w = wordIn bs bytes next b in
       inr (settledInstruction op a b v w, settled-allowed bytes f v w, refl)
   code-read op os x I.WrongForm e = inl refl
-  code-read op os x I.WrongOperands e = inl refl
+  code-read op os x I.WrongCount e = inl refl
+  code-read op os x (I.WrongKind place) e = inl refl
   code-read op os x I.OutOfRange e = inl refl
 
   code-given : {l : LabelIn} (r : Reading) → Says bytes l r → doesRead (judged r) .mark ≡ codeMark → IsCode (givenBy bs bytes next r)

@@ -79,9 +79,9 @@ replied a e h = assembler.one-reply h (accepts a e)
 pub acceptance-of : {source memory₀ map₀ memory marks : List ℕ} {r : Reply} → Promise.Replies source memory₀ map₀ r memory marks → r .refusal ≡ 0
     → Accepted (length memory₀) (length map₀) source memory marks × (told r ≡ acceptance marks)
 acceptance-of (accepts a e) z = (a, e)
-acceptance-of {r = r} (refuses why f e g h) z =
+acceptance-of {r = r} (refuses why c i f e g h) z =
     let q : r .refusal ≡ why .number = ap (λ (t : Promise.Told). t .number) e in
-    absurd (omega (arith, sources.refusal-numbered f .0, q, z))
+    absurd (omega (arith, sources.refusal-numbered (sources.forget f) .0, q, z))
 
 -- ---- it always can
 

@@ -40,6 +40,8 @@ pub record SameLengths (memory marks memory₀ map₀ : List ℕ) : Type 0 where
 pub record GaveBack (memory marks : List ℕ) (r : Reply) (memory′ map′ : List ℕ) : Type 0 where
   pub accepted : r .refusal ≡ 0
   pub no-line : r .line .0 ≡ 0
+  pub no-column : r .column .0 ≡ 0
+  pub no-place : r .place ≡ 0
   pub same-memory : memory′ ≡ memory
   pub same-map : map′ ≡ marks
   pub code-cells : r .code ≡ cellsMarked codeMark marks
@@ -52,6 +54,8 @@ accepting marks =
     record {
       refusal = 0;
       line = record { 0 = 0 };
+      column = record { 0 = 0 };
+      place = 0;
       code = cellsMarked codeMark marks;
       «data» = cellsMarked dataMark marks;
       reserved = cellsMarked reservedMark marks;
@@ -65,6 +69,8 @@ gave-back {marks = marks} {r = r} a h =
     record {
       accepted = ap (λ (x : Reply). x .refusal) (u .0);
       no-line = ap (λ (x : Reply). x .line .0) (u .0);
+      no-column = ap (λ (x : Reply). x .column .0) (u .0);
+      no-place = ap (λ (x : Reply). x .place) (u .0);
       same-memory = u .1;
       same-map = u .2;
       code-cells = ap (λ (x : Reply). x .code) (u .0);

@@ -17,12 +17,15 @@ use super::replies::field;
 use super::replies::marks;
 use assembler::Reply;
 
-// Refusal, line and counts: code, data, reserved.
+// Refusal, line, column, the operand's place, and counts: code, data, reserved.
 fn head(out: &mut [u8], a: Reply) -> usize {
     let line = a.line;
+    let column = a.column;
     let refusal = field(out, 0, a.refusal as usize);
-    let place = field(out, refusal, line.0);
-    let instructions = field(out, place, a.code);
+    let numbered = field(out, refusal, line.0);
+    let pointed = field(out, numbered, column.0);
+    let operand = field(out, pointed, a.place as usize);
+    let instructions = field(out, operand, a.code);
     let items = field(out, instructions, a.data);
     field(out, items, a.reserved)
 }

@@ -1,10 +1,11 @@
-// A line's reply: the first of its own checks that fails, or 0; its label's place; and what it says.
+// A line's reply: the first of its own checks that fails, or 0; its label's place; and what it says, or where the failure points.
 ghost use Prim.Native.Nat.{_≤_};
 use super::texts::field;
 use super::texts::letter;
 use super::texts::number;
 use super::texts::room;
 use super::texts::write;
+use columns::pointing::pointed;
 use isa::Opcode;
 use isa::Operand;
 use isa::opcodes::row;
@@ -126,11 +127,20 @@ fn saying(out: &mut [u8], line: &[u8], l: LabelIn, s: Statement) -> usize {
     }
 }
 
+// A refusal, the label, and behind it the column and the operand's place: the line is read once more.
+fn refused(out: &mut [u8], line: &[u8], l: LabelIn, refusal: u8) -> usize {
+    let p = pointed(line, refusal);
+    let column = p.column;
+    let at = head(out, refusal as usize, l);
+    let next = field(out, at, column.0);
+    field(out, next, p.place as usize)
+}
+
 // The whole reply but its line end.
 fn reply(out: &mut [u8], line: &[u8], l: LabelIn, s: StatementRead) -> usize {
     match s {
         StatementRead::Passes(said) => saying(out, line, l, said),
-        StatementRead::Fails(f) => head(out, number_of(f) as usize, l),
+        StatementRead::Fails(f) => refused(out, line, l, number_of(f)),
     }
 }
 

@@ -161,9 +161,10 @@ fn read_some(part: &mut [u8]) -> Taken
     }
 }
 
+// Not by io::write_all: its room of 4,096 bytes would stand on the stack below every line that is read.
 fn say(why: &[u8]) {
-    io::write_all(2, b"replay_lines: ");
-    io::write_all(2, why);
+    libc::write(2, b"replay_lines: ");
+    libc::write(2, why);
 }
 
 // A sentence on standard error.

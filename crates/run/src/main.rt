@@ -11,6 +11,7 @@ enum Budget {
     Wrong,
 }
 
+use columns::Column;
 use desk::refusals::print_refusal;
 use desk::rooms;
 use sources::Line;
@@ -22,7 +23,7 @@ fn run_at(path: &[u8], text: &[u8], memory: &mut [u16], map: &mut [u8], given: &
         running::run(memory, given, budget);
         return;
     }
-    print_refusal(path, reply.refusal, reply.line);
+    print_refusal(path, text, reply.refusal, reply.line, reply.column);
 }
 
 // Lends as many cells as M says.
@@ -72,7 +73,7 @@ fn run_words(budget: u32) {
     let mut path = io::buffer();
     let n = os::arg(1, &mut path);
     if size == 0 {
-        print_refusal(&path[..n], 1, Line(0));
+        print_refusal(&path[..n], b"", 1, Line(0), Column(0));
         return;
     }
     if os::errno() != 0 {

@@ -1,17 +1,18 @@
 -- Laws of a label's value, of the verdict on one label, and of the verdict and the cells when one label more is settled.
 use Prim.Native.Nat.{ℕ, zero, suc, _+_, _*_, _-_, _≤_, _<_}
-use mathlib.Core.Bool.{Bool, true, false, cond}
-use mathlib.Core.List.{List, [], _∷_, _++_}
+use mathlib.Core.Bool.{Bool, true, false, cond, _||_}
+use mathlib.Core.List.{List, [], _∷_, _++_, append-assoc}
 use mathlib.Core.Path.{_≡_, refl, sym, ap, subst, _∙_}
 use native.Mathlib.Omega.{arith}
 use native.Mathlib.Numerals.{add-one}
+use lib.Dec.{eqb}
 use lib.ListN.{length, getD, set}
 use borrow.Author.Tests.{eq-eqb, ne-eqb, lt-ltb, le-ltb}
 use Rattle.names.specs.Names.{same}
 use Rattle.sources.specs.Placing.{Bound}
 use Rattle.sources.specs.Uses.{Value, known, unknown, valueOf, from, Use, countedWord}
-use Rattle.sources.specs.Order.{Refusal, _on_}
-use Rattle.sources.specs.Inner.Assembling.{Verdict, passes, refused, andThen, firstOf, tooFar, useVerdict, usesVerdict, filled}
+use Rattle.sources.specs.Order.{_on_}
+use Rattle.sources.specs.Inner.Assembling.{Verdict, passes, refused, andThen, firstOf, test, isUnknown, tooFar, useVerdict, usesVerdict, isRefused, secondRefused, filled}
 use Rattle.statements.proofs.Labelling.{never}
 use Rattle.labels.specs.Inner.Labels.{window, words, labelsBefore, zipped}
 use Rattle.labels.proofs.Laws.{length-words}
@@ -85,6 +86,21 @@ module _ (bs : List Bound) (u : Use) where
   unfolding useVerdict firstOf
   fits v e t = rw (e, t)
 
+-- a verdict refuses
+abbrev refuses : Verdict → Bool
+refuses passes = false
+refuses (refused why) = true
+
+-- a label is refused as the verdict on it says
+refused-by : (bs : List Bound) (u : Use) → isRefused bs u ≡ refuses (useVerdict bs u)
+unfolding useVerdict firstOf
+refused-by bs u = go (isUnknown (valueOf bs (u .name))) (tooFar (u .counted) (valueOf bs (u .name)))
+  where
+    go : (a b : Bool) → a || b ≡ refuses (firstOf (test (13 on u .line) a ∷ test (14 on u .line) b ∷ []))
+    go true b = refl
+    go false true = refl
+    go false false = refl
+
 -- the word of a label that is held, by what is found of its value
 module _ (bs : List Bound) (s : List ℕ) (start size cell away : ℕ) where
   abbrev held : ℕ → Use
@@ -118,31 +134,16 @@ module _ (bs : List Bound) (s : List ℕ) (start size cell away : ℕ) where
 -- ---- one label more
 
 module _ (bs : List Bound) where
-  -- behind labels that pass, one more decides
-  verdict-behind : (us : List Use) (u : Use) → usesVerdict bs us ≡ passes → usesVerdict bs (us ++ (u ∷ [])) ≡ useVerdict bs u
+  -- behind labels that pass, the others decide
+  verdict-behind : (us vs : List Use) → usesVerdict bs us ≡ passes → usesVerdict bs (us ++ vs) ≡ usesVerdict bs vs
   unfolding usesVerdict
-  verdict-behind [] u e = go (useVerdict bs u)
+  verdict-behind [] vs e = refl
+  verdict-behind (x ∷ us) vs e = go (useVerdict bs x) e (verdict-behind us vs)
     where
-      go : (v : Verdict) → andThen v passes ≡ v
-      go passes = refl
-      go (refused why) = refl
-  verdict-behind (x ∷ us) u e = go (useVerdict bs x) e (verdict-behind us u)
-    where
-      go : (v : Verdict) → andThen v (usesVerdict bs us) ≡ passes → (usesVerdict bs us ≡ passes → usesVerdict bs (us ++ (u ∷ [])) ≡ useVerdict bs u)
-          → andThen v (usesVerdict bs (us ++ (u ∷ []))) ≡ useVerdict bs u
+      go : (v : Verdict) → andThen v (usesVerdict bs us) ≡ passes → (usesVerdict bs us ≡ passes → usesVerdict bs (us ++ vs) ≡ usesVerdict bs vs)
+          → andThen v (usesVerdict bs (us ++ vs)) ≡ usesVerdict bs vs
       go passes e f = f e
       go (refused why) e f = never (cc)
-
-  -- a refusal stays, whatever comes behind it
-  refused-before : (us vs : List Use) (why : Refusal) → usesVerdict bs us ≡ refused why → usesVerdict bs (us ++ vs) ≡ refused why
-  unfolding usesVerdict
-  refused-before [] vs why e = never (cc)
-  refused-before (x ∷ us) vs why e = go (useVerdict bs x) e (refused-before us vs why)
-    where
-      go : (v : Verdict) → andThen v (usesVerdict bs us) ≡ refused why → (usesVerdict bs us ≡ refused why → usesVerdict bs (us ++ vs) ≡ refused why)
-          → andThen v (usesVerdict bs (us ++ vs)) ≡ refused why
-      go passes e f = f e
-      go (refused other) e f = e
 
   -- the last word is set last
   filled-behind : (us : List Use) (u : Use) (m : List ℕ)
@@ -151,11 +152,30 @@ module _ (bs : List Bound) where
   filled-behind [] u m = refl
   filled-behind (x ∷ us) u m = filled-behind us u (set m (x .cell) (countedWord (x .counted) (valueOf bs (x .name))))
 
--- before the first label that is held
+  -- one label, then others: the verdict, and whether the refused one is its line's second
+  module _ (u : Use) (vs : List Use) where
+    verdict-first : (v : Verdict) → useVerdict bs u ≡ v → usesVerdict bs (u ∷ vs) ≡ andThen v (usesVerdict bs vs)
+    unfolding usesVerdict
+    verdict-first v e = ap (λ (w : Verdict). andThen w (usesVerdict bs vs)) e
+
+    second-first : (before : ℕ) (v : Verdict) → useVerdict bs u ≡ v
+        → secondRefused before bs (u ∷ vs) ≡ cond (refuses v) (eqb (u .line) before) (secondRefused (u .line) bs vs)
+    unfolding secondRefused
+    second-first before v e = ap (λ (b : Bool). cond b (eqb (u .line) before) (secondRefused (u .line) bs vs)) (refused-by bs u ∙ ap refuses e)
+
+-- of the labels that are held, those before the i-th
 module _ (bs : List Bound) (s row aways : List ℕ) where
+  -- they pass, and the last of them is on this line: which one is refused lies with the labels behind them
+  abbrev pub Second : ℕ → ℕ → Type 0
+  Second i before = (vs : List Use) → secondRefused 0 bs (usesHeld s row aways i ++ vs) ≡ secondRefused before bs vs
+
   pub nothing-held : usesVerdict bs (usesHeld s row aways 0) ≡ passes
   unfolding usesHeld usesVerdict
   nothing-held = refl
+
+  pub nothing-before : Second 0 0
+  unfolding usesHeld
+  nothing-before vs = refl
 
   pub nothing-filled : (m : List ℕ) → filled bs (usesHeld s row aways 0) m ≡ m
   unfolding usesHeld filled
@@ -173,27 +193,49 @@ module _ (bs : List Bound) (s row aways : List ℕ) (i : ℕ) where
   abbrev Said : Word → Type 0
   Said r = Told bs s (getD row (4 * i) 0) (getD row (4 * i + 1) 0) (use′ .cell) (getD aways i 0) r
 
-  -- its refusal is that of the labels up to any one behind it
-  refused-next : (why : Refusal) → settles i ≡ passes → useVerdict bs use′ ≡ refused why → (n : ℕ) → settles (suc (i + n)) ≡ refused why
+  -- what holds of the labels up to it, whatever comes behind it, holds of the labels up to any one behind it
+  whatever-behind : (P : List Use → Type 0) → ((vs : List Use) → P (usesHeld s row aways i ++ (use′ ∷ vs))) → (n : ℕ)
+      → P (usesHeld s row aways (suc (i + n)))
   unfolding usesHeld
-  refused-next why e g zero =
-      let q : suc (i + 0) ≡ suc i = omega arith in
-      ap settles q ∙ verdict-behind bs (usesHeld s row aways i) use′ e ∙ g
-  refused-next why e g (suc n) =
-      let q : suc (i + suc n) ≡ suc (suc (i + n)) = omega arith in
-      ap settles q ∙ refused-before bs (usesHeld s row aways (suc (i + n))) (useAt s row aways (suc (i + n)) ∷ []) why (refused-next why e g n)
+  whatever-behind P h zero =
+      let q : suc i ≡ suc (i + 0) = omega arith in
+      subst (λ (n : ℕ). P (usesHeld s row aways n)) q (h [])
+  whatever-behind P h (suc n) =
+      let q : suc (suc (i + n)) ≡ suc (i + suc n) = omega arith in
+      let last = useAt s row aways (suc (i + n)) ∷ [] in
+      subst (λ (n : ℕ). P (usesHeld s row aways n)) q
+      (whatever-behind (λ us. P (us ++ last)) (λ vs. subst P (sym (append-assoc (usesHeld s row aways i) (use′ ∷ vs) last)) (h (vs ++ last))) n)
 
   -- its refusal is that of all of them
-  pub all-refused : (n f : ℕ) (r : Word) → i < n → settles i ≡ passes → Said r → r ≡ W.No f → settles n ≡ refused (f on use′ .line)
-  all-refused n f r h e g k =
-      let q : n ≡ suc (i + (n - suc i)) = omega (arith, h) in
-      ap settles q ∙ refused-next (f on use′ .line) e (subst Said k g (use′ .line)) (n - suc i)
+  pub all-refused : (n f before : ℕ) (r : Word) → i < n → settles i ≡ passes → Second bs s row aways i before → Said r → r ≡ W.No f
+      → (settles n ≡ refused (f on use′ .line)) × (eqb (use′ .line) before ≡ secondRefused 0 bs (usesHeld s row aways n))
+  all-refused n f before r h e b g k =
+      let q : suc (i + (n - suc i)) ≡ n = omega (arith, h) in
+      let why = f on use′ .line in
+      let t = subst Said k g (use′ .line) in
+      let Refused : List Use → Type 0 = λ us. (usesVerdict bs us ≡ refused why) × (eqb (use′ .line) before ≡ secondRefused 0 bs us) in
+      subst (λ (m : ℕ). Refused (usesHeld s row aways m)) q
+      (whatever-behind Refused
+      (λ vs. (
+        verdict-behind bs (usesHeld s row aways i) (use′ ∷ vs) e ∙ verdict-first bs use′ vs (refused why) t,
+        sym (b (use′ ∷ vs) ∙ second-first bs use′ vs before (refused why) t),
+      ))
+      (n - suc i))
 
   module _ (x : ℕ) (r : Word) (g : Said r) (k : r ≡ W.Is x) where
+    one-fits : useVerdict bs use′ ≡ passes
+    one-fits = subst Said k g .0 (use′ .line)
+
     -- it passes, and so do the labels up to it
     pub one-passes : settles i ≡ passes → settles (i + 1) ≡ passes
+    unfolding usesHeld usesVerdict
+    one-passes e = rw (add-one i) (verdict-behind bs (usesHeld s row aways i) (use′ ∷ []) e ∙ verdict-first bs use′ [] passes one-fits)
+
+    -- its line is that of the label before the next
+    pub one-before : (before : ℕ) → Second bs s row aways i before → Second bs s row aways (i + 1) (use′ .line)
     unfolding usesHeld
-    one-passes e = rw (add-one i) (verdict-behind bs (usesHeld s row aways i) use′ e ∙ subst Said k g .0 (use′ .line))
+    one-before before b vs =
+        rw (add-one i, append-assoc (usesHeld s row aways i) (use′ ∷ []) vs) (b (use′ ∷ vs) ∙ second-first bs use′ vs before passes one-fits)
 
     -- its word in its cell
     pub one-filled : (m : List ℕ) → set (filled bs (usesHeld s row aways i) m) (use′ .cell) x ≡ filled bs (usesHeld s row aways (i + 1)) m

@@ -11,8 +11,8 @@ enum Word {
     No(u8),
 }
 
-// Every label has its word in its cell, or the first refusal, with its line.
+// Every label has its word in its cell; or the first refusal, with its line, and whether the label is the second that this line names.
 pub enum Settled {
     Done,
-    Refused(u8, Line),
+    Refused(u8, Line, bool),
 }

@@ -27,6 +27,7 @@ pub fn settle(
         ⌝ }
 {
     let mut i: usize = 0;
+    let mut before: usize = 0; // the line of the label before
     while i < uses {
         let base = 4 * i;
         let start = row[base] as usize;
@@ -36,12 +37,13 @@ pub fn settle(
         let away = aways[i] as usize;
         match word(s, starts, keys, values, count, start, size, cell, away) {
             Word::No(f) => {
-                return Settled::Refused(f, Line(line));
+                return Settled::Refused(f, Line(line), line == before);
             }
             Word::Is(w) => {
                 put(cells, cell, w);
             }
         }
+        before = line;
         i += 1;
     }
     Settled::Done

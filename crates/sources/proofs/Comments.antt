@@ -32,7 +32,7 @@ use Rattle.statements.specs.Judging.{resultOf, worthResult, treeResult, instruc
 use Rattle.statements.specs.Reading.{lineRead}
 use Rattle.statements.specs.Statements.{Reading, nothing, instruction, org, equ, res, cells, end, Says}
 use Rattle.statements.specs.declared.Failure.{Failure}
-use Rattle.statements.specs.declared.Failure.the-variants.{OutOfRange, TooDeep}
+use Rattle.statements.specs.declared.Failure.the-variants.{OutOfRange, TooDeep, ResultOut}
 use Rattle.statements.specs.declared.Statement.{Statement}
 use Rattle.statements.specs.declared.Statement.the-variants as S
 use Rattle.statements.specs.declared.StatementRead.{StatementRead}
@@ -58,7 +58,7 @@ module _ (least : ℤ) (makes : ℕ → Statement) (n : (v : ℕ) → makes v �
 
   worth-no-end : (w : Worth) → worthResult least makes w ≡ Passes S.End → ⊥
   unfolding resultOf
-  worth-no-end (E.Is z) e = kept-no-end (resultIn least z) (ofZ w16 z) OutOfRange e
+  worth-no-end (E.Is z) e = kept-no-end (resultIn least z) (ofZ w16 z) ResultOut e
   worth-no-end E.OutOfRange e = never (cc e)
   worth-no-end E.ByZero e = never (cc e)
 
@@ -73,7 +73,8 @@ module _ (least : ℤ) (makes : ℕ → Statement) (n : (v : ℕ) → makes v �
 instruction-no-end : (op : Opcode) (r : InstructionRead) → instructionResult op r ≡ Passes S.End → ⊥
 instruction-no-end op (I.Read a b) e = never (cc e)
 instruction-no-end op I.WrongForm e = never (cc e)
-instruction-no-end op I.WrongOperands e = never (cc e)
+instruction-no-end op I.WrongCount e = never (cc e)
+instruction-no-end op (I.WrongKind place) e = never (cc e)
 instruction-no-end op I.OutOfRange e = never (cc e)
 
 data-no-end : (y : Bool) (n : ℕ) (why : Failure) → cond y (Passes (S.Data n)) (Fails why) ≡ Passes S.End → ⊥

@@ -62,7 +62,7 @@ tree-makes : (least : ℤ) (makes : ℕ → Statement) (e : Tree) {s : Statement
 unfolding treeResult resultOf
 tree-makes least makes e {s} h = by-depth (leb (depth e) deepest) h
   where
-    by-result : (z : ℤ) (b : Bool) → cond b (Passes (makes (ofZ w16 z))) (Fails F.OutOfRange) ≡ Passes s → (v : ℕ) × (s ≡ makes v)
+    by-result : (z : ℤ) (b : Bool) → cond b (Passes (makes (ofZ w16 z))) (Fails F.ResultOut) ≡ Passes s → (v : ℕ) × (s ≡ makes v)
     by-result z true q = (ofZ w16 z, cc)
     by-result z false q = never (cc)
 
@@ -94,7 +94,8 @@ passes-as (instruction op os) {s} e = go (Operands.judged op os) refl e
     go : (i : InstructionRead) → Operands.judged op os ≡ i → instructionResult op i ≡ Passes s → PassesAs (instruction op os) s
     go (I.Read a b) f q = let t : S.Instruction op a b ≡ s = cc in subst (PassesAs (instruction op os)) t (as-instruction f)
     go I.WrongForm f q = never (cc)
-    go I.WrongOperands f q = never (cc)
+    go I.WrongCount f q = never (cc)
+    go (I.WrongKind place) f q = never (cc)
     go I.OutOfRange f q = never (cc)
 passes-as (org t) e = let h = tree-makes leastUnsigned S.Org t e in subst (PassesAs (org t)) (sym (h .1)) as-org
 passes-as (equ t) e = let h = tree-makes leastSigned S.Equ t e in subst (PassesAs (equ t)) (sym (h .1)) as-equ

@@ -34,7 +34,7 @@ module _ (least : ℤ) (makes : ℕ → Statement) (on : (v : ℕ) → isEnd (ma
   unfolding resultOf
   worth-on (E.Is z) = go (resultIn least z)
     where
-      go : (b : Bool) → endsIt (cond b (Passes (makes (ofZ w16 z))) (Fails F.OutOfRange)) ≡ false
+      go : (b : Bool) → endsIt (cond b (Passes (makes (ofZ w16 z))) (Fails F.ResultOut)) ≡ false
       go true = on (ofZ w16 z)
       go false = refl
   worth-on E.OutOfRange = refl
@@ -51,7 +51,8 @@ module _ (least : ℤ) (makes : ℕ → Statement) (on : (v : ℕ) → isEnd (ma
 instruction-on : (op : Opcode) (i : InstructionRead) → endsIt (instructionResult op i) ≡ false
 instruction-on op (I.Read a b) = refl
 instruction-on op I.WrongForm = refl
-instruction-on op I.WrongOperands = refl
+instruction-on op I.WrongCount = refl
+instruction-on op (I.WrongKind place) = refl
 instruction-on op I.OutOfRange = refl
 
 cells-on : (n : ℕ) (b : Bool) → endsIt (cond b (Passes (Data n)) (Fails F.OutOfRange)) ≡ false

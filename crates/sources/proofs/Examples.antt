@@ -12,7 +12,7 @@ use Rattle.sources.specs.Inner.Assembling.{passes, verdictOf, Assembled,
 use Rattle.sources.proofs.Computing.{computedSource}
 
 -- the texts as lines, each with its LF
-abbrev sourceOf : List String → List ℕ
+abbrev pub sourceOf : List String → List ℕ
 sourceOf [] = []
 sourceOf (t ∷ ts) = bytes t ++ (10 ∷ sourceOf ts)
 
@@ -75,7 +75,8 @@ pub record Examples : Type 0 where
   -- "label 10, 9; word 4; form 3; 5; 8; 6 or 7 ..; then the statement's result and label addresses ..; 11; 12": 9 before all that follow it
   pub again-before-4 : Again 4 "FOO"
   pub again-before-3 : Again 3 ")"
-  pub again-before-5 : Again 5 "HALT #1"
+  pub again-before-15 : Again 15 "HALT #1"
+  pub again-before-16 : Again 16 "MOVE $1,#2"
   pub again-before-8 : Again 8 "ORG (((((((((((((((((((((((((((((((((1)))))))))))))))))))))))))))))))))"
   pub again-before-6 : Again 6 "DATA 65536"
   pub again-before-7 : Again 7 "ORG 1/0"
@@ -182,7 +183,8 @@ examples =
       CR-ends-no-line = refl;
       again-before-4 = (refl, refl);
       again-before-3 = (refl, refl);
-      again-before-5 = (refl, refl);
+      again-before-15 = (refl, refl);
+      again-before-16 = (refl, refl);
       again-before-8 = (refl, refl);
       again-before-6 = (refl, refl);
       again-before-7 = (refl, refl);

@@ -21,11 +21,11 @@ loans-tell M N source =
     (or-decides (ltb mostCells M) (not (eqb N M)) (lt-decides mostCells M) (not-decides (eqb N M) (eq-decides N M))))
     (tells-test (2 on 0) _ _ _ _ (lt-decides longestSource (length source)) tells-none)
 
-end-tells : (k : ℕ) (p : Place) → Tells (endVerdict k p) (endChecks k p)
+pub end-tells : (k : ℕ) (p : Place) → Tells (endVerdict k p) (endChecks k p)
 unfolding endVerdict endChecks
 end-tells k p = tells-test (6 on k) _ _ _ _ (waiting-decides p) tells-none
 
-uses-tell : (bs : List Bound) (us : List Use) → Tells (usesVerdict bs us) (useChecks bs us)
+pub uses-tell : (bs : List Bound) (us : List Use) → Tells (usesVerdict bs us) (useChecks bs us)
 unfolding usesVerdict useVerdict useChecks Pass
 uses-tell bs [] = tt
 uses-tell bs (u ∷ us) =

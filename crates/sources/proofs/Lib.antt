@@ -17,6 +17,10 @@ pub mod Small
 pub mod Counts
 pub mod Below
 pub mod Numbers
+pub mod BeforeK4
+pub mod PointedLines
+pub mod PointedLabels
+pub mod Pointing
 pub mod Edges
 pub mod Spacing
 pub mod CommentLines
@@ -26,4 +30,5 @@ pub mod Comments
 pub mod Computing
 pub mod SpacingExamples
 pub mod Examples
+pub mod PointedExamples
 pub mod Top

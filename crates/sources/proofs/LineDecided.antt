@@ -2,7 +2,7 @@
 use Prim.Native.Nat.{ℕ, _≤_, _<_}
 use mathlib.Core.Bool.{Bool, _||_}
 use mathlib.Core.List.{List, [], _∷_, List·Memᴰ}
-use mathlib.Core.Logic.{_⊎_, inl, inr}
+use mathlib.Core.Logic.{_⊎_}
 use mathlib.Core.Path.{_≡_, refl, ap, subst}
 use lib.Dec.{leb, ltb}
 use lib.ListN.{length}
@@ -10,7 +10,7 @@ use Rattle.values.specs.declared.LabelIn.{LabelIn}
 use Rattle.values.specs.declared.LabelIn.the-variants.{Absent, Named}
 use Rattle.values.specs.declared.Name.{Name}
 use Rattle.statements.specs.Statements.{Reading, Says}
-use Rattle.statements.specs.FirstFailing.{Check, check, Pass, First}
+use Rattle.statements.specs.FirstFailing.{Check, check, Pass}
 use Rattle.statements.specs.Checks.{checks}
 use Rattle.statements.specs.Judging.{numberOf, judged}
 use Rattle.statements.specs.Reading.{lineRead}
@@ -18,6 +18,7 @@ use Rattle.statements.specs.declared.Statement.{Statement}
 use Rattle.statements.specs.declared.StatementRead.{StatementRead}
 use Rattle.statements.specs.declared.StatementRead.the-variants.{Passes, Fails}
 use Rattle.statements.proofs.Top as Lines
+use Rattle.statements.proofs.FirstFails.{answered, first-answered, pass-answered}
 use Rattle.statements.proofs.Labelling.{never}
 use Rattle.codes.specs.Limits.{mostLabels, longestLabel}
 use Rattle.sources.specs.Sources.{spelled}
@@ -28,30 +29,17 @@ use Rattle.sources.specs.declared.Act.{Act}
 use Rattle.sources.proofs.Tests.{Decides, lt-decides, le-decides, or-decides, among-decides, label-decides, reserves-decides, past-decides, taken-decides}
 use Rattle.sources.proofs.Verdicts.{Tells, tells-none, tells-test, tells-join}
 
--- ---- a line's own checks, with its number
-
+-- a line's own checks, with its number
 abbrev onLine : ℕ → List (Check ℕ) → List (Check Refusal)
-onLine k [] = []
-onLine k (c ∷ cs) = check (c .answer on k) (c .Fails) ∷ onLine k cs
-
-pass-on : (k : ℕ) (cs : List (Check ℕ)) → Pass cs → Pass (onLine k cs)
-unfolding Pass
-pass-on k [] h = h
-pass-on k (c ∷ cs) h = (h .0, pass-on k cs (h .1))
-
-first-on : (k : ℕ) (cs : List (Check ℕ)) (n : ℕ) → First cs n → First (onLine k cs) (n on k)
-unfolding First
-first-on k [] n f = f
-first-on k (c ∷ cs) n (inl f) = inl (f .0, ap (λ (m : ℕ). m on k) (f .1))
-first-on k (c ∷ cs) n (inr f) = inr (f .0, first-on k cs n (f .1))
+onLine k cs = answered (λ n. n on k) cs
 
 module _ (M k : ℕ) (p : Place) (bytes : List ℕ) where
   own-tells : Tells (ownVerdict k (lineRead bytes .statement)) (onLine k (checks bytes))
   own-tells = go (lineRead bytes .statement) refl
     where
       go : (x : StatementRead) → lineRead bytes .statement ≡ x → Tells (ownVerdict k x) (onLine k (checks bytes))
-      go (Passes s) e = pass-on k (checks bytes) (Lines.passes-exactly bytes .0 (s, e))
-      go (Fails f) e = first-on k (checks bytes) (numberOf f) (Lines.refused-exactly bytes (numberOf f) .0 (f, e, refl))
+      go (Passes s) e = pass-answered (λ n. n on k) (checks bytes) (Lines.passes-exactly bytes .0 (s, e))
+      go (Fails f) e = first-answered (λ n. n on k) (checks bytes) (numberOf f) (Lines.refused-exactly bytes (numberOf f) .0 (f, e, refl))
 
   -- ---- its label
 
@@ -61,7 +49,7 @@ module _ (M k : ℕ) (p : Place) (bytes : List ℕ) where
   abbrev Again : List ℕ → Type 0
   Again w = List·Memᴰ w (names p)
 
-  abbrev labelChecks : List (Check Refusal)
+  abbrev pub labelChecks : List (Check Refusal)
   labelChecks = check (10 on k) (OfLabel bytes OverLimit) ∷ check (9 on k) (OfLabel bytes Again) ∷ []
 
   -- what is tested of a line's label is so of it, as there is no other
@@ -93,7 +81,7 @@ module _ (M k : ℕ) (p : Place) (bytes : List ℕ) where
 
   -- ---- its act
 
-  abbrev actChecks : List (Check Refusal)
+  abbrev pub actChecks : List (Check Refusal)
   actChecks =
       check (6 on k) (OfAct bytes (λ l a. LabelOut (labelled p bytes l) a))
       ∷ check (6 on k) (OfAct bytes (λ l a. ReservesTooFar (a .moves) (p .at)))

@@ -28,7 +28,7 @@ module _ (M k : ℕ) (p : Place) (bytes : List ℕ) where
   own-pass h =
       let t = h .1 .1 in
       let u = t .1 .1 .1 in
-      (t .0, (t .1 .0, (t .1 .1 .0, (u .0, (u .1 .0, (u .1 .1 .0, (u .1 .1 .1 .0, tt)))))))
+      (t .0, (t .1 .0, (t .1 .1 .0, (u .0, (u .1 .0, (u .1 .1 .0, (u .1 .1 .1 .0, (u .1 .1 .1 .1 .0, tt))))))))
 
   -- a line that passes has a reading that does
   pub passing-says : Pass (lineChecks M k p bytes) → (l : LabelIn) × (r : Reading) × (s : Statement) × Says bytes l r × (judged r ≡ Passes s)
@@ -42,11 +42,11 @@ module _ (M k : ℕ) (p : Place) (bytes : List ℕ) where
   module _ {l : LabelIn} {r : Reading} {s : Statement} (x : Says bytes l r) (e : judged r ≡ Passes s) (h : Pass (lineChecks M k p bytes)) where
     not-past : PastEnd M (p .at) (does s) → ⊥
     unfolding Pass lineChecks
-    not-past q = h .1 .1 .1 .1 .1 .1 .1 .1 .1 .1 .1 .0 (l, r, s, x, e, q)
+    not-past q = h .1 .1 .1 .1 .1 .1 .1 .1 .1 .1 .1 .1 .0 (l, r, s, x, e, q)
 
     not-twice : ClaimedTwice p (does s) → ⊥
     unfolding Pass lineChecks
-    not-twice q = h .1 .1 .1 .1 .1 .1 .1 .1 .1 .1 .1 .1 .0 (l, r, s, x, e, q)
+    not-twice q = h .1 .1 .1 .1 .1 .1 .1 .1 .1 .1 .1 .1 .1 .0 (l, r, s, x, e, q)
 
     cell-free : (i : ℕ) → i < does s .claims → getD (p .marks) (p .at + i) free ≡ free
     cell-free i w = go (eqb (getD (p .marks) (p .at + i) free) free) refl

@@ -238,7 +238,7 @@ equ-small : (t : Tree) (v : ℕ) → treeResult leastSigned S.Equ t ≡ Passes (
 unfolding treeResult resultOf
 equ-small t v h = by-depth (leb (depth t) deepest) h
   where
-    by-result : (z : ℤ) (b : Bool) → resultIn leastSigned z ≡ b → cond b (Passes (S.Equ (ofZ w16 z))) (Fails F.OutOfRange) ≡ Passes (S.Equ v) → v < 65536
+    by-result : (z : ℤ) (b : Bool) → resultIn leastSigned z ≡ b → cond b (Passes (S.Equ (ofZ w16 z))) (Fails F.ResultOut) ≡ Passes (S.Equ v) → v < 65536
     by-result z true f q = let y : ofZ w16 z ≡ v = cc in subst (λ (x : ℕ). x < 65536) y (number-small z f)
     by-result z false f q = never (cc)
 
@@ -277,7 +277,7 @@ passing M k p x h c =
     record {
       statement = q .2;
       comes-to = e;
-      label-in = λ f. c .1 .1 .1 .1 .1 .1 .1 .1 .1 .0 (x .label, x .says, q .2, h, e, f);
+      label-in = λ f. c .1 .1 .1 .1 .1 .1 .1 .1 .1 .1 .0 (x .label, x .says, q .2, h, e, f);
     }
 
 bound-by : (q : Place) (g : Gives) → ValuesSmall (q .bound) → ((v : ℕ) → g ≡ Number v → v < 65536)

@@ -14,13 +14,18 @@ use Rattle.names.specs.declared.Word.the-variants as W
 use Rattle.statements.specs.Statements.{HasWord}
 use Rattle.statements.specs.FirstFailing.{Pass}
 use Rattle.statements.proofs.Labelling.{never}
+use Rattle.columns.specs.Columns.{pointedAt}
+use Rattle.columns.specs.declared.Pointed.{Pointed}
 use Rattle.codes.specs.Limits.{longestSource}
 use Rattle.codes.specs.Marks.{free, codeMark, dataMark, reservedMark}
 use Rattle.sources.specs.Sources.{Said, SourceText}
-use Rattle.sources.specs.Placing.{Judged, judgedLine}
-use Rattle.sources.specs.Order.{Refusal, loanChecks, FirstFailing, Passing}
+use Rattle.sources.specs.Placing.{Place, Judged, judgedLine}
+use Rattle.sources.specs.Order.{Refusal, loanChecks, Passed, FirstFailing, Passing}
+use Rattle.sources.specs.Pointing.{FailsAt}
+use Rattle.sources.specs.BeforeK4.{before, PassedBefore, FirstBefore}
 use Rattle.sources.specs.Image.{blocks, Apart, Image, Accepted, cellsMarked}
 use Rattle.sources.specs.Inner.Assembling.{Verdict, passes, refused, startWork, workAfter, linesRead, verdictOf, memoryOf}
+use Rattle.sources.specs.Inner.Pointing.{pointOf}
 use Rattle.sources.specs.Inner.Assembling.{Assembled, accepted, refuses, assembledBy, assembleOf}
 use Rattle.sources.proofs.Verdicts.{tells-pass}
 use Rattle.sources.proofs.LateDecided.{loans-tell}
@@ -34,11 +39,15 @@ use Rattle.sources.proofs.Counts as Counts
 use Rattle.sources.proofs.Counts.{cellsOfMark}
 use Rattle.sources.proofs.Below as Below
 use Rattle.sources.proofs.Numbers as Numbers
+use Rattle.sources.proofs.BeforeK4 as BeforeK4
+use Rattle.sources.proofs.Pointing as Pointing
 use Rattle.sources.proofs.Comments as Comments
 use Rattle.sources.proofs.Spacing as Spacing
 use Rattle.sources.proofs.Spacing.{SameLines}
 use Rattle.sources.proofs.Edges as Edges
 use Rattle.sources.proofs.Edges.{Edges}
+use Rattle.sources.proofs.PointedExamples as PointedExamples
+use Rattle.sources.proofs.PointedExamples.{PointedExamples}
 use Rattle.sources.proofs.Examples as Examples
 use Rattle.sources.proofs.Examples.{Examples}
 
@@ -175,9 +184,20 @@ module _ (M N : ℕ) (source : List ℕ) where
       → cellsMarked reservedMark marks ≡ cellsOfMark reservedMark (blocks M (a .reading))
   reserved-counted a = Counts.reserved-cells a
 
--- A refusal's number is one of 1 to 14, and never 0.
-pub refusal-numbered : {M N : ℕ} {source : List ℕ} {why : Refusal} → FirstFailing M N source why → (1 ≤ why .number) × (why .number ≤ 14)
+-- A refusal's number is one of 1 to 16, and never 0.
+pub refusal-numbered : {M N : ℕ} {source : List ℕ} {why : Refusal} → FirstFailing M N source why → (1 ≤ why .number) × (why .number ≤ 16)
 refusal-numbered = Numbers.refusal-numbered
+
+-- "for a source 5 goes" (02, K4), and nothing else: with 15 and 16 read as 5, each refusal is the one of before, and back;
+pub as-before : {M N : ℕ} {source : List ℕ} {why : Refusal} → FirstFailing M N source why → FirstBefore M N source (before why)
+as-before = BeforeK4.as-before
+
+pub before-back : {M N : ℕ} {source : List ℕ} {old : Refusal} → FirstBefore M N source old → (why : Refusal) × FirstFailing M N source why × (before why ≡ old)
+before-back = BeforeK4.before-back
+
+-- and the lines that pass are the same, so that the sources accepted are.
+pub passed-before : (M k : ℕ) (p : Place) (xs : List Said) → Passed M k p xs ↔ PassedBefore M k p xs
+passed-before = BeforeK4.passed-before
 
 -- An accepted image depends on source and M alone: the map's length is M, and what memory and map held plays no part.
 pub source-and-M-alone : {M N N′ : ℕ} {source m k m′ k′ : List ℕ} → Accepted M N source m k → Accepted M N′ source m′ k′ → (m ≡ m′) × (k ≡ k′)
@@ -251,6 +271,40 @@ pub blanks-changed : (M N : ℕ) {source source′ : List ℕ} {lines lines′ :
     → length source′ ≤ longestSource
     → Alike M N source source′
 blanks-changed M N {source} {source′} l l′ same n n′ = answered-alike M N source source′ (Spacing.spacing-same M N l l′ same n n′)
+
+-- "Give every refusal from 3 on a column" (02, K4): the first check that fails points somewhere, and `pointOf` says where;
+pub fails-at : (M N : ℕ) (source : List ℕ) {why : Refusal} → FirstFailing M N source why
+    → FailsAt M N source why (pointOf M N source .column .0) (pointOf M N source .place)
+fails-at = Pointing.fails-at
+
+-- nowhere else,
+pub points-once : (M N : ℕ) (source : List ℕ) {why : Refusal} {c i : ℕ} → FailsAt M N source why c i
+    → (pointOf M N source .column .0 ≡ c) × (pointOf M N source .place ≡ i)
+points-once = Pointing.points-once
+
+-- and without its column and place it is the first check that fails.
+pub forget : {M N : ℕ} {source : List ℕ} {why : Refusal} {c i : ℕ} → FailsAt M N source why c i → FirstFailing M N source why
+forget = Pointing.forget
+
+-- Number, line, column and operand's place together are exactly those of the meaning.
+pub points-exactly : (M N : ℕ) (source : List ℕ) (why : Refusal) (c i : ℕ)
+    → (FirstFailing M N source why × (pointOf M N source ≡ pointedAt c i)) ↔ FailsAt M N source why c i
+points-exactly M N source why c i = (
+  λ h. subst (λ (p : Pointed). FailsAt M N source why (p .column .0) (p .place)) (h .1) (fails-at M N source (h .0)),
+  λ f. (forget f, Pointing.found M N source f),
+)
+
+-- So a source has one refusal at most: one number, one line, one column and one operand's place.
+pub one-point : (M N : ℕ) (source : List ℕ) {why why′ : Refusal} {c c′ i i′ : ℕ} → FailsAt M N source why c i → FailsAt M N source why′ c′ i′
+    → (why ≡ why′) × (c ≡ c′) × (i ≡ i′)
+one-point M N source f g =
+    let p = points-once M N source f in
+    let q = points-once M N source g in
+    (one-refusal M N source (forget f) (forget g), sym (p .0) ∙ q .0, sym (p .1) ∙ q .1)
+
+-- Sources with where their refusals point.
+pub pointed-examples : PointedExamples
+pointed-examples = PointedExamples.examples
 
 -- Sources that are easily misread, with the paper's numbers.
 pub examples : Examples

@@ -2,10 +2,10 @@
 -- its completeness stands beside that of its soundness.
 use mathlib.Core.Bool.{Bool, true, false, cond}
 use mathlib.Core.List.{List, [], _∷_, _++_}
-use mathlib.Core.Logic.{inl, inr}
+use mathlib.Core.Logic.{_⊎_, inl, inr}
 use mathlib.Core.Path.{_≡_, refl, ap}
 use Rattle.statements.specs.FirstFailing.{Check, check, Pass, First}
-use Rattle.statements.proofs.FirstFails.{first-once, pass-none}
+use Rattle.statements.proofs.FirstFails.{first-once, pass-none, answered}
 use Rattle.statements.proofs.Labelling.{never}
 use Rattle.sources.specs.Order.{Refusal}
 use Rattle.sources.specs.Inner.Assembling.{Test, test, Verdict, passes, refused, firstOf, andThen}
@@ -49,18 +49,42 @@ unfolding Pass
 pass-join [] ds h k = k
 pass-join (c ∷ cs) ds h k = (h .0, pass-join cs ds (h .1) k)
 
-first-before : (cs ds : List (Check Refusal)) (why : Refusal) → First cs why → First (cs ++ ds) why
+pub first-before : (cs ds : List (Check Refusal)) (why : Refusal) → First cs why → First (cs ++ ds) why
 unfolding First
 first-before [] ds why f = absurd f
 first-before (c ∷ cs) ds why (inl f) = inl f
 first-before (c ∷ cs) ds why (inr f) = inr (f .0, first-before cs ds why (f .1))
 
-first-behind : (cs ds : List (Check Refusal)) (why : Refusal) → Pass cs → First ds why → First (cs ++ ds) why
+pub first-behind : (cs ds : List (Check Refusal)) (why : Refusal) → Pass cs → First ds why → First (cs ++ ds) why
 unfolding Pass First
 first-behind [] ds why h f = f
 first-behind (c ∷ cs) ds why h f = inr (h .0, first-behind cs ds why (h .1) f)
+
+-- and back: the first that fails is in the one, or behind it where that passes
+pub first-apart : {A : Type 0} (cs ds : List (Check A)) (a : A) → First (cs ++ ds) a → First cs a ⊎ (Pass cs × First ds a)
+unfolding Pass First
+first-apart [] ds a f = inr (tt, f)
+first-apart (c ∷ cs) ds a (inl f) = inl (inl f)
+first-apart (c ∷ cs) ds a (inr f) = go (first-apart cs ds a (f .1))
+  where
+    go : First cs a ⊎ (Pass cs × First ds a) → First (c ∷ cs) a ⊎ (Pass (c ∷ cs) × First ds a)
+    go (inl g) = inl (inr (f .0, g))
+    go (inr (h, g)) = inr ((f .0, h), g)
 
 pub tells-join : (v w : Verdict) (cs ds : List (Check Refusal)) → Tells v cs → (v ≡ passes → Tells w ds) → Tells (andThen v w) (cs ++ ds)
 tells-join passes passes cs ds t u = pass-join cs ds t (u refl)
 tells-join passes (refused why) cs ds t u = first-behind cs ds why t (u refl)
 tells-join (refused why) w cs ds t u = first-before cs ds why t
+
+-- ---- checks with other answers, and back
+
+pub first-unanswered : {A B : Type 0} (g : A → B) (cs : List (Check A)) {b : B} → First (answered g cs) b → (a : A) × First cs a × (g a ≡ b)
+unfolding First
+first-unanswered g [] f = absurd f
+first-unanswered g (c ∷ cs) (inl f) = (c .answer, inl (f .0, refl), f .1)
+first-unanswered g (c ∷ cs) (inr f) = let x = first-unanswered g cs (f .1) in (x .0, inr (f .0, x .1), x .2)
+
+pub pass-unanswered : {A B : Type 0} (g : A → B) (cs : List (Check A)) → Pass (answered g cs) → Pass cs
+unfolding Pass
+pass-unanswered g [] h = h
+pass-unanswered g (c ∷ cs) h = (h .0, pass-unanswered g cs (h .1))

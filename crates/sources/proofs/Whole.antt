@@ -70,14 +70,20 @@ module _ (M N : ℕ) (source : List ℕ) where
   abbrev late : Verdict
   late = lateVerdict (workOf M source) (length lines)
 
-  late-here : {xs : List Said} → UpToEnd (linesOf source) xs → Tells late (lateChecks (placeOf M xs) xs)
-  unfolding lateChecks
-  late-here {xs} u =
-      let e : linesRead source ≡ map judgedLine xs = lines-read u in
-      late-as late (sym (length-map lines readLine) ∙ ap length e ∙ length-map xs judgedLine)
-      (place-of-start M (linesRead source) ∙ ap (placeAfter (start M)) e)
-      (uses-of-start M (linesRead source) ∙ ap (usesOf 1 0) e)
-      (late-tells (workOf M source) (length lines))
+  -- what the walk comes to, of lines with their readings
+  module _ {xs : List Said} (u : UpToEnd (linesOf source) xs) where
+    pub last-there : length lines ≡ length xs
+    last-there = sym (length-map lines readLine) ∙ ap length (lines-read u) ∙ length-map xs judgedLine
+
+    pub place-there : workOf M source .place ≡ placeOf M xs
+    place-there = place-of-start M (linesRead source) ∙ ap (placeAfter (start M)) (lines-read u)
+
+    pub uses-there : workOf M source .uses ≡ usesOf 1 0 (map judgedLine xs)
+    uses-there = uses-of-start M (linesRead source) ∙ ap (usesOf 1 0) (lines-read u)
+
+    late-here : Tells late (lateChecks (placeOf M xs) xs)
+    unfolding lateChecks
+    late-here = late-as late last-there place-there uses-there (late-tells (workOf M source) (length lines))
 
   -- ---- the verdict
 
@@ -86,7 +92,7 @@ module _ (M N : ℕ) (source : List ℕ) where
   unfolding verdictOf
   verdict-by e f g = rw (e, f, g)
 
-  loans-pass : Pass (loanChecks M N source) → loanVerdict M N source ≡ passes
+  pub loans-pass : Pass (loanChecks M N source) → loanVerdict M N source ≡ passes
   loans-pass = tells-pass (loanVerdict M N source) (loanChecks M N source) (loans-tell M N source)
 
   pub fails-complete : {why : Refusal} → FirstFailing M N source why → verdictOf M N source ≡ refused why

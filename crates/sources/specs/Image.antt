@@ -44,7 +44,8 @@ module _ (bs : List Bound) (bytes : List ℕ) (next : ℕ) where
   abbrev pub codeRead : Opcode → InstructionRead → List ℕ
   codeRead op (I.Read a b) = codeOf op a b
   codeRead op I.WrongForm = []
-  codeRead op I.WrongOperands = []
+  codeRead op I.WrongCount = []
+  codeRead op (I.WrongKind place) = []
   codeRead op I.OutOfRange = []
 
   -- ---- what each line gives: an instruction its words, DATA its items' cells; RES the cells that it claims, "holding 0" (02, K2)

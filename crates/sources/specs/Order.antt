@@ -9,7 +9,7 @@ use Rattle.values.specs.declared.LabelIn.{LabelIn}
 use Rattle.values.specs.declared.Name.{Name}
 use Rattle.statements.specs.Statements.{Reading, Says, Labelled, UnknownWord, NoReading}
 use Rattle.statements.specs.FirstFailing.{Check, check, Pass, First}
-use Rattle.statements.specs.Checks.{OfReading, Unfit, TooDeep, NumberOut, ZeroDivisor, ResultOut}
+use Rattle.statements.specs.Checks.{OfReading, WrongCount, WrongKind, TooDeep, NumberOut, ZeroDivisor, ResultOut}
 use Rattle.statements.specs.Judging.{judged}
 use Rattle.statements.specs.declared.Statement.{Statement}
 use Rattle.statements.specs.declared.StatementRead.the-variants.{Passes}
@@ -72,14 +72,15 @@ module _ (bytes : List ℕ) where
 
 module _ (M k : ℕ) (p : Place) (bytes : List ℕ) where
   -- "label 10, 9; word 4; form 3; 5; 8; 6 or 7 in order of evaluation (left, right, operation); then the statement's result and label
-  -- addresses ..; 11; 12"
+  -- addresses ..; 11; 12", and "15 comes before 16 in its old place", that of 5 (02, K4)
   unfoldable pub lineChecks : List (Check Refusal)
   lineChecks =
       check (10 on k) (OfLabel bytes (λ w. (longestLabel < length w) ⊎ (mostLabels ≤ length (names p))))
       ∷ check (9 on k) (OfLabel bytes (λ w. List·Memᴰ w (names p)))
       ∷ check (4 on k) (UnknownWord bytes)
       ∷ check (3 on k) (NoReading bytes)
-      ∷ check (5 on k) (OfReading bytes Unfit)
+      ∷ check (15 on k) (OfReading bytes WrongCount)
+      ∷ check (16 on k) (OfReading bytes WrongKind)
       ∷ check (8 on k) (OfReading bytes TooDeep)
       ∷ check (6 on k) (OfReading bytes NumberOut)
       ∷ check (7 on k) (OfReading bytes ZeroDivisor)

@@ -53,7 +53,8 @@ expression-number least says E.WrongForm n = refl
 pub operands-number : (op : Opcode) (r : InstructionRead) → refusalOf (instructionResult op r) ≡ Operands.refusalOf r
 operands-number op (N.Read a b) = refl
 operands-number op N.WrongForm = refl
-operands-number op N.WrongOperands = refl
+operands-number op N.WrongCount = refl
+operands-number op (N.WrongKind place) = refl
 operands-number op N.OutOfRange = refl
 
 pub items-number : (r : ItemsRead) → refusalOf (itemsResult r) ≡ Items.refusalOf r

@@ -17,7 +17,7 @@ use Rattle.expressions.specs.Worths.{within32, ofNumber, operation, operate, wo
 use Rattle.expressions.specs.Reading.{markSymbol, operand, operator, expressionRead}
 use Rattle.operands.specs.Reading.{starts, indexStep, operandsOf}
 use Rattle.operands.specs.Reading as Walk
-use Rattle.operands.specs.Checks.{fits, labelIn, instructionRead}
+use Rattle.operands.specs.Checks.{labelIn, instructionRead}
 use Rattle.operands.specs.Checks as Operands
 use Rattle.items.specs.Items.{cellsOf, allInRange}
 use Rattle.items.specs.Reading.{characters, newline, itemsRead}
@@ -31,7 +31,7 @@ unfolding rank worthAfter run digitsAt radixAt unsignedAt keptOf
     isBlank isMark blanks closing tokenHere tokenAt tokensWithin tokensFrom
     table opcodes countOf allows capital isNamed statementWords wordIn registers placeIn registerCode Names.wordOf
     depth within32 ofNumber operation operate worthOf markSymbol operand operator expressionRead
-    displacementOf starts indexStep Walk.walk operandsOf fits labelIn Operands.wordOf Operands.judged instructionRead
+    displacementOf starts indexStep Walk.walk operandsOf labelIn Operands.wordOf Operands.judged instructionRead
     cellsOf allInRange characters newline Items.walk itemsRead
     resultOf labelRead afterLabel statementRead lineRead
 computedLine bytes = lineRead bytes

@@ -119,7 +119,8 @@ pub record Examples : Type 0 where
   pub by-zero : Refuses 7 ("EQU 1/0" ∷ "RES 5%0" ∷ "EQU 1/0+65536" ∷ "EQU 0*(1/0)" ∷ [])
   pub before-the-zero : Refuses 6 ("EQU 65536/0" ∷ "EQU 1/65536" ∷ "EQU 65535*65535/0" ∷ [])
   -- the kind comes before the size
-  pub wrong-operands : Refuses 5 ("INC $3" ∷ "INC $40000" ∷ "BR #3[.SP]" ∷ "BZ .R3" ∷ "MOVE .A,.A,.A" ∷ "NOP .A" ∷ "HALT /70000" ∷ [])
+  pub wrong-count : Refuses 15 ("MOVE .A,.A,.A" ∷ "NOP .A" ∷ "HALT /70000" ∷ "INC" ∷ "BR $1,$2" ∷ [])
+  pub wrong-kind : Refuses 16 ("INC $3" ∷ "INC $40000" ∷ "BR #3[.SP]" ∷ "BZ .R3" ∷ "MOVE #1,#2" ∷ [])
   -- form, then depth, then values
   pub deepest-origin : Line (deepOrg 32 "5") Absent (Org 5)
   pub too-deep : Refused 8 (deepOrg 33 "1/0")
@@ -173,7 +174,8 @@ examples =
       out-of-range = ((refl, refl), ((refl, refl), ((refl, refl), ((refl, refl), ((refl, refl), ((refl, refl), ((refl, refl), ((refl, refl), ((refl, refl), tt)))))))));
       by-zero = ((refl, refl), ((refl, refl), ((refl, refl), ((refl, refl), tt))));
       before-the-zero = ((refl, refl), ((refl, refl), ((refl, refl), tt)));
-      wrong-operands = ((refl, refl), ((refl, refl), ((refl, refl), ((refl, refl), ((refl, refl), ((refl, refl), ((refl, refl), tt)))))));
+      wrong-count = ((refl, refl), ((refl, refl), ((refl, refl), ((refl, refl), ((refl, refl), tt)))));
+      wrong-kind = ((refl, refl), ((refl, refl), ((refl, refl), ((refl, refl), ((refl, refl), tt)))));
       deepest-origin = refl;
       too-deep = (refl, refl);
       form-first = (refl, refl);

@@ -2,12 +2,12 @@
 use Prim.Native.Nat.{ℕ}
 use mathlib.Core.Bool.{Bool, true, false, not, _&&_}
 use mathlib.Core.List.{List, [], _∷_}
-use mathlib.Core.Logic.{_↔_, inl, inr}
-use mathlib.Core.Path.{_≡_, sym, _∙_}
+use mathlib.Core.Logic.{_↔_, _⊎_, inl, inr}
+use mathlib.Core.Path.{_≡_, sym, ap, _∙_}
 use native.Mathlib.Omega.{arith}
 use lib.Dec.{eqb}
 use borrow.Author.Tests.{eq-eqb}
-use Rattle.statements.specs.FirstFailing.{Check, Pass, First}
+use Rattle.statements.specs.FirstFailing.{Check, check, Pass, First}
 
 pub first-once : {A : Type 0} (cs : List (Check A)) {a b : A} → First cs a → First cs b → a ≡ b
 unfolding First
@@ -65,3 +65,40 @@ pub first-head : (n : ℕ) (c : Check ℕ) (cs : List (Check ℕ)) → lacks n c
 unfolding First
 first-head n c cs e (inl f) = f .0
 first-head n c cs e (inr f) = absurd (first-lacks n cs e (f .1))
+
+-- ---- the same checks with other answers
+
+abbrev pub answered : {A B : Type 0} → (A → B) → List (Check A) → List (Check B)
+answered g [] = []
+answered g (c ∷ cs) = check (g (c .answer)) (c .Fails) ∷ answered g cs
+
+pub first-answered : {A B : Type 0} (g : A → B) (cs : List (Check A)) (a : A) → First cs a → First (answered g cs) (g a)
+unfolding First
+first-answered g [] a f = f
+first-answered g (c ∷ cs) a (inl f) = inl (f .0, ap g (f .1))
+first-answered g (c ∷ cs) a (inr f) = inr (f .0, first-answered g cs a (f .1))
+
+pub pass-answered : {A B : Type 0} (g : A → B) (cs : List (Check A)) → Pass cs → Pass (answered g cs)
+unfolding Pass
+pass-answered g [] p = p
+pass-answered g (c ∷ cs) p = (p .0, pass-answered g cs (p .1))
+
+-- ---- two checks with one answer, as one
+
+module _ {A : Type 0} (n : A) {P Q R : Type 0} (apart : R → P ⊎ Q) (cs : List (Check A)) where
+  neither : (P → ⊥) → (Q → ⊥) → R → ⊥
+  neither p q r = go (apart r)
+    where
+      go : P ⊎ Q → ⊥
+      go (inl x) = p x
+      go (inr y) = q y
+
+  pub first-joined : (P → R) → (Q → R) → (a : A) → First (check n P ∷ check n Q ∷ cs) a → First (check n R ∷ cs) a
+  unfolding First
+  first-joined f g a (inl h) = inl (f (h .0), h .1)
+  first-joined f g a (inr (p, inl h)) = inl (g (h .0), h .1)
+  first-joined f g a (inr (p, inr h)) = inr (neither p (h .0), h .1)
+
+  pub pass-joined : Pass (check n P ∷ check n Q ∷ cs) → Pass (check n R ∷ cs)
+  unfolding Pass
+  pass-joined p = (neither (p .0) (p .1 .0), p .1 .1)

@@ -14,7 +14,7 @@ use Rattle.values.specs.declared.LabelIn.the-variants.{Absent, Named}
 use Rattle.values.specs.declared.Name.{Name}
 use Rattle.statements.specs.Statements.{Reading, end, Label, ends, LineText, labelled, unlabelled, WordIn, behind, first, Says, Labelled, HasWord, UnknownWord, NoReading}
 use Rattle.statements.specs.FirstFailing.{Check, check, Pass, First}
-use Rattle.statements.specs.Checks.{Unfit, TooDeep, NumberOut, ZeroDivisor, ResultOut, OfReading, checks}
+use Rattle.statements.specs.Checks.{WrongCount, WrongKind, WrongKindAt, TooDeep, NumberOut, ZeroDivisor, ResultOut, OfReading, checks, failures}
 use Rattle.statements.specs.Judging.{numberOf, judged}
 use Rattle.statements.specs.Reading.{lineRead}
 use Rattle.statements.specs.declared.Failure.{Failure}
@@ -23,8 +23,8 @@ use Rattle.statements.specs.declared.LineRead.{LineRead}
 use Rattle.statements.specs.declared.Statement.{Statement}
 use Rattle.statements.specs.declared.StatementRead.{StatementRead}
 use Rattle.statements.specs.declared.StatementRead.the-variants.{Passes, Fails}
-use Rattle.statements.proofs.FirstFails.{first-once, pass-none, first-head, Alike, first-alike, pass-alike}
-use Rattle.statements.proofs.Judgements.{Outcome, passes, refused, readingChecks, judgement}
+use Rattle.statements.proofs.FirstFails.{first-once, pass-none, first-head, Alike, first-alike, pass-alike, answered, first-answered, pass-answered, first-joined, pass-joined}
+use Rattle.statements.proofs.Judgements.{Outcome, passes, refused, readingChecks, judgement, kinds-apart, wrong-somewhere}
 use Rattle.statements.proofs.Labelling.{never, Labels, label-is, none-is, labels, label-read}
 use Rattle.statements.proofs.Texts.{TextVerdict, text-verdict}
 use Rattle.statements.proofs.Texts as T
@@ -89,13 +89,15 @@ module _ (line : List ℕ) where
   -- ---- the first check that fails
 
   -- the checks of the line's reading
-  abbrev readings : List (Check ℕ)
+  abbrev readings : List (Check Failure)
   readings =
-      check 5 (OfReading line Unfit)
-      ∷ check 8 (OfReading line TooDeep)
-      ∷ check 6 (OfReading line NumberOut)
-      ∷ check 7 (OfReading line ZeroDivisor)
-      ∷ check 6 (OfReading line ResultOut)
+      check F.WrongCount (OfReading line WrongCount)
+      ∷ check (F.WrongKind 1) (OfReading line (WrongKindAt 0))
+      ∷ check (F.WrongKind 2) (OfReading line (WrongKindAt 1))
+      ∷ check F.TooDeep (OfReading line TooDeep)
+      ∷ check F.OutOfRange (OfReading line NumberOut)
+      ∷ check F.ByZero (OfReading line ZeroDivisor)
+      ∷ check F.ResultOut (OfReading line ResultOut)
       ∷ []
 
   module _ {l : LabelIn} {r : Reading} (x : Says line l r) where
@@ -105,55 +107,113 @@ module _ (line : List ℕ) where
 
     alike : Alike (readingChecks r) readings
     unfolding Alike
-    alike =
-        (refl, of-reading Unfit, (refl, of-reading TooDeep, (refl, of-reading NumberOut, (refl, of-reading ZeroDivisor, (refl, of-reading ResultOut, tt)))))
+    alike = (
+      refl,
+      of-reading WrongCount,
+      (
+        refl,
+        of-reading (WrongKindAt 0),
+        (
+          refl,
+          of-reading (WrongKindAt 1),
+          (refl, of-reading TooDeep, (refl, of-reading NumberOut, (refl, of-reading ZeroDivisor, (refl, of-reading ResultOut, tt)))),
+        ),
+      ),
+    )
 
-    read-outcome : Outcome (readingChecks r) (judged r) → lineRead line .statement ≡ judged r → Outcome (checks line) (lineRead line .statement)
-    unfolding checks First Pass
+    read-outcome : Outcome (readingChecks r) (judged r) → lineRead line .statement ≡ judged r → Outcome (failures line) (lineRead line .statement)
+    unfolding failures First Pass
     read-outcome (passes s e p) f =
         passes s (f ∙ e) (says-known x, (λ n. n l r x, pass-alike (readingChecks r) readings alike p))
     read-outcome (refused g e h) f =
-        refused g (f ∙ e) (inr (says-known x, inr (λ n. n l r x, first-alike (readingChecks r) readings (numberOf g) alike h)))
+        refused g (f ∙ e) (inr (says-known x, inr (λ n. n l r x, first-alike (readingChecks r) readings g alike h)))
 
-  pub outcome : Outcome (checks line) (lineRead line .statement)
-  unfolding checks First
+  pub outcome : Outcome (failures line) (lineRead line .statement)
+  unfolding failures First
   outcome = go verdict
     where
-      go : Verdict → Outcome (checks line) (lineRead line .statement)
+      go : Verdict → Outcome (failures line) (lineRead line .statement)
       go (reads l r x once known e) = read-outcome x (judgement r) (ap (λ (a : LineRead). a .statement) e)
       go (no-such-word u unread e) = refused F.UnknownWord e (inl (u, refl))
       go (no-form known unread e) = refused F.WrongForm e (inr (known, inl (unread, refl)))
 
-  pub refused-exactly : (n : ℕ) → ((f : Failure) × (lineRead line .statement ≡ Fails f) × (numberOf f ≡ n)) ↔ First (checks line) n
-  refused-exactly n = (λ h. out (h .0) (h .1) (h .2) outcome, λ f. back f outcome)
+  pub fails-exactly : (f : Failure) → (lineRead line .statement ≡ Fails f) ↔ First (failures line) f
+  fails-exactly f = (λ e. out e outcome, λ h. back h outcome)
     where
-      out : (f : Failure) → lineRead line .statement ≡ Fails f → numberOf f ≡ n → Outcome (checks line) (lineRead line .statement)
-          → First (checks line) n
-      out f e q (passes s g p) = never (cc)
-      out f e q (refused k g h) = let i : k ≡ f = cc in subst (First (checks line)) (ap numberOf i ∙ q) h
+      out : lineRead line .statement ≡ Fails f → Outcome (failures line) (lineRead line .statement) → First (failures line) f
+      out e (passes s g p) = never (cc)
+      out e (refused k g h) = let i : k ≡ f = cc in subst (First (failures line)) i h
 
-      back : First (checks line) n → Outcome (checks line) (lineRead line .statement)
+      back : First (failures line) f → Outcome (failures line) (lineRead line .statement) → lineRead line .statement ≡ Fails f
+      back h (passes s g p) = absurd (pass-none (failures line) f p h)
+      back h (refused k g h′) = g ∙ ap Fails (first-once (failures line) h′ h)
+
+  -- ---- by their numbers
+
+  abbrev behindKinds : List (Check ℕ)
+  behindKinds =
+      check 8 (OfReading line TooDeep)
+      ∷ check 6 (OfReading line NumberOut)
+      ∷ check 7 (OfReading line ZeroDivisor)
+      ∷ check 6 (OfReading line ResultOut)
+      ∷ []
+
+  -- of the line's reading
+  abbrev numbered : List (Check ℕ)
+  numbered = check 15 (OfReading line WrongCount) ∷ check 16 (OfReading line WrongKind) ∷ behindKinds
+
+  -- the two checks of kinds are one
+  kinds-are : OfReading line WrongKind → OfReading line (WrongKindAt 0) ⊎ OfReading line (WrongKindAt 1)
+  kinds-are (l, r, x, h) = go (kinds-apart r h)
+    where
+      go : WrongKindAt 0 r ⊎ WrongKindAt 1 r → OfReading line (WrongKindAt 0) ⊎ OfReading line (WrongKindAt 1)
+      go (inl k) = inl (l, r, x, k)
+      go (inr k) = inr (l, r, x, k)
+
+  kind-is : (i : ℕ) → OfReading line (WrongKindAt i) → OfReading line WrongKind
+  kind-is i (l, r, x, h) = (l, r, x, wrong-somewhere i r h)
+
+  joined : (n : ℕ) → First (answered numberOf (failures line)) n → First (checks line) n
+  unfolding checks failures First
+  joined n (inl f) = inl f
+  joined n (inr (u, inl f)) = inr (u, inl f)
+  joined n (inr (u, inr (w, inl f))) = inr (u, inr (w, inl f))
+  joined n (inr (u, inr (w, inr (c, h)))) = inr (u, inr (w, inr (c, first-joined 16 kinds-are behindKinds (kind-is 0) (kind-is 1) n h)))
+
+  first-number : (f : Failure) → First (failures line) f → First (checks line) (numberOf f)
+  first-number f h = joined (numberOf f) (first-answered numberOf (failures line) f h)
+
+  pass-numbers : Pass (failures line) → Pass (checks line)
+  unfolding checks failures Pass
+  pass-numbers p =
+      let q = pass-answered numberOf (failures line) p in
+      (q .0, (q .1 .0, (q .1 .1 .0, pass-joined 16 kinds-are behindKinds (q .1 .1 .1))))
+
+  pub refused-exactly : (n : ℕ) → ((f : Failure) × (lineRead line .statement ≡ Fails f) × (numberOf f ≡ n)) ↔ First (checks line) n
+  refused-exactly n = (λ h. subst (First (checks line)) (h .2) (first-number (h .0) (fails-exactly (h .0) .0 (h .1))), λ f. back f outcome)
+    where
+      back : First (checks line) n → Outcome (failures line) (lineRead line .statement)
           → (f : Failure) × (lineRead line .statement ≡ Fails f) × (numberOf f ≡ n)
-      back f (passes s g p) = absurd (pass-none (checks line) n p f)
-      back f (refused k g h) = (k, g, first-once (checks line) h f)
+      back f (passes s g p) = absurd (pass-none (checks line) n (pass-numbers p) f)
+      back f (refused k g h) = (k, g, first-once (checks line) (first-number k h) f)
 
   pub passes-exactly : ((s : Statement) × (lineRead line .statement ≡ Passes s)) ↔ Pass (checks line)
   passes-exactly = (λ h. out (h .0) (h .1) outcome, λ p. back p outcome)
     where
-      out : (s : Statement) → lineRead line .statement ≡ Passes s → Outcome (checks line) (lineRead line .statement) → Pass (checks line)
-      out s e (passes s′ g p) = p
+      out : (s : Statement) → lineRead line .statement ≡ Passes s → Outcome (failures line) (lineRead line .statement) → Pass (checks line)
+      out s e (passes s′ g p) = pass-numbers p
       out s e (refused k g h) = never (cc)
 
-      back : Pass (checks line) → Outcome (checks line) (lineRead line .statement) → (s : Statement) × (lineRead line .statement ≡ Passes s)
+      back : Pass (checks line) → Outcome (failures line) (lineRead line .statement) → (s : Statement) × (lineRead line .statement ≡ Passes s)
       back p (passes s g q) = (s, g)
-      back p (refused k g h) = absurd (pass-none (checks line) (numberOf k) p h)
+      back p (refused k g h) = absurd (pass-none (checks line) (numberOf k) p (first-number k h))
 
   -- ---- 4, and 3
 
   pub unknown-exactly : (lineRead line .statement ≡ Fails F.UnknownWord) ↔ UnknownWord line
   unfolding checks
   unknown-exactly =
-      (λ e. first-head 4 (check 4 (UnknownWord line)) (check 3 (NoReading line) ∷ readings) refl (refused-exactly 4 .0 (F.UnknownWord, e, refl)), λ u. go u verdict)
+      (λ e. first-head 4 (check 4 (UnknownWord line)) (check 3 (NoReading line) ∷ numbered) refl (refused-exactly 4 .0 (F.UnknownWord, e, refl)), λ u. go u verdict)
     where
       go : UnknownWord line → Verdict → lineRead line .statement ≡ Fails F.UnknownWord
       go u (reads l r x once known e) = absurd (known u)
@@ -166,7 +226,7 @@ module _ (line : List ℕ) where
     where
       out : First (checks line) 3 → (UnknownWord line → ⊥) × NoReading line
       out (inl f) = absurd (omega (arith, f .1))
-      out (inr f) = (f .0, first-head 3 (check 3 (NoReading line)) readings refl (f .1))
+      out (inr f) = (f .0, first-head 3 (check 3 (NoReading line)) numbered refl (f .1))
 
       back : (UnknownWord line → ⊥) × NoReading line → Verdict → lineRead line .statement ≡ Fails F.WrongForm
       back h (reads l r x once known e) = absurd (h .1 l r x)

@@ -49,7 +49,7 @@ tree-makes : (least : ℤ) (makes : ℕ → Statement) (e : Tree) {s : Statement
 unfolding treeResult resultOf
 tree-makes least makes e {s} h = by-depth (leb (depth e) deepest) h
   where
-    by-result : (z : ℤ) (b : Bool) → cond b (Passes (makes (ofZ w16 z))) (Fails F.OutOfRange) ≡ Passes s → (v : ℕ) × (s ≡ makes v)
+    by-result : (z : ℤ) (b : Bool) → cond b (Passes (makes (ofZ w16 z))) (Fails F.ResultOut) ≡ Passes s → (v : ℕ) × (s ≡ makes v)
     by-result z true q = (ofZ w16 z, cc)
     by-result z false q = never (cc)
 
@@ -79,7 +79,8 @@ module _ (op : Opcode) (a b : Given) where
           let r : y ≡ b = cc in
           (os, ap (λ (o : Opcode). instruction o os) o, subst (λ (o : Opcode). Operands.judged o os ≡ I.Read a b) o (rw (p, r) at q))
       go I.WrongForm q e = never (cc)
-      go I.WrongOperands q e = never (cc)
+      go I.WrongCount q e = never (cc)
+      go (I.WrongKind place) q e = never (cc)
       go I.OutOfRange q e = never (cc)
   given-by (org t) e = let h = tree-makes leastUnsigned Org t e .1 in never (cc)
   given-by (equ t) e = let h = tree-makes leastSigned Equ t e .1 in never (cc)
@@ -106,7 +107,8 @@ module _ (n : ℕ) where
       go : (i : InstructionRead) → instructionResult op i ≡ Passes (Data n) → Taken-by (instruction op os)
       go (I.Read x y) e = never (cc)
       go I.WrongForm e = never (cc)
-      go I.WrongOperands e = never (cc)
+      go I.WrongCount e = never (cc)
+      go (I.WrongKind place) e = never (cc)
       go I.OutOfRange e = never (cc)
   taken-by (org t) e = let h = tree-makes leastUnsigned Org t e .1 in never (cc)
   taken-by (equ t) e = let h = tree-makes leastSigned Equ t e .1 in never (cc)

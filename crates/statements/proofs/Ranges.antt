@@ -16,7 +16,7 @@ use Rattle.statements.specs.Checks.{resultIn}
 use Rattle.statements.specs.Judging.{resultOf, worthResult}
 use Rattle.statements.specs.Reading.{expressionResult}
 use Rattle.statements.specs.Inner.Parts.{cellIn, worthOutcome, outcomeOf, said}
-use Rattle.statements.specs.declared.Failure.the-variants.{OutOfRange}
+use Rattle.statements.specs.declared.Failure.the-variants.{ResultOut}
 use Rattle.statements.specs.declared.Outcome.{Outcome}
 use Rattle.statements.specs.declared.Outcome.the-variants.{Value, Fails}
 use Rattle.statements.specs.declared.Statement.{Statement}
@@ -38,11 +38,11 @@ before-not (negsuc a) (pos b) e = never (cc)
 before-not (negsuc a) (negsuc b) e = le-leb a b (ltb-false b a e)
 
 module _ (least z : ℤ) where
-  pub below : ltZ z least ≡ true → cellIn least z ≡ Fails OutOfRange
+  pub below : ltZ z least ≡ true → cellIn least z ≡ Fails ResultOut
   unfolding cellIn
   below e = rw (before-is z least e)
 
-  pub above : ltZ z least ≡ false → ltZ (pos 65535) z ≡ true → cellIn least z ≡ Fails OutOfRange
+  pub above : ltZ z least ≡ false → ltZ (pos 65535) z ≡ true → cellIn least z ≡ Fails ResultOut
   unfolding cellIn
   above e f = rw (before-not z least e, before-is (pos 65535) z f)
 
@@ -77,7 +77,7 @@ module _ (least : ℤ) (makes : ℕ → Statement) where
   unfolding cellIn resultOf
   cell-said z = go (resultIn least z)
     where
-      go : (b : Bool) → said makes (cond b (Value (ofZ w16 z)) (Fails OutOfRange)) ≡ cond b (S.Passes (makes (ofZ w16 z))) (S.Fails OutOfRange)
+      go : (b : Bool) → said makes (cond b (Value (ofZ w16 z)) (Fails ResultOut)) ≡ cond b (S.Passes (makes (ofZ w16 z))) (S.Fails ResultOut)
       go true = refl
       go false = refl
 

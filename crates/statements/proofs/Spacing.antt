@@ -34,7 +34,7 @@ use Rattle.expressions.proofs.Spacing.{SameKinds, alike-kinds, expression-same}
 use Rattle.operands.specs.Operands.{wordAt}
 use Rattle.operands.specs.declared.Given.{Given}
 use Rattle.operands.specs.declared.InstructionRead.{InstructionRead}
-use Rattle.operands.proofs.Spacing.{AlikeGiven, AlikeRead, read, wrong-form, wrong-operands, out-of-range, instruction-alike}
+use Rattle.operands.proofs.Spacing.{AlikeGiven, AlikeRead, read, wrong-form, wrong-count, wrong-kind, out-of-range, instruction-alike}
 use Rattle.items.specs.Reading.{itemsRead}
 use Rattle.items.specs.declared.ItemsRead.{ItemsRead}
 use Rattle.items.specs.declared.ItemsRead.the-variants as I
@@ -46,7 +46,7 @@ use Rattle.statements.specs.Judging.{resultOf, judged, instructionResult
 use Rattle.statements.specs.Reading.{isWord, isColon, labelRead, afterLabel, expressionResult, itemsResult, byWord, statementRead, lineRead}
 use Rattle.statements.specs.Cells.{isData, bodyCells, cellsIn}
 use Rattle.statements.specs.declared.Failure.{Failure}
-use Rattle.statements.specs.declared.Failure.the-variants.{OutOfRange}
+use Rattle.statements.specs.declared.Failure.the-variants.{ResultOut}
 use Rattle.statements.specs.declared.Statement.{Statement}
 use Rattle.statements.specs.declared.Statement.the-variants as S
 use Rattle.statements.specs.declared.StatementRead.{StatementRead}
@@ -89,7 +89,8 @@ module _ (line line′ : List ℕ) where
       → AlikeStatement line line′ (instructionResult op r) (instructionResult op r′)
   instruction-says op (read h g) = instruction h g
   instruction-says op wrong-form = fails _
-  instruction-says op wrong-operands = fails _
+  instruction-says op wrong-count = fails _
+  instruction-says op (wrong-kind place) = fails _
   instruction-says op out-of-range = fails _
 
   passing : (y : Bool) (s : Statement) (why : Failure) → T (placeless s)
@@ -101,7 +102,7 @@ module _ (line line′ : List ℕ) where
   expression-says : (least : ℤ) (makes : ℕ → Statement) → ((v : ℕ) → T (placeless (makes v))) → (r : ExpressionRead)
       → AlikeStatement line line′ (expressionResult least makes r) (expressionResult least makes r)
   unfolding resultOf
-  expression-says least makes p (E.Read (V′.Is z)) = passing (resultIn least z) (makes (ofZ w16 z)) OutOfRange (p (ofZ w16 z))
+  expression-says least makes p (E.Read (V′.Is z)) = passing (resultIn least z) (makes (ofZ w16 z)) ResultOut (p (ofZ w16 z))
   expression-says least makes p (E.Read V′.OutOfRange) = fails _
   expression-says least makes p (E.Read V′.ByZero) = fails _
   expression-says least makes p E.TooDeep = fails _

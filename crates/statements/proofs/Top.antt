@@ -34,7 +34,7 @@ use Rattle.items.specs.Reading as Items
 use Rattle.items.specs.declared.ItemsRead.{ItemsRead}
 use Rattle.statements.specs.Statements.{Reading, instruction, cells, end, Says, Labelled, HasWord, UnknownWord, NoReading}
 use Rattle.statements.specs.FirstFailing.{Pass, First}
-use Rattle.statements.specs.Checks.{resultIn, checks}
+use Rattle.statements.specs.Checks.{resultIn, checks, failures}
 use Rattle.statements.specs.Judging.{numberOf, refusalOf, instructionResult, judged, claimOf}
 use Rattle.statements.specs.Reading.{expressionResult, itemsResult, lineRead}
 use Rattle.statements.specs.Cells.{cellsIn}
@@ -77,6 +77,11 @@ module _ (line : List ℕ) where
   -- A number is answered exactly where its check is the first of the list that fails.
   pub refused-exactly : (n : ℕ) → ((f : Failure) × (lineRead line .statement ≡ Fails f) × (numberOf f ≡ n)) ↔ First (checks line) n
   refused-exactly = Lines.refused-exactly line
+
+  -- Each failure is told exactly where its check is the first of the list that fails: a number or an operation out of range apart from
+  -- the statement's result, a wrong count apart from a wrong kind, and of two operands wrong in kind the first.
+  pub fails-exactly : (f : Failure) → (lineRead line .statement ≡ Fails f) ↔ First (failures line) f
+  fails-exactly = Lines.fails-exactly line
 
   -- The line passes exactly where every check of the list does.
   pub passes-exactly : ((s : Statement) × (lineRead line .statement ≡ Passes s)) ↔ Pass (checks line)

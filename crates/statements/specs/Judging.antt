@@ -20,7 +20,7 @@ use Rattle.items.specs.Items.{cellsOf, allInRange}
 use Rattle.statements.specs.Statements.{Reading, nothing, instruction, org, equ, res, cells, end}
 use Rattle.statements.specs.Checks.{leastUnsigned, leastSigned, resultIn}
 use Rattle.statements.specs.declared.Failure.{Failure}
-use Rattle.statements.specs.declared.Failure.the-variants.{UnknownWord, WrongForm, WrongOperands, TooDeep, OutOfRange, ByZero}
+use Rattle.statements.specs.declared.Failure.the-variants.{UnknownWord, WrongForm, WrongCount, WrongKind, TooDeep, OutOfRange, ByZero, ResultOut}
 use Rattle.statements.specs.declared.Statement.{Statement}
 use Rattle.statements.specs.declared.Statement.the-variants.{Nothing, Instruction, Org, Equ, Res, Data, End}
 use Rattle.statements.specs.declared.StatementRead.{StatementRead}
@@ -31,10 +31,12 @@ use Rattle.statements.specs.declared.StatementRead.the-variants.{Passes,
 abbrev pub numberOf : Failure → ℕ
 numberOf UnknownWord = 4
 numberOf WrongForm = 3
-numberOf WrongOperands = 5
+numberOf WrongCount = 15
+numberOf (WrongKind place) = 16
 numberOf TooDeep = 8
 numberOf OutOfRange = 6
 numberOf ByZero = 7
+numberOf ResultOut = 6
 
 -- 0 where the line's own checks pass
 abbrev pub refusalOf : StatementRead → ℕ
@@ -44,7 +46,7 @@ refusalOf (Fails f) = numberOf f
 -- ---- an expression: 8, then 6 or 7, then the result, "kept modulo 65536"
 
 unfoldable pub resultOf : ℤ → (ℕ → Statement) → ℤ → StatementRead
-resultOf least says z = cond (resultIn least z) (Passes (says (ofZ w16 z))) (Fails OutOfRange)
+resultOf least says z = cond (resultIn least z) (Passes (says (ofZ w16 z))) (Fails ResultOut)
 
 abbrev pub worthResult : ℤ → (ℕ → Statement) → Worth → StatementRead
 worthResult least says (E.Is z) = resultOf least says z
@@ -54,12 +56,13 @@ worthResult least says E.ByZero = Fails ByZero
 unfoldable pub treeResult : ℤ → (ℕ → Statement) → Tree → StatementRead
 treeResult least says e = cond (leb (depth e) deepest) (worthResult least says (worthOf e)) (Fails TooDeep)
 
--- ---- an opcode's operands: 5, then 6
+-- ---- an opcode's operands: 15, 16, then 6
 
 abbrev pub instructionResult : Opcode → InstructionRead → StatementRead
 instructionResult op (I.Read a b) = Passes (Instruction op a b)
 instructionResult op I.WrongForm = Fails WrongForm
-instructionResult op I.WrongOperands = Fails WrongOperands
+instructionResult op I.WrongCount = Fails WrongCount
+instructionResult op (I.WrongKind place) = Fails (WrongKind place)
 instructionResult op I.OutOfRange = Fails OutOfRange
 
 -- ---- what a reading comes to

@@ -10,7 +10,7 @@ use tokens::tokens::next_token;
 use values::LabelIn;
 use values::Name;
 
-pub(crate) fn is_word(k: Kind) -> bool
+pub fn is_word(k: Kind) -> bool
     ensures { λ r. ⌜ r ≡ isWord k ⌝ }
 {
     match k {
@@ -41,7 +41,7 @@ fn unlabelled(w: Token) -> Labelled
 }
 
 // The line's first token, if it is a word directly followed by `:`.
-pub(crate) fn label(s: &[u8]) -> Labelled
+pub fn label(s: &[u8]) -> Labelled
     ensures { λ r. ⌜ LabelDone (now (s .entry)) r ⌝ }
 {
     let w = next_token(s, Cursor { at: 0 });

@@ -6,7 +6,7 @@ use tokens::Token;
 use values::LabelIn;
 
 pub mod cells; // the cells that a line's DATA gives
-mod labels; // a line's label, and the token after it
+pub mod labels; // a line's label, and the token after it
 pub mod line; // a line's reading
 pub mod refusals; // the paper's number of a check that fails
 mod results; // what an expression, operands and items come to
@@ -22,14 +22,17 @@ pub enum Statement {
     End,
 }
 
-// A check of a line that fails: refusal 4, 3, 5, 8, 6 or 7.
+// A check of a line that fails: refusal 4, 3, 15, 16, 8, 6 or 7. A wrong kind names the operand's place, 1 or 2; out of range is a number or
+// an operation, or else the statement's result.
 pub enum Failure {
     UnknownWord,
     WrongForm,
-    WrongOperands,
+    WrongCount,
+    WrongKind(u8),
     TooDeep,
     OutOfRange,
     ByZero,
+    ResultOut,
 }
 
 // What a line's statement comes to: it passes the line's own checks and says this, or this is the first of them that fails.
@@ -45,9 +48,9 @@ pub struct LineRead {
 }
 
 // A line's label, and the statement's first token.
-struct Labelled {
-    label: LabelIn,
-    word: Token,
+pub struct Labelled {
+    pub label: LabelIn,
+    pub word: Token,
 }
 
 // An expression's result as a cell, or the check that fails.

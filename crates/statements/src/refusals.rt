@@ -9,9 +9,11 @@ pub fn number_of(f: Failure) -> u8
     match f {
         Failure::UnknownWord => 4,
         Failure::WrongForm => 3,
-        Failure::WrongOperands => 5,
+        Failure::WrongCount => 15,
+        Failure::WrongKind(_) => 16,
         Failure::TooDeep => 8,
         Failure::OutOfRange => 6,
         Failure::ByZero => 7,
+        Failure::ResultOut => 6,
     }
 }

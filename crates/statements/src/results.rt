@@ -31,10 +31,10 @@ fn in_range(least: i32, z: i32) -> Outcome
     ensures { λ r. ⌜ r ≡ cellIn least z ⌝ }
 {
     if z < least {
-        return Outcome::Fails(Failure::OutOfRange);
+        return Outcome::Fails(Failure::ResultOut);
     }
     if 65535 < z {
-        return Outcome::Fails(Failure::OutOfRange);
+        return Outcome::Fails(Failure::ResultOut);
     }
     if z < 0 {
         return Outcome::Value((z + 65536) as u16);
@@ -92,7 +92,8 @@ pub(crate) fn instructs(s: &[u8], op: Opcode, from: Cursor) -> StatementRead
     match instruction(s, op, from) {
         InstructionRead::Read(a, b) => StatementRead::Passes(Statement::Instruction(op, a, b)),
         InstructionRead::WrongForm => StatementRead::Fails(Failure::WrongForm),
-        InstructionRead::WrongOperands => StatementRead::Fails(Failure::WrongOperands),
+        InstructionRead::WrongCount => StatementRead::Fails(Failure::WrongCount),
+        InstructionRead::WrongKind(place) => StatementRead::Fails(Failure::WrongKind(place)),
         InstructionRead::OutOfRange => StatementRead::Fails(Failure::OutOfRange),
     }
 }

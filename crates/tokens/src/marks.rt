@@ -8,7 +8,7 @@ use super::tokens::skip;
 use numerals::Cursor;
 use numerals::bytes::rank_of;
 
-fn is_mark(b: u8) -> bool
+pub fn is_mark(b: u8) -> bool
     ensures { λ r. ⌜ r ≡ isMark b ⌝ }
 {
     if b < 33 {

@@ -15,7 +15,7 @@ use numerals::NumberRead;
 use numerals::bytes::rank_of;
 use numerals::bytes::run_end;
 
-fn is_blank(b: u8) -> bool
+pub fn is_blank(b: u8) -> bool
     ensures { λ r. ⌜ r ≡ isBlank b ⌝ }
 {
     if b == b' ' {

@@ -18,19 +18,20 @@ use Rattle.labels.proofs.Laws.{length-words}
 use Rattle.placing.specs.Inner.State.{stateOf, Fair, BindsFine}
 use Rattle.placing.specs.declared.Counters.{Counters}
 use Rattle.placing.proofs.PlaceLaws.{binds-fine}
-use Rattle.walking.specs.Inner.Walking.{workIn, Says, Holds}
+use Rattle.walking.specs.Inner.Walking.{workIn, Says, Holds, Ends}
 use Rattle.walking.specs.declared.Lines.{Lines}
 use Rattle.walking.specs.declared.Lines.the-variants as L
+use Rattle.walking.specs.declared.Walked.{Walked}
+use Rattle.walking.specs.declared.Walked.the-variants as W
 
 bindings-of : (p : Place) → p .bound ++ boundTo (p .at) (p .waiting) ≡ bindings p
 unfolding bindings
 bindings-of p = refl
 
 -- a line fails
-pub refused-early : (v : Verdict) (w : Work) (n : ℕ) (of : Counters → ℕ → Work) {r : Lines} {f : ℕ} {l : Line} (e : Verdict) → r ≡ L.Refused f l
-    → Says v w n of r
-    → andThen v e ≡ refused (f on l .0)
-refused-early v w n of e q h = ap (λ (x : Verdict). andThen x e) (subst (Says v w n of) q h)
+pub refused-early : (v : Verdict) (w : Work) (n : ℕ) (of : Counters → ℕ → Work) {r : Lines} {f : ℕ} {l : Line} → r ≡ L.Refused f l → Says v w n of r
+    → v ≡ refused (f on l .0)
+refused-early v w n of q h = subst (Says v w n of) q h
 
 module _ (s starts keys vs ms memory row aways : List ℕ) (v : Verdict) (w : Work) (n : ℕ) {r : Lines} {c : Counters} {named : ℕ} {l : Line}
     (q : r ≡ L.Passes c named l) (h : Says v w n (workIn s starts keys vs ms memory row aways) r) where
@@ -54,9 +55,10 @@ module _ (s starts keys vs ms memory row aways : List ℕ) (v : Verdict) (w : Wo
       ∙ ap (λ (b : Bool). cond b (refused (6 on n)) passes) (ap (λ (i : ℕ). ltb 0 i && leb mostCells (c .at .0)) d ∙ sym e)
 
   -- a label that waits would get 65,536
-  pub refused-late : {b : Bool} → b ≡ (ltb 0 (c .waiting) && leb mostCells (c .at .0)) → b ≡ true → andThen v (endVerdict n (w .place)) ≡ refused (6 on l .0)
+  pub refused-late : {b : Bool} → b ≡ (ltb 0 (c .waiting) && leb mostCells (c .at .0)) → b ≡ true
+      → (v ≡ passes) × (endVerdict n (w .place) ≡ refused (6 on l .0))
   refused-late e t =
-      ap₂ andThen (told .0) (end-by e ∙ ap (λ (b : Bool). cond b (refused (6 on n)) passes) t) ∙ ap (λ (i : ℕ). refused (6 on i)) (sym (told .2))
+      (told .0, end-by e ∙ ap (λ (b : Bool). cond b (refused (6 on n)) passes) t ∙ ap (λ (i : ℕ). refused (6 on i)) (sym (told .2)))
 
   -- no label is late
   pub passes-end : {b : Bool} → b ≡ (ltb 0 (c .waiting) && leb mostCells (c .at .0)) → b ≡ false → andThen v (endVerdict n (w .place)) ≡ passes
@@ -86,3 +88,11 @@ module _ (s starts keys vs ms memory row aways : List ℕ) (v : Verdict) (w : Wo
         cells = ap (λ (x : Work). x .cells) (told .1);
         uses = ap (λ (x : Work). x .uses) (told .1);
       }
+
+-- what the walk answers, of the verdict on lines and end together
+module _ (v e : Verdict) (H : ℕ → ℕ → Type 0) {r : Walked} where
+  pub walk-refused : {f : ℕ} {l : Line} → r ≡ W.Refused f l → Ends v e H r → andThen v e ≡ refused (f on l .0)
+  walk-refused q h = ap (λ (x : Verdict). andThen x e) (subst (Ends v e H) q h)
+
+  pub walk-late : {l : Line} → r ≡ W.Late l → Ends v e H r → andThen v e ≡ refused (6 on l .0)
+  walk-late q h = let t = subst (Ends v e H) q h in ap₂ andThen (t .0) (t .1)

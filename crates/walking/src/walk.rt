@@ -166,7 +166,7 @@ pub fn walk(
         Lines::Passes(c, uses, last) => {
             let at = c.at.0;
             if is_late(c.waiting, at) {
-                return Walked::Refused(6, last);
+                return Walked::Late(last);
             }
             let d = bind_here(values, c);
             let labels = d.bound;

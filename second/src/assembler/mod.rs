@@ -6,7 +6,7 @@ pub mod placing;
 pub mod settling;
 
 use crate::machine::is_memory_size;
-use crate::text::{lines, read_line, Fault};
+use crate::text::{lines, read_line, Column, Why};
 use placing::Placing;
 
 /// "Source is at most 32,768 bytes".
@@ -20,12 +20,12 @@ pub struct Line(pub u32);
 #[derive(Clone, Copy, Debug, PartialEq, Eq, PartialOrd, Ord)]
 pub struct Address(pub u32);
 
-/// Why a source is refused, by document 01's numbers.
+/// Why a source is refused, by the papers' numbers.
 #[derive(Clone, Copy, Debug, PartialEq, Eq)]
 pub enum Refusal {
     BadLoan,
     SourceTooLong,
-    OfLine(Fault),
+    OfLine(Why),
     LabelAgain,
     LabelNotKept,
     PastMemory,
@@ -39,7 +39,7 @@ impl Refusal {
         match self {
             Refusal::BadLoan => 1,
             Refusal::SourceTooLong => 2,
-            Refusal::OfLine(fault) => fault as u8,
+            Refusal::OfLine(why) => why.number(),
             Refusal::LabelAgain => 9,
             Refusal::LabelNotKept => 10,
             Refusal::PastMemory => 11,
@@ -48,13 +48,29 @@ impl Refusal {
             Refusal::TooFar => 14,
         }
     }
+
+    /// The operand's place in 16, 1 or 2, else 0.
+    pub fn place(self) -> u8 {
+        match self {
+            Refusal::OfLine(why) => why.place(),
+            _ => 0,
+        }
+    }
 }
 
-/// A refusal and the line it names.
+/// A refusal, the line it names, and the column "where the fault starts".
 #[derive(Clone, Copy, Debug, PartialEq, Eq)]
 pub struct Refused {
     pub refusal: Refusal,
     pub line: Line,
+    pub column: Column,
+}
+
+impl Refused {
+    /// A refusal that no line is to blame for: "1 and 2 have column 0".
+    pub fn of_no_line(refusal: Refusal) -> Refused {
+        Refused { refusal, line: Line(0), column: Column::NONE }
+    }
 }
 
 /// "acceptance returns 0, line 0 and the numbers of code and data cells", and by document 02, K2,
@@ -68,12 +84,11 @@ pub struct Accepted {
 
 /// Assembles. Acceptance rewrites the whole memory and the whole map; a refusal touches neither.
 pub fn assemble(source: &[u8], memory: &mut [u16], map: &mut [u8]) -> Result<Accepted, Refused> {
-    let at_line_0 = |refusal| Refused { refusal, line: Line(0) };
     if !is_memory_size(memory.len()) || map.len() != memory.len() {
-        return Err(at_line_0(Refusal::BadLoan));
+        return Err(Refused::of_no_line(Refusal::BadLoan));
     }
     if source.len() > SOURCE_LIMIT {
-        return Err(at_line_0(Refusal::SourceTooLong));
+        return Err(Refused::of_no_line(Refusal::SourceTooLong));
     }
     let mut placing = Placing::new(memory.len());
     place_lines(source, &mut placing)?;
@@ -93,7 +108,9 @@ fn place_lines<'s>(source: &'s [u8], placing: &mut Placing<'s>) -> Result<(), Re
             placing.label(name)?;
         }
         match read.statement {
-            Err(fault) => return Err(placing.refused(Refusal::OfLine(fault))),
+            Err(fault) => {
+                return Err(placing.refused(Refusal::OfLine(fault.why), fault.column));
+            }
             Ok(None) => {}
             Ok(Some(statement)) => {
                 placing.place(statement)?;

@@ -5,6 +5,7 @@ use super::labels::Labels;
 use super::{Accepted, Address, Line, Refusal, Refused};
 use crate::image::{CODE, DATA, RESERVED};
 use crate::isa::Operand;
+use crate::text::Awaited;
 
 /// A memory and a map in the making.
 #[derive(Debug)]
@@ -26,7 +27,7 @@ pub struct Late<'s> {
     pub line: Line,
     /// The cell that is to hold the operand's word.
     pub cell: Address,
-    pub label: &'s [u8],
+    pub awaited: Awaited<'s>,
     pub operand: Operand,
     /// The address after the instruction.
     pub after: Address,
@@ -43,8 +44,7 @@ pub struct Placed<'s> {
 pub fn settle(placed: Placed) -> Result<Image, Refused> {
     let Placed { labels, mut image, late } = placed;
     for operand in &late {
-        let word =
-            word(operand, &labels).map_err(|refusal| Refused { refusal, line: operand.line })?;
+        let word = word(operand, &labels)?;
         if let Some(cell) = image.cells.get_mut(operand.cell.0 as usize) {
             *cell = word;
         }
@@ -53,15 +53,18 @@ pub fn settle(placed: Placed) -> Result<Image, Refused> {
 }
 
 /// "`$label` is the label's value less the address after the instruction, as plain numbers."
-/// Everywhere else a label stands for its value.
-fn word(late: &Late, labels: &Labels) -> Result<u16, Refusal> {
-    let value = labels.value(late.label).ok_or(Refusal::LabelUnknown)?;
+/// Everywhere else a label stands for its value. 13 is told at the label, 14 at the operand.
+fn word(late: &Late, labels: &Labels) -> Result<u16, Refused> {
+    let Awaited { name, operand } = late.awaited;
+    let refused = |refusal, column| Refused { refusal, line: late.line, column };
+    let unknown = refused(Refusal::LabelUnknown, name.column);
+    let value = labels.value(name.what).ok_or(unknown)?;
     if !matches!(late.operand, Operand::Relative(_)) {
         return Ok(value);
     }
     let distance = i64::from(value) - i64::from(late.after.0);
     match i16::try_from(distance) {
         Ok(displacement) => Ok(displacement as u16),
-        Err(_) => Err(Refusal::TooFar),
+        Err(_) => Err(refused(Refusal::TooFar, operand)),
     }
 }

@@ -15,7 +15,8 @@ impl Words {
     }
 }
 
-/// The instruction is none of the allowed ones: 5, for a source and for the encoder alike.
+/// The instruction is none of the allowed ones. For a source 5 is split into 15 and 16, "while the
+/// encoder keeps it" (document 02, K4).
 #[derive(Clone, Copy, Debug, PartialEq, Eq)]
 pub struct NotAllowed;
 

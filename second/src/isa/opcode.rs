@@ -133,4 +133,10 @@ impl Opcode {
     pub fn places(self) -> (Place, Place) {
         PLACES[self as usize]
     }
+
+    /// What each operand that it takes is for: as many as it takes.
+    pub fn operands(self) -> Vec<Place> {
+        let (first, second) = self.places();
+        [first, second].into_iter().filter(|place| *place != Place::Empty).collect()
+    }
 }

@@ -1,16 +1,18 @@
 //! Cases for the assembler.
 
 use super::random::Random;
-use super::{blocks, draw, edges, faulty, large, late, mutate, nasty};
+use super::{blocks, columns, draw, edges, faulty, large, late, mutate, nasty};
 use super::{reserved, source, values, whole};
 use crate::case::{Case, LentMemory, LentSource, CELLS_LIMIT};
 
 pub fn assemble_case(random: &mut Random) -> Case {
-    let (cells, mut source) = if random.one_in(40) {
-        (65_536, reserved::at_the_top(random))
-    } else {
-        let cells = source_cells(random);
-        (cells, drawn(random, cells))
+    let (cells, mut source) = match random.below(40) {
+        0 => (65_536, reserved::at_the_top(random)),
+        1..=4 => columns::drawn(random),
+        _ => {
+            let cells = source_cells(random);
+            (cells, drawn(random, cells))
+        }
     };
     if random.one_in(20) {
         source = late::late(random, &source);

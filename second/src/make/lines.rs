@@ -1,12 +1,12 @@
-//! Single lines: those of made sources, the same spoiled, and any bytes.
+//! Single lines: those of made sources, the same spoiled, those for columns, and any bytes.
 
 use super::random::Random;
-use super::{blocks, faulty, large, mutate, nasty, source};
+use super::{blocks, columns, faulty, large, mutate, nasty, source};
 use crate::case::Case;
 use crate::text::lines;
 
 pub fn line_case(random: &mut Random) -> Case {
-    let text = match random.below(16) {
+    let text = match random.below(20) {
         0..=3 => source::source(random, 100),
         4..=6 => {
             let mut text = source::source(random, 100);
@@ -17,6 +17,7 @@ pub fn line_case(random: &mut Random) -> Case {
         10..=12 => faulty::source(random),
         13 => blocks::source(random, 100),
         14 if random.one_in(4) => large::source(random),
+        15..=18 => return Case::Line(columns::drawn_line(random)),
         _ => return Case::Line(nasty::bytes(random)),
     };
     let mut line = one_of(random, &text);
@@ -27,7 +28,7 @@ pub fn line_case(random: &mut Random) -> Case {
 }
 
 /// One line of a source; an empty one if it has none.
-fn one_of(random: &mut Random, text: &[u8]) -> Vec<u8> {
+pub fn one_of(random: &mut Random, text: &[u8]) -> Vec<u8> {
     let all: Vec<&[u8]> = lines(text).collect();
     match all.len() {
         0 => Vec::new(),

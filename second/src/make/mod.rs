@@ -3,6 +3,7 @@
 pub mod assemble;
 pub mod bench;
 pub mod blocks;
+pub mod columns;
 pub mod covered;
 pub mod draw;
 pub mod edges;
@@ -14,6 +15,7 @@ pub mod lines;
 pub mod listings;
 pub mod lookup;
 pub mod mutate;
+pub mod naming;
 pub mod nasty;
 pub mod ports;
 pub mod programs;
@@ -79,6 +81,7 @@ impl Maker {
             Kind::Machine => covered::all(&mut random),
             Kind::Print => images::edges(&mut random),
             Kind::List => listings::edges(&mut random),
+            Kind::Line => columns::edge_lines().into_iter().map(Case::Line).collect(),
             _ => Vec::new(),
         };
         Maker { kind, random, first: first.into_iter() }

@@ -25,7 +25,7 @@ pub fn mutate(random: &mut Random, source: &mut Vec<u8>) {
     }
 }
 
-fn drawn_byte(random: &mut Random) -> u8 {
+pub fn drawn_byte(random: &mut Random) -> u8 {
     match random.below(4) {
         0 => random.byte(),
         1 => random.between(32, 126) as u8,

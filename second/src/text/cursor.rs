@@ -1,7 +1,12 @@
 //! A place in a line. Reading hands back what was read and the moved cursor (document 01:
-//! "Reading a word gives the word and the position after it").
+//! "Reading a word gives the word and the position after it"), or the column where the line's form
+//! breaks (document 02, K4).
 
+use super::{At, Column};
 use crate::number::{self, is_word_byte, Number, Sign};
+
+/// What was read and the cursor behind it, or the column of the first fault of form.
+pub type Read<'l, T> = Result<(T, Cursor<'l>), Column>;
 
 #[derive(Clone, Copy, Debug)]
 pub struct Cursor<'l> {
@@ -16,6 +21,22 @@ impl<'l> Cursor<'l> {
 
     fn moved_to(self, at: usize) -> Cursor<'l> {
         Cursor { at, ..self }
+    }
+
+    /// The column of the byte here, or of the line's end.
+    pub fn column(self) -> Column {
+        Column::behind(self.at)
+    }
+
+    /// The column where what stands here may not: "the first token or stray byte", or "the column
+    /// after the line's last byte if one is missing". Blanks and a comment are bytes of the line.
+    pub fn misplaced(self) -> Column {
+        let here = self.past_blanks();
+        if here.is_at_end() {
+            Column::behind(self.line.len())
+        } else {
+            here.column()
+        }
     }
 
     pub fn byte(self) -> Option<u8> {
@@ -48,8 +69,13 @@ impl<'l> Cursor<'l> {
         self.past_blanks().mark(mark)
     }
 
+    /// A mark that blanks may precede and that no line of right form lacks here.
+    pub fn due_mark(self, mark: u8) -> Result<Cursor<'l>, Column> {
+        self.next_mark(mark).ok_or_else(|| self.misplaced())
+    }
+
     /// "Word: longest run of letters, digits, `_`, not begun by a digit."
-    pub fn word(self) -> Option<(&'l [u8], Cursor<'l>)> {
+    pub fn word(self) -> Option<(At<&'l [u8]>, Cursor<'l>)> {
         let rest = &self.line[self.at..];
         if rest.first().map_or(true, |byte| byte.is_ascii_digit()) {
             return None;
@@ -58,33 +84,39 @@ impl<'l> Cursor<'l> {
         if length == 0 {
             return None;
         }
-        Some((&rest[..length], self.moved_to(self.at + length)))
+        let word = At { what: &rest[..length], column: self.column() };
+        Some((word, self.moved_to(self.at + length)))
     }
 
-    pub fn number(self, sign: Sign) -> Option<(Number, Cursor<'l>)> {
-        let (number, end) = number::read(self.line, self.at, sign)?;
-        Some((number, self.moved_to(end)))
+    /// A number. Once one has begun the fault is "inside a number .. the first byte" that cannot
+    /// stand there, be it a blank or `;`; where none begins it is the token here.
+    pub fn number(self, sign: Sign) -> Read<'l, At<Number>> {
+        match number::read(self.line, self.at, sign) {
+            Ok((what, end)) => Ok((At { what, column: self.column() }, self.moved_to(end))),
+            Err(broken) if broken == self.at => Err(self.misplaced()),
+            Err(broken) => Err(Column::behind(broken)),
+        }
     }
 
     /// A string's cells with the 0 that ends them: "Strings hold 32..126 except `"`; a backslash
-    /// only as `\n` (10)."
-    pub fn string(self) -> Option<(Vec<u16>, Cursor<'l>)> {
-        let mut cursor = self.mark(b'"')?;
+    /// only as `\n` (10)." The fault is the byte that a string cannot have there, or the line's end.
+    pub fn string(self) -> Read<'l, Vec<u16>> {
+        let mut cursor = self.due_mark(b'"')?;
         let mut cells = Vec::new();
         loop {
-            let byte = cursor.byte()?;
-            cursor = cursor.moved_to(cursor.at + 1);
-            match byte {
-                b'"' => break,
-                b'\\' => {
-                    cursor = cursor.mark(b'n')?;
+            let here = cursor;
+            cursor = here.moved_to(here.at + 1);
+            match here.byte() {
+                Some(b'"') => break,
+                Some(b'\\') => {
+                    cursor = cursor.mark(b'n').ok_or(cursor.column())?;
                     cells.push(10);
                 }
-                32..=126 => cells.push(u16::from(byte)),
-                _ => return None,
+                Some(byte @ 32..=126) => cells.push(u16::from(byte)),
+                _ => return Err(here.column()),
             }
         }
         cells.push(0);
-        Some((cells, cursor))
+        Ok((cells, cursor))
     }
 }

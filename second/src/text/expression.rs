@@ -2,8 +2,8 @@
 //! Form comes first and is read without recursion, so that no depth can overflow the stack; then
 //! depth; only then values, "in order of evaluation (left, right, operation)".
 
-use super::cursor::Cursor;
-use super::Fault;
+use super::cursor::{Cursor, Read};
+use super::{At, Column, Fault, Why};
 use crate::number::{Number, Sign};
 
 /// "parentheses at most 32 deep".
@@ -20,24 +20,25 @@ enum Token {
 /// An expression of right form, not yet evaluated.
 #[derive(Debug)]
 pub struct Expression {
-    tokens: Vec<Token>,
-    deepest: usize,
+    tokens: Vec<At<Token>>,
+    /// "the parenthesis opening level 33", the leftmost.
+    too_deep: Option<Column>,
 }
 
-/// Reads the expression that fills the rest of a line, or nothing if its form is wrong.
-pub fn read(start: Cursor) -> Option<Expression> {
+/// Reads the expression that fills the rest of a line.
+pub fn read(start: Cursor) -> Result<Expression, Column> {
     let mut tokens = Vec::new();
-    let (mut depth, mut deepest) = (0usize, 0usize);
+    let (mut depth, mut too_deep) = (0usize, None);
     let mut operand_is_due = true;
     let mut cursor = start.past_blanks();
     while !cursor.is_at_end() {
         let (token, after) = if operand_is_due { operand(cursor)? } else { operation(cursor)? };
-        match token {
+        match token.what {
             Token::Open => {
                 depth += 1;
-                deepest = deepest.max(depth);
+                too_deep = too_deep.or((depth > DEPTH_LIMIT).then_some(token.column));
             }
-            Token::Close => depth = depth.checked_sub(1)?,
+            Token::Close => depth = depth.checked_sub(1).ok_or(token.column)?,
             Token::Number(_) => operand_is_due = false,
             Token::Operation(_) => operand_is_due = true,
         }
@@ -45,54 +46,54 @@ pub fn read(start: Cursor) -> Option<Expression> {
         cursor = after.past_blanks();
     }
     if operand_is_due || depth != 0 {
-        return None;
+        return Err(cursor.misplaced());
     }
-    Some(Expression { tokens, deepest })
+    Ok(Expression { tokens, too_deep })
 }
 
 /// Where an operand is due: a number or an opening parenthesis.
-fn operand(cursor: Cursor) -> Option<(Token, Cursor)> {
+fn operand(cursor: Cursor) -> Read<At<Token>> {
     if let Some(after) = cursor.mark(b'(') {
-        return Some((Token::Open, after));
+        return Ok((At { what: Token::Open, column: cursor.column() }, after));
     }
-    let (number, after) = cursor.number(Sign::IsOperation)?;
-    Some((Token::Number(number), after))
+    let (At { what, column }, after) = cursor.number(Sign::IsOperation)?;
+    Ok((At { what: Token::Number(what), column }, after))
 }
 
 /// Where an operand has just ended: an operation or a closing parenthesis.
-fn operation(cursor: Cursor) -> Option<(Token, Cursor)> {
-    let byte = cursor.byte()?;
-    let token = match byte {
+fn operation(cursor: Cursor) -> Read<At<Token>> {
+    let column = cursor.misplaced();
+    let byte = cursor.byte().ok_or(column)?;
+    let what = match byte {
         b'+' | b'-' | b'*' | b'/' | b'%' => Token::Operation(byte),
         b')' => Token::Close,
-        _ => return None,
+        _ => return Err(column),
     };
-    Some((token, cursor.mark(byte)?))
+    Ok((At { what, column }, cursor.due_mark(byte)?))
 }
 
 impl Expression {
     /// The value: 8, then 6 or 7, whichever evaluation meets first.
     pub fn evaluate(&self) -> Result<i64, Fault> {
-        if self.deepest > DEPTH_LIMIT {
-            return Err(Fault::TooDeep);
+        match self.too_deep {
+            Some(parenthesis) => Err(Why::TooDeep.at(parenthesis)),
+            None => Evaluation { rest: &self.tokens }.sum(),
         }
-        let mut evaluation = Evaluation { rest: &self.tokens };
-        evaluation.sum()
     }
 }
 
 /// What is still to be evaluated. Sum, product and factor call each other, at most 32 deep.
 struct Evaluation<'t> {
-    rest: &'t [Token],
+    rest: &'t [At<Token>],
 }
 
 impl Evaluation<'_> {
     /// Takes the operation that comes next, if it is one of these.
-    fn take_operation(&mut self, among: &[u8]) -> Option<u8> {
+    fn take_operation(&mut self, among: &[u8]) -> Option<At<u8>> {
         match self.rest.split_first() {
-            Some((Token::Operation(mark), rest)) if among.contains(mark) => {
+            Some((At { what: Token::Operation(mark), column }, rest)) if among.contains(mark) => {
                 self.rest = rest;
-                Some(*mark)
+                Some(At { what: *mark, column: *column })
             }
             _ => None,
         }
@@ -101,8 +102,7 @@ impl Evaluation<'_> {
     fn sum(&mut self) -> Result<i64, Fault> {
         let mut left = self.product()?;
         while let Some(mark) = self.take_operation(b"+-") {
-            let right = self.product()?;
-            left = in_range(if mark == b'+' { left + right } else { left - right })?;
+            left = performed(left, mark, self.product()?)?;
         }
         Ok(left)
     }
@@ -110,37 +110,40 @@ impl Evaluation<'_> {
     fn product(&mut self) -> Result<i64, Fault> {
         let mut left = self.factor()?;
         while let Some(mark) = self.take_operation(b"*/%") {
-            let right = self.factor()?;
-            let exact = match mark {
-                b'*' => left * right,
-                b'/' => left.checked_div(right).ok_or(Fault::DividesByZero)?,
-                _ => left.checked_rem(right).ok_or(Fault::DividesByZero)?,
-            };
-            left = in_range(exact)?;
+            left = performed(left, mark, self.factor()?)?;
         }
         Ok(left)
     }
 
     fn factor(&mut self) -> Result<i64, Fault> {
         match self.rest.split_first() {
-            Some((Token::Number(number), rest)) => {
+            Some((At { what: Token::Number(number), column }, rest)) => {
                 self.rest = rest;
-                number.in_expression().ok_or(Fault::OutOfRange)
+                number.in_expression().ok_or(Why::OutOfRange.at(*column))
             }
-            Some((Token::Open, rest)) => {
+            Some((At { what: Token::Open, .. }, rest)) => {
                 self.rest = rest;
                 let value = self.sum()?;
                 // The form was read before: a closing parenthesis stands here.
                 self.rest = self.rest.get(1..).unwrap_or(&[]);
                 Ok(value)
             }
-            _ => Err(Fault::Form),
+            // The form was read before: nothing else stands here.
+            _ => Err(Why::Form.at(Column::NONE)),
         }
     }
 }
 
-/// "Intermediates are exact, within a signed 32-bit range." Operands lie in it, so the exact
-/// result of one operation always fits 64 bits.
-fn in_range(exact: i64) -> Result<i64, Fault> {
-    i32::try_from(exact).map(i64::from).map_err(|_| Fault::OutOfRange)
+/// One operation; what it fails by is told at its mark. "Intermediates are exact, within a signed
+/// 32-bit range": operands lie in it, so that the exact result always fits 64 bits.
+fn performed(left: i64, mark: At<u8>, right: i64) -> Result<i64, Fault> {
+    let exact = match mark.what {
+        b'+' => Some(left + right),
+        b'-' => Some(left - right),
+        b'*' => Some(left * right),
+        b'/' => left.checked_div(right),
+        _ => left.checked_rem(right),
+    };
+    let exact = exact.ok_or(Why::DividesByZero.at(mark.column))?;
+    i32::try_from(exact).map(i64::from).map_err(|_| Why::OutOfRange.at(mark.column))
 }

@@ -2,7 +2,7 @@
 
 use super::cursor::Cursor;
 use super::statement::{self, Statement};
-use super::Fault;
+use super::{At, Fault};
 
 /// The lines of a source: "Lines end at LF; the last may lack it, and an LF that ends the source
 /// begins no further line."
@@ -16,8 +16,16 @@ pub fn lines(source: &[u8]) -> impl Iterator<Item = &[u8]> {
 /// a fault of the statement does not hide the label.
 #[derive(Debug)]
 pub struct LineRead<'l> {
-    pub label: Option<&'l [u8]>,
-    pub statement: Result<Option<Statement<'l>>, Fault>,
+    pub label: Option<At<&'l [u8]>>,
+    /// The statement, at its word.
+    pub statement: Result<Option<At<Statement<'l>>>, Fault>,
+}
+
+impl<'l> LineRead<'l> {
+    /// What the line says, wherever it says it.
+    pub fn says(self) -> Result<Option<Statement<'l>>, Fault> {
+        self.statement.map(|statement| statement.map(|statement| statement.what))
+    }
 }
 
 /// "A line's first token, if a word directly followed by `:`, is its label (one per line)."

@@ -1,11 +1,19 @@
 //! Statements (document 01, "Rules of writing"). A statement is judged in the paper's order:
-//! form 3; 5; 8; 6 or 7; then its result.
+//! form 3; 15, 16; 8; 6 or 7; then its result.
 
-use super::cursor::Cursor;
+use super::cursor::{Cursor, Read};
 use super::operand::{self, WrittenOperand};
-use super::{expression, Fault};
-use crate::isa::{encode, Instruction, Opcode, Operand};
+use super::{expression, At, Column, Fault, Why};
+use crate::isa::{Instruction, Opcode, Operand};
 use crate::number::{Number, Sign};
+
+/// A label that an operand waits for.
+#[derive(Clone, Copy, Debug, PartialEq, Eq)]
+pub struct Awaited<'l> {
+    pub name: At<&'l [u8]>,
+    /// Where the operand starts.
+    pub operand: Column,
+}
 
 /// An instruction as written: allowed in count and kinds, sizes in range, labels still names.
 #[derive(Clone, Copy, Debug, PartialEq, Eq)]
@@ -13,7 +21,7 @@ pub struct Written<'l> {
     /// The instruction with 0 in the place of each label.
     pub instruction: Instruction,
     /// The label that each operand waits for.
-    pub labels: [Option<&'l [u8]>; 2],
+    pub labels: [Option<Awaited<'l>>; 2],
 }
 
 #[derive(Clone, Debug, PartialEq, Eq)]
@@ -54,107 +62,124 @@ fn announced(word: &[u8]) -> Option<Announced> {
 }
 
 /// Reads the statement whose word is the first token here. "A token there that is no word is 3."
-pub fn read(start: Cursor) -> Result<Statement, Fault> {
-    let (word, after) = start.word().ok_or(Fault::Form)?;
-    match announced(word).ok_or(Fault::WordUnknown)? {
+pub fn read(start: Cursor) -> Result<At<Statement>, Fault> {
+    let (word, after) = start.word().ok_or_else(|| Why::Form.at(start.misplaced()))?;
+    let column = word.column;
+    let what = match announced(word.what).ok_or(Why::WordUnknown.at(column))? {
         // "All bytes after END as a statement's word are ignored."
-        Announced::End => Ok(Statement::End),
-        Announced::Org => result(after, 0).map(Statement::Org),
-        Announced::Equ => result(after, -32_768).map(Statement::Equ),
-        Announced::Res => result(after, 0).map(Statement::Res),
-        Announced::Data => data(after).map(Statement::Data),
-        Announced::Instruction(opcode) => instruction(opcode, after).map(Statement::Instruction),
-    }
+        Announced::End => Statement::End,
+        Announced::Org => Statement::Org(result(column, after, 0)?),
+        Announced::Equ => Statement::Equ(result(column, after, -32_768)?),
+        Announced::Res => Statement::Res(result(column, after, 0)?),
+        Announced::Data => Statement::Data(data(after)?),
+        Announced::Instruction(opcode) => {
+            Statement::Instruction(instruction(At { what: opcode, column }, after)?)
+        }
+    };
+    Ok(At { what, column })
 }
 
-/// An expression's value in `lowest..65535`, kept modulo 65536.
-fn result(start: Cursor, lowest: i64) -> Result<u16, Fault> {
-    let value = expression::read(start).ok_or(Fault::Form)?.evaluate()?;
+/// The fault of a line whose form breaks at a column.
+fn misformed(column: Column) -> Fault {
+    Why::Form.at(column)
+}
+
+/// An expression's value in `lowest..65535`, kept modulo 65536. Where the value itself is out of
+/// range, the statement's word is told.
+fn result(word: Column, start: Cursor, lowest: i64) -> Result<u16, Fault> {
+    let value = expression::read(start).map_err(misformed)?.evaluate()?;
     if (lowest..=65_535).contains(&value) {
         Ok(value as u16)
     } else {
-        Err(Fault::OutOfRange)
+        Err(Why::OutOfRange.at(word))
     }
 }
 
 #[derive(Debug)]
 enum Item {
-    Number(Number),
+    Number(At<Number>),
     String(Vec<u16>),
 }
 
 /// `DATA` with one or more numbers and strings by commas.
 fn data(start: Cursor) -> Result<Vec<u16>, Fault> {
-    let items = data_items(start).ok_or(Fault::Form)?;
+    let items = parted_by_commas(start, item).map_err(misformed)?;
     let mut cells = Vec::new();
     for item in items {
         match item {
-            Item::Number(number) => cells.push(number.value().ok_or(Fault::OutOfRange)?),
+            Item::Number(number) => {
+                cells.push(number.what.value().ok_or(Why::OutOfRange.at(number.column))?)
+            }
             Item::String(mut characters) => cells.append(&mut characters),
         }
     }
     Ok(cells)
 }
 
-fn data_items(start: Cursor) -> Option<Vec<Item>> {
-    let mut items = Vec::new();
+fn item(cursor: Cursor) -> Read<Item> {
+    let start = cursor.past_blanks();
+    if start.byte() == Some(b'"') {
+        let (cells, after) = start.string()?;
+        return Ok((Item::String(cells), after));
+    }
+    let (number, after) = start.number(Sign::Allowed)?;
+    Ok((Item::Number(number), after))
+}
+
+/// One or more by commas, up to the line's end.
+fn parted_by_commas<'l, T>(
+    start: Cursor<'l>,
+    one: impl Fn(Cursor<'l>) -> Read<'l, T>,
+) -> Result<Vec<T>, Column> {
+    let mut all = Vec::new();
     let mut cursor = start;
     loop {
-        let (item, after) = data_item(cursor.past_blanks())?;
-        items.push(item);
+        let (read, after) = one(cursor)?;
+        all.push(read);
         if after.past_blanks().is_at_end() {
-            return Some(items);
+            return Ok(all);
         }
-        cursor = after.next_mark(b',')?;
+        cursor = after.due_mark(b',')?;
     }
 }
 
-fn data_item(cursor: Cursor) -> Option<(Item, Cursor)> {
-    if cursor.byte() == Some(b'"') {
-        let (cells, after) = cursor.string()?;
-        return Some((Item::String(cells), after));
-    }
-    let (number, after) = cursor.number(Sign::Allowed)?;
-    Some((Item::Number(number), after))
-}
-
-/// An instruction: form of all its operands, then 5, then sizes.
-fn instruction(opcode: Opcode, start: Cursor) -> Result<Written, Fault> {
-    let operands = operands(start).ok_or(Fault::Form)?;
-    if operands.len() > 2 {
-        return Err(Fault::OperandsNotAllowed);
-    }
-    let (first, second) = (operands.first(), operands.get(1));
-    // The kind decides before the size: any word will do to ask for it.
-    let of_kind = |written: Option<&WrittenOperand>| match written {
-        Some(written) => written.with_word(0),
-        None => Operand::Absent,
-    };
-    let kinds = Instruction { opcode, first: of_kind(first), second: of_kind(second) };
-    encode(&kinds).map_err(|_| Fault::OperandsNotAllowed)?;
-    let sized = |written: Option<&WrittenOperand>| match written {
-        Some(written) => written.sized(),
+/// An instruction: form of all its operands, then 15 and 16, then sizes.
+fn instruction<'l>(opcode: At<Opcode>, start: Cursor<'l>) -> Result<Written<'l>, Fault> {
+    let operands = operands(start).map_err(misformed)?;
+    judge_operands(opcode, &operands)?;
+    let sized = |place: usize| match operands.get(place) {
+        Some(operand) => operand.what.sized(),
         None => Ok(Operand::Absent),
     };
+    let awaited = |place: usize| {
+        let operand = operands.get(place)?;
+        Some(Awaited { name: operand.what.label()?, operand: operand.column })
+    };
     Ok(Written {
-        instruction: Instruction { opcode, first: sized(first)?, second: sized(second)? },
-        labels: [first.and_then(WrittenOperand::label), second.and_then(WrittenOperand::label)],
+        instruction: Instruction { opcode: opcode.what, first: sized(0)?, second: sized(1)? },
+        labels: [awaited(0), awaited(1)],
     })
 }
 
 /// "Operands are parted by commas"; any number of well-formed operands has right form.
-fn operands(start: Cursor) -> Option<Vec<WrittenOperand>> {
-    let mut operands = Vec::new();
-    let mut cursor = start.past_blanks();
-    if cursor.is_at_end() {
-        return Some(operands);
+fn operands(start: Cursor) -> Result<Vec<At<WrittenOperand>>, Column> {
+    if start.past_blanks().is_at_end() {
+        return Ok(Vec::new());
     }
-    loop {
-        let (operand, after) = operand::read(cursor)?;
-        operands.push(operand);
-        if after.past_blanks().is_at_end() {
-            return Some(operands);
+    parted_by_commas(start, operand::read)
+}
+
+/// "15, wrong number of operands, and 16, kind not allowed": "15 comes before 16", "and of two
+/// operands wrong in kind the first is named". The size plays no part: any word will do.
+fn judge_operands(opcode: At<Opcode>, operands: &[At<WrittenOperand>]) -> Result<(), Fault> {
+    let wanted = opcode.what.operands();
+    if operands.len() != wanted.len() {
+        return Err(Why::OperandCount.at(opcode.column));
+    }
+    for (number, (place, operand)) in (1..).zip(wanted.iter().zip(operands)) {
+        if !place.allows(&operand.what.with_word(0)) {
+            return Err(Why::OperandKind(number).at(operand.column));
         }
-        cursor = after.next_mark(b',')?.past_blanks();
     }
+    Ok(())
 }

@@ -77,7 +77,8 @@ fn a_third_of_the_sources_is_accepted_and_each_refusal_is_frequent() {
     let [by_refusal, ..] = counted(&committed("assemble")).by_group;
     let all: u64 = by_refusal.iter().sum();
     assert!(3 * by_refusal[0] >= all, "{:?}", by_refusal);
-    for (refusal, count) in by_refusal.iter().enumerate() {
+    assert_eq!(by_refusal[5], 0, "document 02, K4: for a source 5 goes");
+    for (refusal, count) in by_refusal.iter().enumerate().filter(|(refusal, _)| *refusal != 5) {
         // a source that is too long takes 64 KB here
         let least = if refusal == 2 { 4 } else { 40 };
         assert!(*count >= least, "{} only {} times", refusal, count);
@@ -91,7 +92,8 @@ fn every_refusal_of_a_line_occurs_past_line_100() {
         .filter(|(_, _, line)| *line > 100)
         .map(|(_, refusal, _)| *refusal)
         .collect();
-    assert_eq!(late.into_iter().collect::<Vec<u8>>(), (3..=14).collect::<Vec<u8>>());
+    let expected = (3..=16).filter(|refusal| *refusal != 5).collect::<BTreeSet<u8>>();
+    assert_eq!(late, expected);
 }
 
 #[test]
@@ -161,7 +163,7 @@ fn listed_instructions() -> Vec<Instruction> {
         };
         let text = listing::text(&lent.memory.row(), &lent.map()).expect("listed");
         for line in lines(text.as_bytes()) {
-            if let Ok(Some(Statement::Instruction(written))) = read_line(line).statement {
+            if let Ok(Some(Statement::Instruction(written))) = read_line(line).says() {
                 all.push(written.instruction);
             }
         }

@@ -28,7 +28,7 @@ fn some_thousand_cases_reach_everything() {
             );
         }
     };
-    reached(0, &[0, 1, 2, 3, 4, 5, 6, 7, 8, 9, 10, 11, 12, 13, 14]);
+    reached(0, &[0, 1, 2, 3, 4, 6, 7, 8, 9, 10, 11, 12, 13, 14, 15, 16]);
     reached(1, &[0, 5]);
     reached(2, &[0, 2, 3, 4, 5]);
     reached(3, &[0, 1, 2, 3, 4, 5, 6, 8, 9, 10]);
@@ -43,7 +43,7 @@ fn four_thousand_lines_reach_every_refusal_of_a_line() {
     for case in made("line", 4_000, 2) {
         counts.add(&case);
     }
-    for number in [0, 3, 4, 5, 6, 7, 8] {
+    for number in [0, 3, 4, 6, 7, 8, 15, 16] {
         assert!(counts.by_group[6][number] > 0, "{}\n{}", number, counts);
     }
 }
@@ -80,13 +80,28 @@ fn case_lines_read_back_to_the_same_case() {
 fn a_refusal_leaves_memory_and_map_as_they_were() {
     for case in made("assemble", 2_000, 4) {
         let reply = answer(&case);
-        if let Reply::Assemble { refusal, line, code, data, reserved, cells, marks } = reply {
+        if let Reply::Assemble {
+            refusal,
+            line,
+            column,
+            place,
+            code,
+            data,
+            reserved,
+            cells,
+            marks,
+        } = reply
+        {
             let marked = |wanted: u8| marks.iter().filter(|(_, mark)| *mark == wanted).count();
             let counts = [code, data, reserved].map(|count| count as usize);
             // on a refusal nothing differs, so that these are 0 too
             assert_eq!(counts, [1, 2, 3].map(marked), "{}", case);
             assert!(refusal == 0 || (cells.is_empty() && marks.is_empty()));
             assert_eq!(line == 0, refusal <= 2, "{}", case);
+            // of a refusal that names a line only 6 can be without a column
+            assert!(column == 0 || line > 0, "{}", case);
+            assert!(column > 0 || refusal <= 2 || refusal == 6, "{}", case);
+            assert_eq!(place > 0, refusal == 16, "{}", case);
         }
     }
 }
@@ -121,6 +136,6 @@ const HASHES: [&str; 10] = [
     "85518cdcbe3222dc",
     "2f8092e391c4702e",
     "08bbacac1c166655",
-    "070241fa41056e5f",
-    "555976586a8a1643",
+    "7feee71c6d9578cb",
+    "845f499ccca9d0a8",
 ];

@@ -22,7 +22,7 @@ struct Claim {
 fn claims(source: &[u8], until: u32) -> Vec<Claim> {
     let (mut claims, mut start) = (Vec::new(), 0);
     for (at, line) in lines(source).enumerate() {
-        let (mark, cells) = match read_line(line).statement {
+        let (mark, cells) = match read_line(line).says() {
             Ok(Some(Statement::Instruction(written))) => {
                 (1, usize::from(written.instruction.length()))
             }

@@ -29,7 +29,10 @@ fn printed(arguments: &[&str], input: &str) -> String {
 #[test]
 fn a_bad_m_is_told_before_the_file_is_opened() {
     for cells in ["0", "16385", "-1", "x", "", "0x10"] {
-        assert_eq!(printed(&["assemble", cells, "/no/such/file"], ""), "refused=1\nline=0\n");
+        assert_eq!(
+            printed(&["assemble", cells, "/no/such/file"], ""),
+            "refused=1\nline=0\ncolumn=0\n"
+        );
     }
     let unread = second(&["assemble", "16", "/no/such/file"], "");
     assert!(unread.stdout.is_empty() && unread.status.code() == Some(2));
@@ -42,7 +45,7 @@ fn a_file_is_assembled() {
     let name = file.to_str().expect("a name");
     let image = "version=1\nsize=4\nclaimed=2\ncell=1,code,64\ncell=2,data,5\n";
     assert_eq!(printed(&["assemble", "4", name], ""), image);
-    assert_eq!(printed(&["assemble", "2", name], ""), "refused=11\nline=3\n");
+    assert_eq!(printed(&["assemble", "2", name], ""), "refused=11\nline=3\ncolumn=1\n");
     std::fs::remove_file(&file).expect("removed");
 }
 
@@ -78,7 +81,7 @@ fn a_rule_is_run_and_its_record_told() {
     let refused = second(&["run", "9", name], "");
     assert_eq!(
         (refused.status.code(), refused.stdout),
-        (Some(1), b"refused=11\nline=5\n".to_vec())
+        (Some(1), b"refused=11\nline=5\ncolumn=1\n".to_vec())
     );
     std::fs::remove_file(&file).expect("removed");
 }

@@ -52,8 +52,8 @@ fn halt_in_the_last_cell_is_no_stop_5() {
 
 #[test]
 fn slip_mode_7_by_code() {
-    assert_eq!(refusal("INC $3"), 5);
-    assert_eq!(refusal("BR #3[.SP]"), 5);
+    assert_eq!(refusal("INC $3"), 16);
+    assert_eq!(refusal("BR #3[.SP]"), 16);
 }
 
 #[test]
@@ -76,5 +76,5 @@ fn slip_faults_below_end() {
 #[test]
 fn figure_9_and_the_manuals_bz() {
     assert_eq!(claimed("BR $3").len(), 2);
-    assert_eq!(refusal("BZ .R3"), 5);
+    assert_eq!(refusal("BZ .R3"), 16);
 }

@@ -10,12 +10,12 @@ fn all_are(refused: u8, sources: &[&str]) {
 
 #[test]
 fn any_number_of_operands_has_right_form() {
-    assert_eq!(refusal("MOVE .A,.A,.A"), 5);
+    assert_eq!(refusal("MOVE .A,.A,.A"), 15);
     assert_eq!(refusal("NOP .A,.A,.X"), 3);
     assert_eq!(refusal("MOVE #1,"), 3);
     assert_eq!(refusal("MOVE #1 .A"), 3);
     assert_eq!(refusal("NOP ,"), 3);
-    assert_eq!(refusal("MOVE #1"), 5);
+    assert_eq!(refusal("MOVE #1"), 15);
 }
 
 #[test]
@@ -98,7 +98,8 @@ fn displacements_are_signed_or_patterns() {
 
 #[test]
 fn kind_before_size() {
-    all_are(5, &["INC $3", "BR #3[.SP]", "BZ .R3", "INC $40000", "INC #70000", "NOP #70000"]);
+    all_are(16, &["INC $3", "BR #3[.SP]", "BZ .R3", "INC $40000", "INC #70000"]);
+    assert_eq!(refusal("NOP #70000"), 15);
 }
 
 #[test]

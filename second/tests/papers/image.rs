@@ -15,9 +15,9 @@ fn printed_image_of_document_01() {
 }
 
 #[test]
-fn refusal_prints_two_lines() {
-    assert_eq!(assemble_text(3, SOURCE), Err("refused=11\nline=3\n".to_string()));
-    assert_eq!(bad_size_text(), "refused=1\nline=0\n");
+fn refusal_prints_three_lines() {
+    assert_eq!(assemble_text(3, SOURCE), Err("refused=11\nline=3\ncolumn=1\n".to_string()));
+    assert_eq!(bad_size_text(), "refused=1\nline=0\ncolumn=0\n");
 }
 
 #[test]

@@ -111,6 +111,6 @@ fn checks_of_one_line_in_order() {
     assert_eq!(refusal("a:\na: FOO"), 9);
     assert_eq!(refusal("FOO \""), 4);
     assert_eq!(refusal("NOP #x,"), 3);
-    assert_eq!(refusal("INC #70000"), 5);
+    assert_eq!(refusal("INC #70000"), 16);
     assert_eq!(reply(1, "PUSH #70000"), (6, 1));
 }

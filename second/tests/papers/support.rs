@@ -3,8 +3,8 @@
 use second::assembler::assemble;
 use second::machine::{run, step, Machine, Ran, Registers, Stepped, PC};
 
-/// The reply to a source at M: refusal and line, (0, 0) if accepted. Whatever was lent stays
-/// as it was on a refusal.
+/// The reply to a source at M: refusal and line, (0, 0) if accepted. Whatever was lent stays as it
+/// was on a refusal. Columns are seen in `columns`.
 pub fn reply(cells: usize, source: impl AsRef<[u8]>) -> (u8, u32) {
     let mut memory = vec![0xabcd; cells];
     let mut map = vec![7; cells];

@@ -3,7 +3,7 @@
 use second::machine::Stop;
 use second::make::lookup::{self, Names};
 use second::speed::{Assembled, Done, SourceWork, Work, ROOM, SOURCES, WORKS};
-use second::text::lines;
+use second::text::{lines, read_line};
 use std::collections::{BTreeMap, BTreeSet};
 
 #[test]
@@ -62,7 +62,7 @@ fn the_sources_are_as_large_as_they_should_be() {
         assert!((30_000..=32_768).contains(&work.source.len()));
         let all: Vec<&[u8]> = lines(work.source).collect();
         assert_eq!(all.len(), 1_500);
-        let names = all.iter().filter_map(|line| second::text::read_line(line).label);
+        let names = all.iter().filter_map(|line| Some(read_line(line).label?.what));
         assert_eq!(names.collect::<BTreeSet<_>>().len(), labels);
     }
 }
@@ -86,7 +86,7 @@ fn a_look_up_source_has_one_length_and_is_accepted() {
 /// How often each of a source's labels stands in an operand.
 fn uses(source: &str) -> BTreeMap<&str, usize> {
     let text = |name| std::str::from_utf8(name).expect("text");
-    let labels = lines(source.as_bytes()).filter_map(|line| second::text::read_line(line).label);
+    let labels = lines(source.as_bytes()).filter_map(|line| Some(read_line(line).label?.what));
     let mut uses: BTreeMap<&str, usize> = labels.map(|name| (text(name), 0)).collect();
     for line in source.lines() {
         let statement = line.split(';').next().unwrap_or("");

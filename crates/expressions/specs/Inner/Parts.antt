@@ -9,11 +9,12 @@ use Rattle.tokens.specs.Reading.{tokenAt, tokensFrom}
 use Rattle.tokens.specs.declared.Kind.{Kind}
 use Rattle.tokens.specs.declared.Kind.the-variants as K
 use Rattle.tokens.specs.declared.Token.{Token}
-use Rattle.expressions.specs.Worths.{ofNumber, operate}
+use Rattle.expressions.specs.Worths.{ofNumber}
 use Rattle.expressions.specs.Reading.{kindSymbol, Waiting, nothing, joined, Outcome, wrong, Frame, operand, operator}
+use Rattle.expressions.specs.Places.{foundAt, evaluate}
 use Rattle.expressions.specs.Inner.Scanning.{passes}
 use Rattle.expressions.specs.declared.Operation.{Operation}
-use Rattle.expressions.specs.declared.Worth.{Worth}
+use Rattle.expressions.specs.declared.Found.{Found}
 use Rattle.expressions.specs.declared.Start.{Start}
 use Rattle.expressions.specs.declared.Start.the-variants as S
 use Rattle.expressions.specs.declared.Mark.{Mark}
@@ -67,11 +68,11 @@ isEnd (K.Mark b) = false
 
 -- ---- what is made of a part
 
--- a further part joined to a worth by an operation
-abbrev pub joinedPart : Operation → Worth → Part → Part
-joinedPart o v (Done w c) = Done (operate o v w) c
-joinedPart o v Wrong = Wrong
-joinedPart o v Deep = Deep
+-- a further part joined to what was found by an operation, with the place of its mark
+abbrev pub joinedPart : ℕ → Operation → Found → Part → Part
+joinedPart at o v (Done w c) = Done (evaluate at o v w) c
+joinedPart at o v Wrong = Wrong
+joinedPart at o v Deep = Deep
 
 -- a sum inside parentheses: the closing one must follow
 abbrev pub closedPart : List ℕ → Part → Part
@@ -84,21 +85,31 @@ closedPart s Deep = Deep
 pub data Level : Type 0 where
   factors products sums : Level
 
+-- what is found of a number and of an operation: faults are where their tokens start
+abbrev pub numberAt : Token → ℕ → Found
+numberAt t v = foundAt (t .start) (ofNumber v)
+
+abbrev pub evaluateAt : Token → Operation → Found → Found → Found
+evaluateAt t o a b = evaluate (t .start) o a b
+
+abbrev pub insideAt : Token → Found → Found
+insideAt t w = w
+
 abbrev pub Wait : Type 0
-Wait = Waiting Worth ofNumber operate (λ w. w)
+Wait = Waiting Found numberAt evaluateAt insideAt
 
 abbrev pub Stack : Type 0
-Stack = List (Frame Worth ofNumber operate (λ w. w))
+Stack = List (Frame Found numberAt evaluateAt insideAt)
 
--- the reader of whole rows, over worths
+-- the reader of whole rows, over what is found
 abbrev pub Answer : Type 0
-Answer = Outcome Worth ofNumber operate (λ w. w)
+Answer = Outcome Found numberAt evaluateAt insideAt
 
-abbrev pub operandW : List Token → Wait → Wait → Stack → Answer
-operandW ts l p k = operand Worth ofNumber operate (λ w. w) ts l p k
+abbrev pub operandF : List Token → Wait → Wait → Stack → Answer
+operandF ts l p k = operand Found numberAt evaluateAt insideAt ts l p k
 
-abbrev pub operatorW : List Token → Wait → Worth → Stack → Answer
-operatorW ts l v k = operator Worth ofNumber operate (λ w. w) ts l v k
+abbrev pub operatorF : List Token → Wait → Found → Stack → Answer
+operatorF ts l v k = operator Found numberAt evaluateAt insideAt ts l v k
 
 -- what waits to the left of a part
 abbrev pub Left : Level → Type 0
@@ -108,14 +119,14 @@ Left sums = Stack
 
 -- the reader before a part, and after it
 abbrev pub before : (level : Level) → List Token → Left level → Answer
-before factors ts x = operandW ts (x .0) (x .1) (x .2)
-before products ts x = operandW ts (x .0) nothing (x .1)
-before sums ts x = operandW ts nothing nothing x
+before factors ts x = operandF ts (x .0) (x .1) (x .2)
+before products ts x = operandF ts (x .0) nothing (x .1)
+before sums ts x = operandF ts nothing nothing x
 
-abbrev pub after : (level : Level) → List Token → Worth → Left level → Answer
-after factors ts v x = operatorW ts (x .0) (joined Worth ofNumber operate (λ w. w) (x .1) v) (x .2)
-after products ts v x = operatorW ts (x .0) v (x .1)
-after sums ts v x = operatorW ts nothing v x
+abbrev pub after : (level : Level) → List Token → Found → Left level → Answer
+after factors ts v x = operatorF ts (x .0) (joined Found numberAt evaluateAt insideAt (x .1) v) (x .2)
+after products ts v x = operatorF ts (x .0) v (x .1)
+after sums ts v x = operatorF ts nothing v x
 
 -- no mark that would carry a part on
 abbrev pub EndsAt : Level → Symbol → Type 0
@@ -128,7 +139,7 @@ Ends level [] = Unit {0}
 Ends level (t ∷ ts) = EndsAt level (kindSymbol (t .kind))
 
 -- a part of a level from a place to a place further on, within a room for parentheses, which ends as a part of a level does
-pub record PartDone (level ended : Level) (s : List ℕ) (at room : ℕ) (v : Worth) (to : ℕ) : Type 0 where
+pub record PartDone (level ended : Level) (s : List ℕ) (at room : ℕ) (v : Found) (to : ℕ) : Type 0 where
   pub on : at < to
   pub within : to ≤ length s
   pub room-left : passes (tokensFrom s at) room ≡ passes (tokensFrom s to) room

@@ -3,7 +3,8 @@
 use Prim.Native.Nat.{ℕ, zero, suc, _+_, _-_}
 use mathlib.Core.Bool.{Bool, true, false, cond}
 use mathlib.Core.List.{List, [], _∷_}
-use lib.Dec.{eqb}
+use lib.Dec.{leb, eqb}
+use Rattle.codes.specs.Limits.{deepest}
 use Rattle.tokens.specs.declared.Token.{Token}
 use Rattle.expressions.specs.Reading.{kindSymbol}
 use Rattle.expressions.specs.declared.ScanStep.{ScanStep}
@@ -55,3 +56,12 @@ roomOn Other room further = further room
 unfoldable pub passes : List Token → ℕ → Bool
 passes [] room = false
 passes (t ∷ ts) room = roomOn (kindSymbol (t .kind)) room (λ room. passes ts room)
+
+-- the place of the leftmost parenthesis at which more than the deepest are open; 0 where there is none, or a wrong form before it
+abbrev pub levelOn : ScanStep → ℕ → (Bool → ℕ → ℕ) → ℕ
+levelOn (On operand height) at further = cond (leb height deepest) (further operand height) at
+levelOn Wrong at further = 0
+
+unfoldable pub levelAt : List Token → Bool → ℕ → ℕ
+levelAt [] operand height = 0
+levelAt (t ∷ ts) operand height = levelOn (scanStep (kindSymbol (t .kind)) operand height) (t .start) (λ operand height. levelAt ts operand height)

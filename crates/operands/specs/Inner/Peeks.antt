@@ -1,7 +1,7 @@
 -- What the code looks at on its way: a register's name; what an answer for one operand says of the walk; and what is
 -- kept of a list.
 use Prim.Native.Nat.{ℕ, _≤_}
-use mathlib.Core.Bool.{Bool, cond, _&&_}
+use mathlib.Core.Bool.{cond}
 use mathlib.Core.List.{List, [], _∷_}
 use mathlib.Core.Path.{_≡_}
 use lib.Dec.{eqb}
@@ -18,7 +18,7 @@ use Rattle.values.specs.Walks as Walks
 use Rattle.operands.specs.Reading.{State, operand, done, Step, Result, reads, wrong, codeAt, walk}
 use Rattle.operands.specs.Checks.{operandWith, wordOf, ranged}
 use Rattle.operands.specs.declared.InstructionRead.{InstructionRead}
-use Rattle.operands.specs.declared.InstructionRead.the-variants.{WrongOperands}
+use Rattle.operands.specs.declared.InstructionRead.the-variants.{WrongCount, WrongKind}
 use Rattle.operands.specs.declared.ListRead.{ListRead}
 use Rattle.operands.specs.declared.ListRead.the-variants as L
 use Rattle.operands.specs.declared.FirstTwo.{FirstTwo}
@@ -87,11 +87,12 @@ listed all wrong = L.Wrong
 
 -- ---- what is judged of a list
 
-unfoldable pub fitsListed : Opcode → FirstTwo → Bool
-fitsListed op all =
-    eqb (all .count) (countOf op)
-    && (allows (table op .first) (operandWith (all .first) 0) && allows (table op .second) (operandWith (all .second) 0))
-
 unfoldable pub judgedListed : Opcode → FirstTwo → InstructionRead
 judgedListed op all =
-    cond (fitsListed op all) (ranged (all .first) (wordOf (all .first)) (all .second) (wordOf (all .second))) WrongOperands
+    cond (eqb (all .count) (countOf op))
+    (cond (allows (table op .first) (operandWith (all .first) 0))
+    (cond (allows (table op .second) (operandWith (all .second) 0))
+    (ranged (all .first) (wordOf (all .first)) (all .second) (wordOf (all .second)))
+    (WrongKind 2))
+    (WrongKind 1))
+    WrongCount

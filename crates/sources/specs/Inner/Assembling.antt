@@ -212,6 +212,15 @@ unfoldable pub usesVerdict : List Bound → List Use → Verdict
 usesVerdict bs [] = passes
 usesVerdict bs (u ∷ us) = andThen (useVerdict bs u) (usesVerdict bs us)
 
+-- one label is refused
+abbrev pub isRefused : List Bound → Use → Bool
+isRefused bs u = isUnknown (valueOf bs (u .name)) || tooFar (u .counted) (valueOf bs (u .name))
+
+-- the first that is refused is its line's second: the one before it, on the line that is given, is on its line too
+unfoldable pub secondRefused : ℕ → List Bound → List Use → Bool
+secondRefused before bs [] = false
+secondRefused before bs (u ∷ us) = cond (isRefused bs u) (eqb (u .line) before) (secondRefused (u .line) bs us)
+
 -- each label's word in its cell
 unfoldable pub filled : List Bound → List Use → List ℕ → List ℕ
 filled bs [] m = m

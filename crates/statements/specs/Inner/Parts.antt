@@ -18,7 +18,7 @@ use Rattle.expressions.specs.declared.Worth.{Worth}
 use Rattle.expressions.specs.declared.Worth.the-variants as W
 use Rattle.statements.specs.Checks.{resultIn}
 use Rattle.statements.specs.Reading.{labelRead, afterLabel}
-use Rattle.statements.specs.declared.Failure.the-variants.{WrongForm, TooDeep, OutOfRange, ByZero}
+use Rattle.statements.specs.declared.Failure.the-variants.{WrongForm, TooDeep, OutOfRange, ByZero, ResultOut}
 use Rattle.statements.specs.declared.Labelled.{Labelled}
 use Rattle.statements.specs.declared.Outcome.{Outcome}
 use Rattle.statements.specs.declared.Outcome.the-variants.{Value, Fails}
@@ -45,7 +45,7 @@ pub record LabelDone (line : List ℕ) (r : Labelled) : Type 0 where
 
 -- a result from the least one up to 65535
 unfoldable pub cellIn : ℤ → ℤ → Outcome
-cellIn least z = cond (resultIn least z) (Value (ofZ w16 z)) (Fails OutOfRange)
+cellIn least z = cond (resultIn least z) (Value (ofZ w16 z)) (Fails ResultOut)
 
 abbrev pub worthOutcome : ℤ → Worth → Outcome
 worthOutcome least (W.Is z) = cellIn least z

@@ -49,15 +49,21 @@ pub record Holds (s starts keys vs ms memory row aways : List ℕ) (w : Work) (l
   pub cells : memory ≡ w .cells
   pub uses : usesHeld s row aways named ≡ w .uses
 
--- the same at the source's end
-abbrev pub Ends : Verdict → (ℕ → ℕ → Type 0) → Walked → Type 0
-Ends v held (W.Passes labels uses) = (v ≡ passes) × held labels uses
-Ends v held (W.Refused f l) = v ≡ refused (f on l .0)
+-- the same at the source's end, by the verdict on the lines and that on the end: neither refuses, or a line is refused, or the end alone
+-- is ("65,536 is 6 .., or the last line for labels bound at the source's end")
+abbrev pub Ends : Verdict → Verdict → (ℕ → ℕ → Type 0) → Walked → Type 0
+Ends v e held (W.Passes labels uses) = (andThen v e ≡ passes) × held labels uses
+Ends v e held (W.Refused f l) = v ≡ refused (f on l .0)
+Ends v e held (W.Late l) = (v ≡ passes) × (e ≡ refused (6 on l .0))
+
+-- the verdict on a source's end
+abbrev pub endOf : ℕ → List ℕ → Verdict
+endOf M source = endVerdict (lastLine source) (workOf M source .place)
 
 -- the verdict on a source's lines, then on its end
 abbrev pub walkVerdict : ℕ → List ℕ → Verdict
-walkVerdict M source = andThen (linesVerdict M source) (endVerdict (lastLine source) (workOf M source .place))
+walkVerdict M source = andThen (linesVerdict M source) (endOf M source)
 
 -- of a source, over so many cells
 abbrev pub EndsSource : ℕ → List ℕ → (Work → ℕ → ℕ → Type 0) → Walked → Type 0
-EndsSource M source held r = Ends (walkVerdict M source) (held (workOf M source)) r
+EndsSource M source held r = Ends (linesVerdict M source) (endOf M source) (held (workOf M source)) r

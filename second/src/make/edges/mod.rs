@@ -1,8 +1,9 @@
 //! Sources that no draw may leave out: every set of assemble cases begins with them (document 01,
-//! "What is lent", "Rules of writing" and "Refusing a source"; document 02, K2).
+//! "What is lent", "Rules of writing" and "Refusing a source"; document 02, K2 and K4).
 
 pub mod addresses;
 mod blocks;
+mod columns;
 mod ends;
 pub mod kinds;
 mod limits;
@@ -30,6 +31,7 @@ pub fn all(random: &mut Random) -> Vec<Case> {
     kinds::add(random, &mut cases);
     limits::add(random, &mut cases);
     reserved::add(random, &mut cases);
+    columns::add(random, &mut cases);
     cases
 }
 

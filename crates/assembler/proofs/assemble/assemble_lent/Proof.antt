@@ -1,3 +1,4 @@
+-- The rows are of zeros, as many as are lent; the map and the cells are the first M of theirs.
 use native.Mathlib.Omega.{arith}
 use Prim.Native.Nat.{ℕ}
 use mathlib.Core.Path.{refl, sym, ap, _∙_}
@@ -7,52 +8,19 @@ use Rattle.assembler.proofs.Rows.{zeros-count, zeros-alone}
 use borrow.Author.Needs.{needs}
 use Rattle.assembler.proofs.assemble.assemble_lent.Statement.{statement}
 use Rattle.assembler.proofs.assemble.assemble_lent.Tie as tie
-use Rattle.assembler.proofs.assemble.assemble_lent.Reads as reads
-use Rattle.assembler.proofs.assemble.assemble_lent.Lts as lts
-use Rattle.assembler.proofs.assemble.assemble_over.Reads as assemble-over-reads
 
--- src/assemble.rt:138:9
-slice-aggregate-assemble-over : tie.Need-slice-aggregate-assemble-over
-slice-aggregate-assemble-over c = search needs
+marks-lent : tie.Need-slice-aggregate-assemble-over-4
+marks-lent c = let start = c .before .before .before .before .before .before .before in zeros-count 65536 (length (start .args .memory .now)) (start .pre .1)
 
--- src/assemble.rt:139:9
-slice-aggregate-assemble-over-2 : tie.Need-slice-aggregate-assemble-over-2
-slice-aggregate-assemble-over-2 c = search needs
+cells-lent : tie.Need-slice-aggregate-assemble-over-5
+cells-lent c = let start = c .before .before .before .before .before .before .before .before in zeros-count 65536 (length (start .args .memory .now)) (start .pre .1)
 
--- src/assemble.rt:140:9
-slice-aggregate-assemble-over-3 : tie.Need-slice-aggregate-assemble-over-3
-slice-aggregate-assemble-over-3 c = search needs
-
--- src/assemble.rt:141:9
-array-borrow-prefix-marks : tie.Need-array-borrow-prefix-marks
-array-borrow-prefix-marks c = search needs
-
--- src/assemble.rt:141:9
-slice-aggregate-assemble-over-4 : tie.Need-slice-aggregate-assemble-over-4
-slice-aggregate-assemble-over-4 c = zeros-count 65536 (length (c .before .before .before .before .before .before .before .args .memory .now)) (c .before .before .before .before .before .before .before .pre .1)
-
--- src/assemble.rt:142:9
-array-borrow-prefix-cells : tie.Need-array-borrow-prefix-cells
-array-borrow-prefix-cells c = search needs
-
--- src/assemble.rt:142:9
-slice-aggregate-assemble-over-5 : tie.Need-slice-aggregate-assemble-over-5
-slice-aggregate-assemble-over-5 c = zeros-count 65536 (length (c .before .before .before .before .before .before .before .before .args .memory .now)) (c .before .before .before .before .before .before .before .before .pre .1)
-
--- src/assemble.rt:143:9
-slice-aggregate-assemble-over-6 : tie.Need-slice-aggregate-assemble-over-6
-slice-aggregate-assemble-over-6 c = search needs
-
--- src/assemble.rt:144:9
-slice-aggregate-assemble-over-7 : tie.Need-slice-aggregate-assemble-over-7
-slice-aggregate-assemble-over-7 c = search needs
-
--- src/assemble.rt:136:5
 assemble-over-requires : tie.Need-assemble-over-requires
 assemble-over-requires c κs =
-    let z = zeros-count 65536 (length (c .before .before .before .before .before .before .before .before .before .before .before .before .args .memory .now)) (c .before .before .before .before .before .before .before .before .before .before .before .before .pre .1) in
-    let a = zeros-alone 65536 (length (c .before .before .before .before .before .before .before .before .before .before .before .before .args .memory .now)) (c .before .before .before .before .before .before .before .before .before .before .before .before .pre .1) in
-    let p = c .before .before .before .before .before .before .before .before .before .before .before .before .pre in (
+    let start = c .before .before .before .before .before .before .before .before .before .before .before .before in
+    let p = start .pre in
+    let z = zeros-count 65536 (length (start .args .memory .now)) (p .1) in
+    let a = zeros-alone 65536 (length (start .args .memory .now)) (p .1) in (
       record {
         short = p .0;
         rows = record { starts-long = refl; keys-long = refl; values-long = refl };
@@ -66,35 +34,28 @@ assemble-over-requires c κs =
       p .2 ∙ z,
     )
 
--- src/assemble.rt:124:1
-same-length : tie.Need-same-length
-same-length c = search needs
-
--- src/assemble.rt:124:1
-same-length-2 : tie.Need-same-length-2
-same-length-2 c = search needs
-
--- src/assemble.rt:124:1
 returns : tie.Need-returns
 returns c =
-    let z = zeros-count 65536 (length (c .before .before .before .before .before .before .before .before .before .before .before .before .before .before .before .before .before .before .before .before .before .before .before .before .args .memory .now)) (c .before .before .before .before .before .before .before .before .before .before .before .before .before .before .before .before .before .before .before .before .before .before .before .before .pre .1) in
-    let s = (c .before .before .before .before .before .before .before .before .before .before .before .before .before .before .before .before .before .before .before .before .before .before .before .before .args .s .now) in
-    (c .before .before .before .before .before .before .before .before .before .before .before .assemble-over .ensures) ∙ ap (λ (M : ℕ). outcomeOf M s (c .before .before .before .before .before .before .before .before .before .before .before .before .before .before .before .before .before .before .before .before .before .before .before .before .args .memory .now) (c .before .before .before .before .before .before .before .before .before .before .before .before .before .before .before .before .before .before .before .before .before .before .before .before .args .map .now)) (sym z)
+    let made = c .before .before .before .before .before .before .before .before .before .before .before in
+    let start = made .before .before .before .before .before .before .before .before .before .before .before .before .before in
+    let a = start .args in
+    let z = zeros-count 65536 (length (a .memory .now)) (start .pre .1) in
+    made .assemble-over .ensures ∙ ap (λ (M : ℕ). outcomeOf M (a .s .now) (a .memory .now) (a .map .now)) (sym z)
 
 pub assemble-lent-spec : {M : Type 1} → statement M
 assemble-lent-spec =
     tie.close
     (tie.spec
-    slice-aggregate-assemble-over
-    slice-aggregate-assemble-over-2
-    slice-aggregate-assemble-over-3
-    array-borrow-prefix-marks
-    slice-aggregate-assemble-over-4
-    array-borrow-prefix-cells
-    slice-aggregate-assemble-over-5
-    slice-aggregate-assemble-over-6
-    slice-aggregate-assemble-over-7
+    (λ c. search needs)
+    (λ c. search needs)
+    (λ c. search needs)
+    (λ c. search needs)
+    marks-lent
+    (λ c. search needs)
+    cells-lent
+    (λ c. search needs)
+    (λ c. search needs)
     assemble-over-requires
-    same-length
-    same-length-2
+    (λ c. search needs)
+    (λ c. search needs)
     returns)

@@ -1,161 +1,142 @@
+-- By what the walk answers: a line, the source's end or no more than its labels can be refused (Walks).
 use Prim.Native.Nat.{ℕ}
 use mathlib.Core.Path.{_≡_, ap, _∙_}
 use native.Mathlib.Omega.{arith}
 use lib.ListN.{length, length-replicate}
 use Rattle.sources.specs.Inner.Assembling.{workOf, memoryOf}
 use Rattle.walking.specs.Inner.Walking.{Holds}
-use Rattle.assembler.proofs.Walks.{not-walked, all-walked, walk-passed}
+use Rattle.assembler.proofs.Walks.{not-walked, late-at-end, all-walked, walk-passed}
 use borrow.Author.Needs.{needs}
 use Rattle.assembler.proofs.assemble.assemble_over.Statement.{statement}
 use Rattle.assembler.proofs.assemble.assemble_over.Tie as tie
-use Rattle.assembler.proofs.assemble.assemble_over.Reads as reads
-use Rattle.assembler.proofs.assemble.assemble_over.Lts as lts
-use Rattle.assembler.proofs.assemble.refused.Reads as refused-reads
-use Rattle.assembler.proofs.assemble.settle_and_accept.Reads as settle-and-accept-reads
-use Rattle.walking.proofs.walk.walk.Reads as walk-reads
 
--- src/assemble.rt:100:11
-walk-requires : tie.Need-walk-requires
-walk-requires c κs = search needs
-
--- src/assemble.rt:101:25
-enum-known-f : tie.Need-enum-known-f
-enum-known-f c = search needs
-
--- src/assemble.rt:102:13
-refused-requires : tie.Need-refused-requires
-refused-requires c κs = search needs
-
--- src/assemble.rt:102:13
-same-length : tie.Need-same-length
-same-length c = search needs
-
--- src/assemble.rt:102:13
-same-length-2 : tie.Need-same-length-2
-same-length-2 c = search needs
-
--- src/assemble.rt:102:13
-same-length-3 : tie.Need-same-length-3
-same-length-3 c = search needs
-
--- src/assemble.rt:102:13
-same-length-4 : tie.Need-same-length-4
-same-length-4 c = search needs
-
--- src/assemble.rt:102:13
-same-length-5 : tie.Need-same-length-5
-same-length-5 c = search needs
-
--- src/assemble.rt:102:13
-same-length-6 : tie.Need-same-length-6
-same-length-6 c = search needs
-
--- src/assemble.rt:102:13
-same-length-7 : tie.Need-same-length-7
-same-length-7 c = search needs
-
--- src/assemble.rt:102:13
+-- a line is refused
 returns : tie.Need-returns
 returns c =
-    let M = length (c .before .before .before .before .before .before .before .before .before .before .before .before .before .before .before .before .before .before .before .before .before .before .before .before .before .before .before .before .before .before .before .before .before .before .before .before .args .marks .now) in
-    let s = (c .before .before .before .before .before .before .before .before .before .before .before .before .before .before .before .before .before .before .before .before .before .before .before .before .before .before .before .before .before .before .before .before .before .before .before .before .args .s .now) in
-    not-walked M s (c .before .before .before .before .before .before .before .before .before .before .before .before .before .before .before .before .before .before .before .before .before .before .before .before .before .before .before .before .before .before .before .before .before .before .before .before .args .memory .now) (c .before .before .before .before .before .before .before .before .before .before .before .before .before .before .before .before .before .before .before .before .before .before .before .before .before .before .before .before .before .before .before .before .before .before .before .before .args .map .now) (c .before .before .before .before .before .before .before .before .before .before .before .before .before .before .before .before .before .before .walk .result) (c .before .before .f .given .0 .0) (c .before .before .f .given .0 .1 .0) (Holds s (c .before .before .before .before .before .before .before .before .before .before .before .before .before .before .before .before .before .before .walk .last .1 .0) (c .before .before .before .before .before .before .before .before .before .before .before .before .before .before .before .before .before .before .walk .last .1 .1 .0) (c .before .before .before .before .before .before .before .before .before .before .before .before .before .before .before .before .before .before .walk .last .1 .1 .1 .0) (c .before .before .before .before .before .before .before .before .before .before .before .before .before .before .before .before .before .before .walk .last .1 .1 .1 .1 .0) (c .before .before .before .before .before .before .before .before .before .before .before .before .before .before .before .before .before .before .walk .last .1 .1 .1 .1 .1 .0) (c .before .before .before .before .before .before .before .before .before .before .before .before .before .before .before .before .before .before .walk .last .1 .1 .1 .1 .1 .1 .0) (c .before .before .before .before .before .before .before .before .before .before .before .before .before .before .before .before .before .before .walk .last .1 .1 .1 .1 .1 .1 .1 .0) (workOf M s)) (memoryOf (workOf M s)) (workOf M s .place .marks) _ (c .before .before .f .given .1) (c .before .before .before .before .before .before .before .before .before .before .before .before .before .before .before .before .before .before .walk .ensures) (c .refused .ensures)
+    let found = c .before .before .f .given in
+    let walked = c .before .before .before .before .before .before .before .before .before .before .before .before .before .before .before .before .before .before in
+    let w = walked .walk in
+    let start = walked .before .before .before .before .before .before .before .before .before .before .before .before .before .before .before .before .before .before in
+    let a = start .args in
+    let s = a .s .now in
+    let M = length (a .marks .now) in
+    let held =
+    Holds s (w .last .1 .0) (w .last .1 .1 .0) (w .last .1 .1 .1 .0) (w .last .1 .1 .1 .1 .0) (w .last .1 .1 .1 .1 .1 .0)
+    (w .last .1 .1 .1 .1 .1 .1 .0) (w .last .1 .1 .1 .1 .1 .1 .1 .0) (workOf M s) in
+    not-walked M s (a .memory .now) (a .map .now) (w .result) (found .0 .0) (found .0 .1 .0) held (memoryOf (workOf M s)) (workOf M s .place .marks) _
+    (found .1) (w .ensures) (c .refused-line .ensures)
 
--- src/assemble.rt:104:24
-enum-known-labels : tie.Need-enum-known-labels
-enum-known-labels c = search needs
+-- the source's end is
+returns-2 : tie.Need-returns-2
+returns-2 c =
+    let found = c .before .before .l .given in
+    let walked = c .before .before .before .before .before .before .before .before .before .before .before .before .before .before .before .before .before .before in
+    let w = walked .walk in
+    let start = walked .before .before .before .before .before .before .before .before .before .before .before .before .before .before .before .before .before .before in
+    let a = start .args in
+    let s = a .s .now in
+    let M = length (a .marks .now) in
+    let held =
+    Holds s (w .last .1 .0) (w .last .1 .1 .0) (w .last .1 .1 .1 .0) (w .last .1 .1 .1 .1 .0) (w .last .1 .1 .1 .1 .1 .0)
+    (w .last .1 .1 .1 .1 .1 .1 .0) (w .last .1 .1 .1 .1 .1 .1 .1 .0) (workOf M s) in
+    late-at-end M s (a .memory .now) (a .map .now) (w .result) (found .0 .0) held (memoryOf (workOf M s)) (workOf M s .place .marks) _ (found .1)
+    (w .ensures) (c .refused .ensures)
 
--- src/assemble.rt:105:13
+-- neither is
 settle-and-accept-requires : tie.Need-settle-and-accept-requires
 settle-and-accept-requires c κs =
-    let M = length (c .before .before .before .before .before .before .before .before .before .before .before .before .before .before .before .before .before .before .before .before .before .before .before .before .before .before .before .before .before .before .before .before .before .before .before .before .before .before .before .before .before .before .before .before .args .marks .now) in
-    let s = (c .before .before .before .before .before .before .before .before .before .before .before .before .before .before .before .before .before .before .before .before .before .before .before .before .before .before .before .before .before .before .before .before .before .before .before .before .before .before .before .before .before .before .before .before .args .s .now) in
-    let h = walk-passed M s (Holds s (c .before .before .before .before .before .before .before .before .before .before .before .before .before .before .before .before .before .before .before .before .before .before .before .before .before .before .walk .last .1 .0) (c .before .before .before .before .before .before .before .before .before .before .before .before .before .before .before .before .before .before .before .before .before .before .before .before .before .before .walk .last .1 .1 .0) (c .before .before .before .before .before .before .before .before .before .before .before .before .before .before .before .before .before .before .before .before .before .before .before .before .before .before .walk .last .1 .1 .1 .0) (c .before .before .before .before .before .before .before .before .before .before .before .before .before .before .before .before .before .before .before .before .before .before .before .before .before .before .walk .last .1 .1 .1 .1 .0) (c .before .before .before .before .before .before .before .before .before .before .before .before .before .before .before .before .before .before .before .before .before .before .before .before .before .before .walk .last .1 .1 .1 .1 .1 .0) (c .before .before .before .before .before .before .before .before .before .before .before .before .before .before .before .before .before .before .before .before .before .before .before .before .before .before .walk .last .1 .1 .1 .1 .1 .1 .0) (c .before .before .before .before .before .before .before .before .before .before .before .before .before .before .before .before .before .before .before .before .before .before .before .before .before .before .walk .last .1 .1 .1 .1 .1 .1 .1 .0) (workOf M s)) (c .before .before .before .before .before .before .before .before .before .before .before .before .before .before .before .before .before .before .before .before .before .before .before .before .before .before .walk .result) (c .before .before .before .before .before .before .before .before .before .before .labels .given .0 .0) (c .before .before .before .before .before .before .before .before .before .before .labels .given .0 .1 .0) (c .before .before .before .before .before .before .before .before .before .before .labels .given .1) (c .before .before .before .before .before .before .before .before .before .before .before .before .before .before .before .before .before .before .before .before .before .before .before .before .before .before .walk .ensures) in
+    let found = c .before .before .before .before .before .before .before .before .before .before .labels .given in
+    let walked = c .before .before .before .before .before .before .before .before .before .before .before .before .before .before .before .before .before .before .before .before .before .before .before .before .before .before in
+    let w = walked .walk in
+    let start = walked .before .before .before .before .before .before .before .before .before .before .before .before .before .before .before .before .before .before in
+    let a = start .args in
+    let s = a .s .now in
+    let M = length (a .marks .now) in
+    let held =
+    Holds s (w .last .1 .0) (w .last .1 .1 .0) (w .last .1 .1 .1 .0) (w .last .1 .1 .1 .1 .0) (w .last .1 .1 .1 .1 .1 .0)
+    (w .last .1 .1 .1 .1 .1 .1 .0) (w .last .1 .1 .1 .1 .1 .1 .1 .0) (workOf M s) in
+    let h = walk-passed M s held (w .result) (found .0 .0) (found .0 .1 .0) (found .1) (w .ensures) in
     let few = h .1 .few-named in
-    let few = h .1 .few-named in
-    let long : length (c .before .before .before .before .before .before .before .before .before .before .before .before .before .before .before .before .before .before .before .before .before .before .before .before .before .before .before .before .before .before .before .before .before .before .before .before .before .before .before .before .before .before .before .before .args .cells .now) ≡ M = ap length (c .before .before .before .before .before .before .before .before .before .before .before .before .before .before .before .before .before .before .before .before .before .before .before .before .before .before .before .before .before .before .before .before .before .before .before .before .before .before .before .before .before .before .before .before .pre .0 .cells-empty) ∙ length-replicate {A = ℕ} M 0 in (
+    let lent = start .pre .0 in
+    let long : length (a .cells .now) ≡ M = ap length (lent .cells-empty) ∙ length-replicate {A = ℕ} M 0 in (
       record {
-        starts-reach = omega (arith, few, (c .before .before .before .before .before .before .before .before .before .before .before .before .before .before .before .before .before .before .before .before .before .before .before .before .before .before .walk .kept .1 .0), (c .before .before .before .before .before .before .before .before .before .before .before .before .before .before .before .before .before .before .before .before .before .before .before .before .before .before .before .before .before .before .before .before .before .before .before .before .before .before .before .before .before .before .before .before .pre .0 .rows .starts-long));
-        keys-reach = omega (arith, few, (c .before .before .before .before .before .before .before .before .before .before .before .before .before .before .before .before .before .before .before .before .before .before .before .before .before .before .walk .kept .1 .1 .0), (c .before .before .before .before .before .before .before .before .before .before .before .before .before .before .before .before .before .before .before .before .before .before .before .before .before .before .before .before .before .before .before .before .before .before .before .before .before .before .before .before .before .before .before .before .pre .0 .rows .keys-long));
-        values-reach = omega (arith, few, (c .before .before .before .before .before .before .before .before .before .before .before .before .before .before .before .before .before .before .before .before .before .before .before .before .before .before .walk .kept .1 .1 .1 .0), (c .before .before .before .before .before .before .before .before .before .before .before .before .before .before .before .before .before .before .before .before .before .before .before .before .before .before .before .before .before .before .before .before .before .before .before .before .before .before .before .before .before .before .before .before .pre .0 .rows .values-long));
+        starts-reach = omega (arith, few, w .kept .1 .0, lent .rows .starts-long);
+        keys-reach = omega (arith, few, w .kept .1 .1 .0, lent .rows .keys-long);
+        values-reach = omega (arith, few, w .kept .1 .1 .1 .0, lent .rows .values-long);
       },
       omega (arith, few),
       record {
-        cells = omega (arith, few, (c .before .before .before .before .before .before .before .before .before .before .before .before .before .before .before .before .before .before .before .before .before .before .before .before .before .before .walk .kept .1 .1 .1 .1 .1 .1 .0), (c .before .before .before .before .before .before .before .before .before .before .before .before .before .before .before .before .before .before .before .before .before .before .before .before .before .before .before .before .before .before .before .before .before .before .before .before .before .before .before .before .before .before .before .before .pre .0 .room .cells));
-        distances = omega (arith, few, (c .before .before .before .before .before .before .before .before .before .before .before .before .before .before .before .before .before .before .before .before .before .before .before .before .before .before .walk .kept .1 .1 .1 .1 .1 .1 .1 .0), (c .before .before .before .before .before .before .before .before .before .before .before .before .before .before .before .before .before .before .before .before .before .before .before .before .before .before .before .before .before .before .before .before .before .before .before .before .before .before .before .before .before .before .before .before .pre .0 .room .distances));
+        cells = omega (arith, few, w .kept .1 .1 .1 .1 .1 .1 .0, lent .room .cells);
+        distances = omega (arith, few, w .kept .1 .1 .1 .1 .1 .1 .1 .0, lent .room .distances);
       },
-      omega (arith, (c .before .before .before .before .before .before .before .before .before .before .before .before .before .before .before .before .before .before .before .before .before .before .before .before .before .before .walk .kept .1 .1 .1 .1 .1 .0), long, (c .before .before .before .before .before .before .before .before .before .before .before .before .before .before .before .before .before .before .before .before .before .before .before .before .before .before .before .before .before .before .before .before .before .before .before .before .before .before .before .before .before .before .before .before .pre .1)),
-      omega (arith, (c .before .before .before .before .before .before .before .before .before .before .before .before .before .before .before .before .before .before .before .before .before .before .before .before .before .before .walk .kept .1 .1 .1 .1 .0), (c .before .before .before .before .before .before .before .before .before .before .before .before .before .before .before .before .before .before .before .before .before .before .before .before .before .before .before .before .before .before .before .before .before .before .before .before .before .before .before .before .before .before .before .before .pre .2)),
+      omega (arith, w .kept .1 .1 .1 .1 .1 .0, long, start .pre .1),
+      omega (arith, w .kept .1 .1 .1 .1 .0, start .pre .2),
     )
 
--- src/assemble.rt:105:13
-same-length-8 : tie.Need-same-length-8
-same-length-8 c = c .before .before .before .before .before .before .before .before .before .before .before .before .before .before .before .before .before .before .before .before .before .before .before .before .before .before .before .before .before .before .before .before .before .walk .kept .1 .0
+returns-3 : tie.Need-returns-3
+returns-3 c =
+    let found = c .before .before .before .before .before .before .before .before .before .before .before .before .before .before .before .before .before .labels .given in
+    let walked = c .before .before .before .before .before .before .before .before .before .before .before .before .before .before .before .before .before .before .before .before .before .before .before .before .before .before .before .before .before .before .before .before .before in
+    let w = walked .walk in
+    let start = walked .before .before .before .before .before .before .before .before .before .before .before .before .before .before .before .before .before .before in
+    let a = start .args in
+    let s = a .s .now in
+    let M = length (a .marks .now) in
+    let held =
+    Holds s (w .last .1 .0) (w .last .1 .1 .0) (w .last .1 .1 .1 .0) (w .last .1 .1 .1 .1 .0) (w .last .1 .1 .1 .1 .1 .0)
+    (w .last .1 .1 .1 .1 .1 .1 .0) (w .last .1 .1 .1 .1 .1 .1 .1 .0) (workOf M s) in
+    let h = walk-passed M s held (w .result) (found .0 .0) (found .0 .1 .0) (found .1) (w .ensures) in
+    all-walked M s (a .memory .now) (a .map .now) (w .last .1 .0) (w .last .1 .1 .0) (w .last .1 .1 .1 .0) (w .last .1 .1 .1 .1 .0)
+    (w .last .1 .1 .1 .1 .1 .0) (w .last .1 .1 .1 .1 .1 .1 .0) (w .last .1 .1 .1 .1 .1 .1 .1 .0) (found .0 .0) (found .0 .1 .0) _ (h .0) (h .1)
+    (c .before .before .before .before .before .before .settle-and-accept .ensures)
 
--- src/assemble.rt:105:13
-same-length-9 : tie.Need-same-length-9
-same-length-9 c = search needs
+-- what the walk alone was lent keeps its length
+same-starts : tie.Need-same-length-15
+same-starts c = c .before .before .before .before .before .before .before .before .before .before .before .before .before .before .before .before .before .before .before .before .before .before .before .before .before .before .before .before .before .before .before .before .before .walk .kept .1 .0
 
--- src/assemble.rt:105:13
-same-length-10 : tie.Need-same-length-10
-same-length-10 c = search needs
+same-keys : tie.Need-same-length-16
+same-keys c = c .before .before .before .before .before .before .before .before .before .before .before .before .before .before .before .before .before .before .before .before .before .before .before .before .before .before .before .before .before .before .before .before .before .walk .kept .1 .1 .0
 
--- src/assemble.rt:105:13
-same-length-11 : tie.Need-same-length-11
-same-length-11 c = search needs
+same-values : tie.Need-same-length-17
+same-values c = c .before .before .before .before .before .before .before .before .before .before .before .before .before .before .before .before .before .before .before .before .before .before .before .before .before .before .before .before .before .before .before .before .before .walk .kept .1 .1 .1 .0
 
--- src/assemble.rt:105:13
-same-length-12 : tie.Need-same-length-12
-same-length-12 c = search needs
-
--- src/assemble.rt:105:13
-same-length-13 : tie.Need-same-length-13
-same-length-13 c = search needs
-
--- src/assemble.rt:105:13
-same-length-14 : tie.Need-same-length-14
-same-length-14 c = search needs
-
--- src/assemble.rt:105:13
-same-length-15 : tie.Need-same-length-15
-same-length-15 c = search needs
-
--- src/assemble.rt:105:13
-same-length-16 : tie.Need-same-length-16
-same-length-16 c = search needs
-
--- src/assemble.rt:105:13
-returns-2 : tie.Need-returns-2
-returns-2 c =
-    let M = length (c .before .before .before .before .before .before .before .before .before .before .before .before .before .before .before .before .before .before .before .before .before .before .before .before .before .before .before .before .before .before .before .before .before .before .before .before .before .before .before .before .before .before .before .before .before .before .before .before .before .before .before .args .marks .now) in
-    let s = (c .before .before .before .before .before .before .before .before .before .before .before .before .before .before .before .before .before .before .before .before .before .before .before .before .before .before .before .before .before .before .before .before .before .before .before .before .before .before .before .before .before .before .before .before .before .before .before .before .before .before .before .args .s .now) in
-    let h = walk-passed M s (Holds s (c .before .before .before .before .before .before .before .before .before .before .before .before .before .before .before .before .before .before .before .before .before .before .before .before .before .before .before .before .before .before .before .before .before .walk .last .1 .0) (c .before .before .before .before .before .before .before .before .before .before .before .before .before .before .before .before .before .before .before .before .before .before .before .before .before .before .before .before .before .before .before .before .before .walk .last .1 .1 .0) (c .before .before .before .before .before .before .before .before .before .before .before .before .before .before .before .before .before .before .before .before .before .before .before .before .before .before .before .before .before .before .before .before .before .walk .last .1 .1 .1 .0) (c .before .before .before .before .before .before .before .before .before .before .before .before .before .before .before .before .before .before .before .before .before .before .before .before .before .before .before .before .before .before .before .before .before .walk .last .1 .1 .1 .1 .0) (c .before .before .before .before .before .before .before .before .before .before .before .before .before .before .before .before .before .before .before .before .before .before .before .before .before .before .before .before .before .before .before .before .before .walk .last .1 .1 .1 .1 .1 .0) (c .before .before .before .before .before .before .before .before .before .before .before .before .before .before .before .before .before .before .before .before .before .before .before .before .before .before .before .before .before .before .before .before .before .walk .last .1 .1 .1 .1 .1 .1 .0) (c .before .before .before .before .before .before .before .before .before .before .before .before .before .before .before .before .before .before .before .before .before .before .before .before .before .before .before .before .before .before .before .before .before .walk .last .1 .1 .1 .1 .1 .1 .1 .0) (workOf M s)) (c .before .before .before .before .before .before .before .before .before .before .before .before .before .before .before .before .before .before .before .before .before .before .before .before .before .before .before .before .before .before .before .before .before .walk .result) (c .before .before .before .before .before .before .before .before .before .before .before .before .before .before .before .before .before .labels .given .0 .0) (c .before .before .before .before .before .before .before .before .before .before .before .before .before .before .before .before .before .labels .given .0 .1 .0) (c .before .before .before .before .before .before .before .before .before .before .before .before .before .before .before .before .before .labels .given .1) (c .before .before .before .before .before .before .before .before .before .before .before .before .before .before .before .before .before .before .before .before .before .before .before .before .before .before .before .before .before .before .before .before .before .walk .ensures) in
-    all-walked M s (c .before .before .before .before .before .before .before .before .before .before .before .before .before .before .before .before .before .before .before .before .before .before .before .before .before .before .before .before .before .before .before .before .before .before .before .before .before .before .before .before .before .before .before .before .before .before .before .before .before .before .before .args .memory .now) (c .before .before .before .before .before .before .before .before .before .before .before .before .before .before .before .before .before .before .before .before .before .before .before .before .before .before .before .before .before .before .before .before .before .before .before .before .before .before .before .before .before .before .before .before .before .before .before .before .before .before .before .args .map .now) (c .before .before .before .before .before .before .before .before .before .before .before .before .before .before .before .before .before .before .before .before .before .before .before .before .before .before .before .before .before .before .before .before .before .walk .last .1 .0) (c .before .before .before .before .before .before .before .before .before .before .before .before .before .before .before .before .before .before .before .before .before .before .before .before .before .before .before .before .before .before .before .before .before .walk .last .1 .1 .0) (c .before .before .before .before .before .before .before .before .before .before .before .before .before .before .before .before .before .before .before .before .before .before .before .before .before .before .before .before .before .before .before .before .before .walk .last .1 .1 .1 .0) (c .before .before .before .before .before .before .before .before .before .before .before .before .before .before .before .before .before .before .before .before .before .before .before .before .before .before .before .before .before .before .before .before .before .walk .last .1 .1 .1 .1 .0) (c .before .before .before .before .before .before .before .before .before .before .before .before .before .before .before .before .before .before .before .before .before .before .before .before .before .before .before .before .before .before .before .before .before .walk .last .1 .1 .1 .1 .1 .0) (c .before .before .before .before .before .before .before .before .before .before .before .before .before .before .before .before .before .before .before .before .before .before .before .before .before .before .before .before .before .before .before .before .before .walk .last .1 .1 .1 .1 .1 .1 .0) (c .before .before .before .before .before .before .before .before .before .before .before .before .before .before .before .before .before .before .before .before .before .before .before .before .before .before .before .before .before .before .before .before .before .walk .last .1 .1 .1 .1 .1 .1 .1 .0) (c .before .before .before .before .before .before .before .before .before .before .before .before .before .before .before .before .before .labels .given .0 .0) (c .before .before .before .before .before .before .before .before .before .before .before .before .before .before .before .before .before .labels .given .0 .1 .0) _ (h .0) (h .1) (c .before .before .before .before .before .before .settle-and-accept .ensures)
+same-marks : tie.Need-same-length-18
+same-marks c = c .before .before .before .before .before .before .before .before .before .before .before .before .before .before .before .before .before .before .before .before .before .before .before .before .before .before .before .before .before .before .before .before .before .walk .kept .1 .1 .1 .1 .0
 
 pub assemble-over-spec : {M : Type 1} → statement M
 assemble-over-spec =
     tie.close
     (tie.spec
-    walk-requires
-    enum-known-f
-    refused-requires
-    same-length
-    same-length-2
-    same-length-3
-    same-length-4
-    same-length-5
-    same-length-6
-    same-length-7
+    (λ c κs. search needs)
+    (λ c. search needs)
+    (λ c κs. search needs)
+    (λ c. search needs)
+    (λ c. search needs)
+    (λ c. search needs)
+    (λ c. search needs)
+    (λ c. search needs)
+    (λ c. search needs)
+    (λ c. search needs)
     returns
-    enum-known-labels
+    (λ c. search needs)
+    (λ c κs. search needs)
+    (λ c. search needs)
+    (λ c. search needs)
+    (λ c. search needs)
+    (λ c. search needs)
+    (λ c. search needs)
+    (λ c. search needs)
+    (λ c. search needs)
+    returns-2
+    (λ c. search needs)
     settle-and-accept-requires
-    same-length-8
-    same-length-9
-    same-length-10
-    same-length-11
-    same-length-12
-    same-length-13
-    same-length-14
-    same-length-15
-    same-length-16
-    returns-2)
+    same-starts
+    same-keys
+    same-values
+    same-marks
+    (λ c. search needs)
+    (λ c. search needs)
+    (λ c. search needs)
+    (λ c. search needs)
+    (λ c. search needs)
+    returns-3)

@@ -1,78 +1,53 @@
-use Rattle.labels.specs.Inner.Labels.{words, zipped}
+-- By what the labels come to: a refusal points where `name_in` finds it; else all is copied.
+use Rattle.labels.specs.Inner.Labels.{labelsIn}
 use Rattle.uses.specs.Inner.Held.{usesHeld}
-use Rattle.sources.specs.Inner.Assembling.{usesVerdict, filled}
+use Rattle.sources.specs.Inner.Assembling.{usesVerdict, secondRefused, filled}
+use Rattle.sources.specs.Inner.Pointing.{labelPoint}
 use Rattle.assembler.proofs.Outcomes.{not-settled, all-settled}
 use borrow.Author.Needs.{needs}
 use Rattle.assembler.proofs.assemble.settle_and_accept.Statement.{statement}
 use Rattle.assembler.proofs.assemble.settle_and_accept.Tie as tie
-use Rattle.assembler.proofs.assemble.settle_and_accept.Reads as reads
-use Rattle.assembler.proofs.assemble.settle_and_accept.Lts as lts
-use Rattle.assembler.proofs.assemble.accept.Reads as accept-reads
-use Rattle.assembler.proofs.assemble.refused.Reads as refused-reads
-use Rattle.settling.proofs.settle.settle.Reads as settle-reads
 
--- src/assemble.rt:73:11
 settle-requires : tie.Need-settle-requires
 settle-requires c κs = let p = c .before .before .before .before .before .before .before .before .before .before .before .pre in (p .0, p .1, p .2)
 
--- src/assemble.rt:74:26
-enum-known-f : tie.Need-enum-known-f
-enum-known-f c = search needs
-
--- src/assemble.rt:75:13
-refused-requires : tie.Need-refused-requires
-refused-requires c κs = search needs
-
--- src/assemble.rt:75:13
-same-length : tie.Need-same-length
-same-length c = search needs
-
--- src/assemble.rt:75:13
+-- a label is refused
 returns : tie.Need-returns
 returns c =
-    let bs = zipped (words (c .before .before .before .before .before .before .before .before .before .before .before .before .before .before .before .before .before .before .args .s .now) (c .before .before .before .before .before .before .before .before .before .before .before .before .before .before .before .before .before .before .args .starts .now) (c .before .before .before .before .before .before .before .before .before .before .before .before .before .before .before .before .before .before .args .keys .now) (c .before .before .before .before .before .before .before .before .before .before .before .before .before .before .before .before .before .before .args .labels)) (c .before .before .before .before .before .before .before .before .before .before .before .before .before .before .before .before .before .before .args .values .now) in
-    let us = usesHeld (c .before .before .before .before .before .before .before .before .before .before .before .before .before .before .before .before .before .before .args .s .now) (c .before .before .before .before .before .before .before .before .before .before .before .before .before .before .before .before .before .before .args .row .now) (c .before .before .before .before .before .before .before .before .before .before .before .before .before .before .before .before .before .before .args .aways .now) (c .before .before .before .before .before .before .before .before .before .before .before .before .before .before .before .before .before .before .args .uses) in
-    not-settled (c .before .before .before .before .before .before .before .before .before .before .before .before .before .before .before .before .before .before .args .memory .now) (c .before .before .before .before .before .before .before .before .before .before .before .before .before .before .before .before .before .before .args .map .now) (c .before .before .before .before .before .before .settle .result) (c .before .before .f .given .0 .0) (c .before .before .f .given .0 .1 .0) (usesVerdict bs us) (filled bs us (c .before .before .before .before .before .before .before .before .before .before .before .before .before .before .before .before .before .before .args .cells .now)) (c .before .before .before .before .before .before .settle .last .1 .1 .1 .1 .1 .1 .1 .1 .0) (c .before .before .before .before .before .before .before .before .before .before .before .before .before .before .before .before .before .before .args .marks .now) _ (c .before .before .f .given .1) (c .before .before .before .before .before .before .settle .ensures) (c .refused .ensures)
+    let named = c .before .name-in in
+    let found = c .before .before .before .f .given in
+    let settled = c .before .before .before .before .before .before .before in
+    let a = settled .before .before .before .before .before .before .before .before .before .before .before .before .args in
+    let bs = labelsIn (a .s .now) (a .starts .now) (a .keys .now) (a .values .now) (a .labels) in
+    let us = usesHeld (a .s .now) (a .row .now) (a .aways .now) (a .uses) in
+    not-settled (a .memory .now) (a .map .now) (a .s .now) (settled .settle .result) (found .0 .0) (found .0 .1 .0) (found .0 .1 .1 .0)
+    (usesVerdict bs us) (secondRefused 0 bs us) (filled bs us (a .cells .now)) (settled .settle .last .1 .1 .1 .1 .1 .1 .1 .1 .0) (a .marks .now)
+    (named .result .0) _ (found .1) (settled .settle .ensures) (named .ensures) (c .refused .ensures)
 
--- src/assemble.rt:78:27
-enum-told : tie.Need-enum-told
-enum-told c = search needs
-
--- src/assemble.rt:78:13
-accept-requires : tie.Need-accept-requires
-accept-requires c κs = search needs
-
--- src/assemble.rt:78:13
-same-length-2 : tie.Need-same-length-2
-same-length-2 c = search needs
-
--- src/assemble.rt:78:13
-same-length-3 : tie.Need-same-length-3
-same-length-3 c = search needs
-
--- src/assemble.rt:78:13
-same-length-4 : tie.Need-same-length-4
-same-length-4 c = search needs
-
--- src/assemble.rt:78:13
+-- none is
 returns-2 : tie.Need-returns-2
 returns-2 c =
-    let bs = zipped (words (c .before .before .before .before .before .before .before .before .before .before .before .before .before .before .before .before .before .before .before .before .before .before .before .before .args .s .now) (c .before .before .before .before .before .before .before .before .before .before .before .before .before .before .before .before .before .before .before .before .before .before .before .before .args .starts .now) (c .before .before .before .before .before .before .before .before .before .before .before .before .before .before .before .before .before .before .before .before .before .before .before .before .args .keys .now) (c .before .before .before .before .before .before .before .before .before .before .before .before .before .before .before .before .before .before .before .before .before .before .before .before .args .labels)) (c .before .before .before .before .before .before .before .before .before .before .before .before .before .before .before .before .before .before .before .before .before .before .before .before .args .values .now) in
-    let us = usesHeld (c .before .before .before .before .before .before .before .before .before .before .before .before .before .before .before .before .before .before .before .before .before .before .before .before .args .s .now) (c .before .before .before .before .before .before .before .before .before .before .before .before .before .before .before .before .before .before .before .before .before .before .before .before .args .row .now) (c .before .before .before .before .before .before .before .before .before .before .before .before .before .before .before .before .before .before .before .before .before .before .before .before .args .aways .now) (c .before .before .before .before .before .before .before .before .before .before .before .before .before .before .before .before .before .before .before .before .before .before .before .before .args .uses) in
-    all-settled (c .before .before .before .before .before .before .before .before .before .before .before .before .before .before .before .before .before .before .before .before .before .before .before .before .args .memory .now) (c .before .before .before .before .before .before .before .before .before .before .before .before .before .before .before .before .before .before .before .before .before .before .before .before .args .map .now) (c .before .before .before .before .before .before .before .before .before .before .before .before .settle .result) (usesVerdict bs us) (filled bs us (c .before .before .before .before .before .before .before .before .before .before .before .before .before .before .before .before .before .before .before .before .before .before .before .before .args .cells .now)) (c .before .before .before .before .before .before .before .before .before .before .before .before .settle .last .1 .1 .1 .1 .1 .1 .1 .1 .0) (c .before .before .before .before .before .before .before .before .before .before .before .before .before .before .before .before .before .before .before .before .before .before .before .before .args .marks .now) _ (c .before .before .before .before .before .before .before .before .enum-told .given .1) (c .before .before .before .before .before .before .before .before .before .before .before .before .settle .ensures) (c .before .before .before .before .accept .ensures)
+    let settled = c .before .before .before .before .before .before .before .before .before .before .before .before in
+    let a = settled .before .before .before .before .before .before .before .before .before .before .before .before .args in
+    let bs = labelsIn (a .s .now) (a .starts .now) (a .keys .now) (a .values .now) (a .labels) in
+    let us = usesHeld (a .s .now) (a .row .now) (a .aways .now) (a .uses) in
+    all-settled (a .memory .now) (a .map .now) (settled .settle .result) (usesVerdict bs us) (secondRefused 0 bs us) (labelPoint (a .s .now) bs us)
+    (filled bs us (a .cells .now)) (settled .settle .last .1 .1 .1 .1 .1 .1 .1 .1 .0) (a .marks .now) _ (c .before .before .before .before .before .before .before .before .enum-told .given .1)
+    (settled .settle .ensures) (c .before .before .before .before .accept .ensures)
 
 pub settle-and-accept-spec : {M : Type 1} → statement M
 settle-and-accept-spec =
     tie.close
     (tie.spec
     settle-requires
-    enum-known-f
-    refused-requires
-    same-length
+    (λ c. search needs)
+    (λ c κs. search needs)
+    (λ c κs. search needs)
+    (λ c. search needs)
     returns
-    enum-told
-    accept-requires
-    same-length-2
-    same-length-3
-    same-length-4
+    (λ c. search needs)
+    (λ c κs. search needs)
+    (λ c. search needs)
+    (λ c. search needs)
+    (λ c. search needs)
     returns-2)

@@ -9,6 +9,9 @@ use Rattle.desk.proofs.refusals.sentence.Tie as tie
 narrow-requires : tie.Need-narrow-requires
 narrow-requires c κs = search needs
 
+narrow-requires-2 : tie.Need-narrow-requires-2
+narrow-requires-2 c κs = search needs
+
 name-requires : tie.Need-name-requires
 name-requires c κs = search needs
 
@@ -16,15 +19,31 @@ slice-aggregate-field : tie.Need-slice-aggregate-field
 slice-aggregate-field c = search needs
 
 field-requires : tie.Need-field-requires
-field-requires c κs = omega (arith, field-length (bytes ":") (c .before .before .before .before .before .before .narrow .result))
+field-requires c κs =
+    let at-narrow = c .before .before .before .before .before .before .before in
+    omega (arith, field-length (bytes ":") (at-narrow .narrow .result))
 
 slice-aggregate-field-2 : tie.Need-slice-aggregate-field-2
 slice-aggregate-field-2 c = search needs
 
 field-requires-2 : tie.Need-field-requires-2
 field-requires-2 c κs =
-    let n = c .before .before .before .before .before .before .before .before .before .before .before in
-    omega (arith, field-length (bytes ":") (n .narrow .result), field-length (bytes ": refused ") (n .before .before .before .args .refusal))
+    let at-narrow2 = c .before .before .before .before .before .before .before .before .before .before .before in
+    let at-narrow = at-narrow2 .before in
+    omega (arith, field-length (bytes ":") (at-narrow .narrow .result), field-length (bytes ":") (at-narrow2 .narrow2 .result))
+
+slice-aggregate-field-3 : tie.Need-slice-aggregate-field-3
+slice-aggregate-field-3 c = search needs
+
+field-requires-3 : tie.Need-field-requires-3
+field-requires-3 c κs =
+    let n = c .before .before .before .before .before .before .before .before .before .before .before .before .before .before .before .before in
+    omega (
+      arith,
+      field-length (bytes ":") (n .before .narrow .result),
+      field-length (bytes ":") (n .narrow2 .result),
+      field-length (bytes ": refused ") (n .before .before .before .before .args .refusal),
+    )
 
 slice-aggregate-put : tie.Need-slice-aggregate-put
 slice-aggregate-put c = search needs
@@ -46,28 +65,32 @@ same-length c = search needs
 
 returns : tie.Need-returns
 returns c =
-    let w = c .before .before .before .before .before .before .before in
-    let r = w .before .before .before .before .before .before .before .before .before in
-    let f = r .before .before .before .before .before in
-    let n = f .before .before .before .before .before in
-    let s = n .before .before .before .before .before in
-    sentence-told (s .args .room .now) (s .args .path .now) (s .args .refusal) (s .pre) (n .before .before .narrow .ensures) (n .name .ensures)
-    (f .field .ensures)
-    (r .field2 .ensures)
-    (w .before .before .before .before .put .ensures)
-    (w .why .ensures)
-    (c .before .before .put2 .ensures)
+    let at-why = c .before .before .before .before .before .before .before in
+    let at-put = at-why .before .before .before .before in
+    let at-field3 = at-put .before .before .before .before .before in
+    let at-field2 = at-field3 .before .before .before .before .before in
+    let at-field = at-field2 .before .before .before .before .before in
+    let at-name = at-field .before .before .before .before .before in
+    let at-narrow2 = at-name .before .before in
+    let at-narrow = at-narrow2 .before in
+    let start = at-narrow .before .before .before in
+    sentence-told (start .args .room .now) (start .args .path .now) (start .args .refusal) (start .pre) (at-narrow .narrow .ensures)
+    (at-narrow2 .narrow2 .ensures) (at-name .name .ensures) (at-field .field .ensures) (at-field2 .field2 .ensures) (at-field3 .field3 .ensures)
+    (at-put .put .ensures) (at-why .why .ensures) (c .before .before .put2 .ensures)
 
 pub sentence-spec : {M : Type 1} → statement M
 sentence-spec =
     tie.close
     (tie.spec
     narrow-requires
+    narrow-requires-2
     name-requires
     slice-aggregate-field
     field-requires
     slice-aggregate-field-2
     field-requires-2
+    slice-aggregate-field-3
+    field-requires-3
     slice-aggregate-put
     put-requires
     why-requires

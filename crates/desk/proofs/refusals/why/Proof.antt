@@ -41,6 +41,8 @@ why-spec =
     (λ c. search needs)
     (λ c κs. search needs)
     (λ c. search needs)
+    (λ c κs. search needs)
+    (λ c. search needs)
     (λ c. rw (c .before .before .before .before .before .match .keys1) (c .before .before .put .ensures))
     (λ c. search needs)
     (λ c. rw (c .before .before .before .before .before .match .keys2) (c .before .before .put2 .ensures))
@@ -69,6 +71,8 @@ why-spec =
     (λ c. search needs)
     (λ c. rw (c .before .before .before .before .before .match .keys14) (c .before .before .put14 .ensures))
     (λ c. search needs)
+    (λ c. rw (c .before .before .before .before .before .match .keys15) (c .before .before .put15 .ensures))
+    (λ c. search needs)
     (λ c.
     let m = c .before .before .before .before .before in
-    rw (no-reason (m .before .before .args .refusal) (m .match .rest)) (c .before .before .put15 .ensures)))
+    rw (no-reason (m .before .before .args .refusal) (m .match .rest)) (c .before .before .put16 .ensures)))

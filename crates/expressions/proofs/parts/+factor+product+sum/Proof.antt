@@ -26,6 +26,7 @@ use Rattle.expressions.proofs.symbols.product_mark.Reads as product-mar
 use Rattle.expressions.proofs.symbols.start_of.Reads as start-of
 use Rattle.expressions.proofs.symbols.sum_mark.Reads as sum-mark
 use Rattle.expressions.proofs.symbols.symbol_of.Reads as symbol-of
+use Rattle.expressions.proofs.worths.found_at.Reads as found-at
 use Rattle.expressions.proofs.worths.number_worth.Reads as number-worth
 use Rattle.tokens.proofs.tokens.next_token.Reads as next-token
 use Rattle.expressions.proofs.parts.+factor+product+sum.{statement}
@@ -60,8 +61,22 @@ sum-below t = and 1 sum-kinds.ps (falls 1 sum-kinds.ps _<_ μ-sum t) sum.Pre
 
 -- what each calls
 abbrev factor-calls : ℕ → factor-lts.Claims
-factor-calls t =
-    (next-token.Asked, next-token.Learnt, symbol-of.Asked, symbol-of.Learnt, start-of.Asked, start-of.Learnt, number-worth.Asked, number-worth.Learnt, sum-below t, sum.Post, closed.Asked, closed.Learnt)
+factor-calls t = (
+  next-token.Asked,
+  next-token.Learnt,
+  symbol-of.Asked,
+  symbol-of.Learnt,
+  start-of.Asked,
+  start-of.Learnt,
+  number-worth.Asked,
+  number-worth.Learnt,
+  found-at.Asked,
+  found-at.Learnt,
+  sum-below t,
+  sum.Post,
+  closed.Asked,
+  closed.Learnt,
+)
 
 abbrev product-calls : ℕ → product-lts.Claims
 product-calls t =
@@ -84,11 +99,13 @@ factor-sum-requires t c κs = omega arith
 
 factor-returns-2 : (t : ℕ) → factor-lts.Need-returns-2 (factor-calls t) (factor-at t) factor.Post
 factor-returns-2 t c =
-    let m = c .before .before .before .before in
+    let w = c .before in
+    let m = w .before .before .before .before in
     let y = m .before in
     let t = y .before .before in
     let a = t .before .before .args in
-    seen-number (a .s .now) (a .from .at) (t .next-token .ensures) (y .symbol-of .ensures) (m .start-of .ensures) (a .room) (c .before .before .v .given .1) (c .number-worth .ensures)
+    seen-number (a .s .now) (a .from .at) (t .next-token .ensures) (y .symbol-of .ensures) (m .start-of .ensures) (a .room) (w .before .before .v .given .1)
+    (w .number-worth .ensures) (c .found-at .ensures)
 
 factor-returns-3 : (t : ℕ) → factor-lts.Need-returns-3 (factor-calls t) (factor-at t) factor.Post
 factor-returns-3 t c =
@@ -245,6 +262,7 @@ pub +factor+product+sum-spec : {M : Type 1} → statement M
     (λ c κs. search needs)
     (λ c κs. search needs)
     (λ c. search needs)
+    (λ c κs. search needs)
     (λ c κs. search needs)
     (λ c. search needs)
     (factor-returns t)

@@ -6,10 +6,12 @@ use Rattle.expressions.proofs.reading.expression.Tie as tie
 
 returns : tie.Need-returns
 returns c =
-    let t = c .before .before in
+    let e = c .before .before in
+    let t = e .before in
     let p = t .before .before .before .before in
     let a = p .before .before .args in
-    found-whole (a .s .now) (a .from .at) (p .sum .result) (p .sum .ensures) (t .before .before .w .given .1) (t .next-token .ensures) (c .before .is-end .ensures) (c .if1 .taken)
+    found-whole (a .s .now) (a .from .at) (p .sum .result) (p .sum .ensures) (t .before .before .w .given .1) (t .next-token .ensures) (e .is-end .ensures)
+    (c .before .if1 .taken) (c .plain-worth .ensures)
 
 returns-2 : tie.Need-returns-2
 returns-2 c =
@@ -44,6 +46,7 @@ expression-spec =
     (tie.spec
     (λ c κs. search needs)
     (λ c. search needs)
+    (λ c κs. search needs)
     (λ c κs. search needs)
     (λ c κs. search needs)
     (λ c. search needs)

@@ -2,7 +2,6 @@
 use borrow.Author.Needs.{needs}
 use native.Mathlib.Omega.{arith}
 use lib.ListN.{length-take}
-use borrow.Author.Needs.{needs}
 use Rattle.replay.proofs.texts.assembled.Statement.{statement}
 use Rattle.replay.proofs.texts.assembled.Tie as tie
 
@@ -79,7 +78,11 @@ replied-requires-2 : tie.Need-replied-requires-2
 replied-requires-2 c κs = search needs
 
 same-length-3 : tie.Need-same-length-3
-same-length-3 c = search needs
+same-length-3 c =
+    let made = c .before .before .before .before .before .before .before .before in
+    let kept = made .before .before .before .before .before .before .before .before .before .before in
+    let first = kept .before .before .before in
+    omega (arith, made .m3 .given, made .before .assemble .kept, kept .keep .kept, first .m .given, first .before .fill .kept)
 
 same-length-4 : tie.Need-same-length-4
 same-length-4 c = search needs

@@ -1,4 +1,4 @@
--- All labels before the i-th pass, and their words are in their cells.
+-- All labels before the i-th pass, their words are in their cells, and the last of them is on the line kept.
 use borrow.Author.Needs.{needs}
 use native.Mathlib.Omega.{arith}
 use mathlib.Core.List.{List}
@@ -9,23 +9,24 @@ use Rattle.sources.specs.Order.{_on_}
 use Rattle.sources.specs.Inner.Assembling.{passes, usesVerdict, filled}
 use Rattle.labels.specs.Inner.Labels.{labelsIn}
 use Rattle.uses.specs.Inner.Held.{usesHeld}
-use Rattle.settling.proofs.Laws.{nothing-held, nothing-filled, one-passes, all-refused, one-filled}
+use Rattle.settling.proofs.Laws.{Second, nothing-held, nothing-before, nothing-filled, one-passes, one-before, all-refused, one-filled}
 use Rattle.settling.proofs.settle.settle.Statement.{statement}
 use Rattle.settling.proofs.settle.settle.Tie as tie
 
 abbrev Inv-loop : tie.InvT-loop
-Inv-loop s starts keys values count row aways uses cells₀ i₀ cells i =
+Inv-loop s starts keys values count row aways uses cells₀ i₀ before₀ cells i before =
     let bs = labelsIn s starts keys values count in
     (i ≤ uses)
     × (usesVerdict bs (usesHeld s row aways i) ≡ passes)
     × (cells ≡ filled bs (usesHeld s row aways i) cells₀)
     × (length cells ≡ length cells₀)
+    × Second bs s row aways i before
 
 abbrev μ-loop : tie.MeasureT-loop
-μ-loop s starts keys values count row aways uses cells₀ i₀ cells i = uses - i
+μ-loop s starts keys values count row aways uses cells₀ i₀ before₀ cells i before = uses - i
 
 loop-holds : tie.Need-loop-holds Inv-loop μ-loop
-loop-holds c = (omega arith, nothing-held _ _ _ _, sym (nothing-filled _ _ _ _ _), refl)
+loop-holds c = (omega arith, nothing-held _ _ _ _, sym (nothing-filled _ _ _ _ _), refl, nothing-before _ _ _ _)
 
 cast-start : tie.Need-cast-start Inv-loop μ-loop
 cast-start c = omega (arith, c .shared-slice-known7 .given (4 * c .before .before .loop .i))
@@ -64,8 +65,8 @@ returns c =
     let a = l .before .before .before .before .before .before .before .before .args in
     let bs = labelsIn (a .s .now) (a .starts .now) (a .keys .now) (a .values .now) (a .count) in
     let w = c .before .before .before .word in
-    all-refused bs (a .s .now) (a .row .now) (a .aways .now) (l .loop .i) (a .uses) (c .before .f .given .0 .0) (w .result)
-    (c .before .before .before .before .before .before .before .before .before .loop-test .taken) (l .loop .inv .1) (w .ensures) (c .before .f .given .1)
+    all-refused bs (a .s .now) (a .row .now) (a .aways .now) (l .loop .i) (a .uses) (c .before .f .given .0 .0) (l .loop .before) (w .result)
+    (c .before .before .before .before .before .before .before .before .before .loop-test .taken) (l .loop .inv .1) (l .loop .inv .4) (w .ensures) (c .before .f .given .1)
 
 loop-again : tie.Need-loop-again Inv-loop μ-loop
 loop-again c =
@@ -82,6 +83,7 @@ loop-again c =
           ∙ ap (λ (m : List ℕ). set m (getD (a .row .now) (4 * i + 2) 0) x) (l .loop .inv .2)
           ∙ one-filled bs (a .s .now) (a .row .now) (a .aways .now) i x (w .result) (w .ensures) (v .w .given .1) (a .cells .now),
       c .before .before .put .kept .0 ∙ l .loop .inv .3,
+      one-before bs (a .s .now) (a .row .now) (a .aways .now) i x (w .result) (w .ensures) (v .w .given .1) (l .loop .before) (l .loop .inv .4),
     )
 
 same-length-2 : tie.Need-same-length-2 Inv-loop μ-loop

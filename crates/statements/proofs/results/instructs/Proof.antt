@@ -22,6 +22,11 @@ returns-3 c =
 
 returns-4 : tie.Need-returns-4
 returns-4 c =
+    let i = c .before .before .before in
+    ap (instructionResult (i .before .before .args .op)) (sym (c .before .place .given .1) ∙ i .instruction .ensures)
+
+returns-5 : tie.Need-returns-5
+returns-5 c =
     let i = c .before .before in
     ap (instructionResult (i .before .before .args .op)) (sym (c .enum-told3 .given .1) ∙ i .instruction .ensures)
 
@@ -34,7 +39,9 @@ instructs-spec =
     (λ c. search needs)
     (λ c. search needs)
     (λ c. search needs)
+    (λ c. search needs)
     returns
     returns-2
     returns-3
-    returns-4)
+    returns-4
+    returns-5)

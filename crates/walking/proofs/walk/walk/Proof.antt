@@ -2,7 +2,7 @@
 use borrow.Author.Needs.{needs}
 use mathlib.Core.Path.{_∙_}
 use lib.ListN.{length}
-use Rattle.sources.specs.Inner.Assembling.{workOf, endVerdict, linesVerdict, lastLine}
+use Rattle.sources.specs.Inner.Assembling.{workOf, linesVerdict, lastLine}
 use Rattle.walking.specs.Inner.Walking.{workIn}
 use Rattle.walking.proofs.Ends.{refused-early, still-fair, refused-late, passes-end, binds-at-end, all-held}
 use Rattle.walking.proofs.walk.walk.Statement.{statement}
@@ -79,7 +79,7 @@ returns-2 c =
     let v = linesVerdict m s in
     let w = workOf m s in
     let n = lastLine s in
-    refused-early v w n (workIn s starts keys values marks cells row aways) (endVerdict n (w .place)) (c .before .f .given .1) (l .ensures)
+    refused-early v w n (workIn s starts keys values marks cells row aways) (c .before .f .given .1) (l .ensures)
 
 returns-3 : tie.Need-returns-3
 returns-3 c =
