@@ -1,5 +1,7 @@
 // What ENS2025 computes of cells: ADD, SUB, MUL, DIV, MOD, INC, DEC, NEG, CMP, AND, OR, XOR, NOT, with the flags
 // Z, C, V, P, S (document 01, "What a step does"). The meaning is in specs/Operations.antt.
+#![tactic(auto)]
+
 ghost use Rattle.std.specs.Prelude.{◌≡◌};
 ghost use Rattle.arithmetic.specs.Operations.{ADD, SUB, MUL, DIV, MOD, INC, DEC, NEG, CMP, AND, OR, XOR, NOT};
 
@@ -10,14 +12,14 @@ mod cells; // a cell read as two's complement, and back
 mod flags; // the flags of a result
 
 // What an operation gives: the 16-bit result, and the flags Z, C, V, P, S as bits 0 to 4.
-#[derive(Drop)]
+#[derive(Clone, Copy)]
 pub struct Outcome {
     pub value: u16,
     pub flags: u16,
 }
 
 // What a division gives; a zero divisor is the machine's stop 6.
-#[derive(Drop)]
+#[derive(Clone, Copy)]
 pub enum Division {
     Done(Outcome),
     ByZero,

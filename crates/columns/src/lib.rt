@@ -1,5 +1,6 @@
 // Where in its line a refusal points (document 02, K4): the line is read once more, after it was refused. The meaning is in
 // specs/Points.antt; specs/Columns.antt has the same as functions of the line.
+#![tactic(auto)]
 
 pub mod lines; // the line of a number, in its source
 mod naming; // the label that an operand names, in a line that passes
@@ -7,11 +8,11 @@ pub mod own; // the columns of a line's own parts: its label, its word, an opera
 pub mod pointing; // what a refusal of a line points at
 
 // A column of a line, counted from 1; 0 where nothing of a line is at fault. Never a line's number (sources::Line).
-#[derive(Drop)]
+#[derive(Clone, Copy)]
 pub struct Column(pub usize);
 
 // The column, and the operand's place, 1 or 2, that 16 names; 0 beside any other number.
-#[derive(Drop)]
+#[derive(Clone, Copy)]
 pub struct Pointed {
     pub column: Column,
     pub place: u8,

@@ -2,14 +2,14 @@
 ghost use Rattle.std.specs.Prelude.{◌≤◌, length};
 
 // How many bytes of a room hold the file's; none where a read failed.
-#[derive(Drop)]
+#[derive(Clone, Copy)]
 pub struct Loaded {
     pub bytes: usize,
     pub failed: bool,
 }
 
 // How much is held, and why no more is read.
-#[derive(Drop)]
+#[derive(Clone, Copy)]
 struct Held {
     held: usize,
     is_last: bool,
@@ -17,7 +17,7 @@ struct Held {
 }
 
 // What one read gave: its bytes, 0 at the file's end.
-#[derive(Drop)]
+#[derive(Clone, Copy)]
 struct Got {
     bytes: usize,
     failed: bool,

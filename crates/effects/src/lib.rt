@@ -1,5 +1,7 @@
 // What an ENS2025 instruction will do, found as a value before anything is written, and the one function that writes it
 // (document 01, "What a step does"). The meaning is in specs/Effects.antt, one line for each opcode.
+#![tactic(auto)]
+
 pub mod apply; // an effect written to registers and memory
 mod conditions; // when a branch is taken
 pub mod places; // where operands are, and what stands there
@@ -8,7 +10,7 @@ pub mod shapes; // the effects that opcodes share
 
 // Where an operand is: a number of its own, a register by its code, or a cell by its address. A code is an index, and of an index's
 // width: a place of four bytes would be packed into one number, and shifted apart again, at every use.
-#[derive(Drop)]
+#[derive(Clone, Copy)]
 pub enum Place {
     Nowhere,
     Constant(u16),
@@ -17,7 +19,7 @@ pub enum Place {
 }
 
 // An operand as it is found: where it is, what stands there, and the stop of one that is not there, a register by its code or a cell.
-#[derive(Drop)]
+#[derive(Clone, Copy)]
 pub struct Located {
     pub place: Place,
     pub value: u16,
@@ -25,14 +27,14 @@ pub struct Located {
 }
 
 // What becomes of the flags Z, C, V, P, S.
-#[derive(Drop)]
+#[derive(Clone, Copy)]
 pub enum Flags {
     Unchanged,
     Become(usize),
 }
 
 // The next PC, not reduced; SP; a value and the place it goes to; the flags.
-#[derive(Drop)]
+#[derive(Clone, Copy)]
 pub struct Effect {
     pub next: usize,
     pub sp: u16,
@@ -42,7 +44,7 @@ pub struct Effect {
 }
 
 // What an input or output instruction asks for.
-#[derive(Drop)]
+#[derive(Clone, Copy)]
 pub enum Port {
     TakeByte(Place),
     TakeNumber(Place),
@@ -53,7 +55,7 @@ pub enum Port {
 }
 
 // What an instruction comes to.
-#[derive(Drop)]
+#[derive(Clone, Copy)]
 pub enum Performed {
     Does(Effect),
     Halts,

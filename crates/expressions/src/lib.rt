@@ -1,5 +1,7 @@
 // Expressions of ORG, EQU and RES (document 01, "Rules of writing"). The meaning is in specs/: Grammar.antt, Trees.antt, Worths.antt,
 // and Places.antt for the places of refusals.
+#![tactic(auto)]
+
 use numerals::Cursor;
 
 pub mod symbols; // what a token is to an expression
@@ -9,7 +11,7 @@ mod parts; // sums, products and factors
 pub mod scanning; // form and depth in constant space
 mod worths; // what numbers and operations are worth
 
-#[derive(Drop)]
+#[derive(Clone, Copy)]
 pub enum Operation {
     Plus,
     Minus,
@@ -19,7 +21,7 @@ pub enum Operation {
 }
 
 // What an expression is worth: a number, or refusal 6 or 7.
-#[derive(Drop)]
+#[derive(Clone, Copy)]
 pub enum Worth {
     Is(i32),
     OutOfRange,
@@ -27,7 +29,7 @@ pub enum Worth {
 }
 
 // What an expression is worth, with the place of the fault: the number, or the operation's mark.
-#[derive(Drop)]
+#[derive(Clone, Copy)]
 pub enum Found {
     Is(i32),
     OutOfRange(usize),
@@ -35,7 +37,7 @@ pub enum Found {
 }
 
 // What a line's tokens from a cursor on are as an expression: refusal 3 for form, 8 for depth, or the worth.
-#[derive(Drop)]
+#[derive(Clone, Copy)]
 pub enum ExpressionRead {
     Read(Worth),
     TooDeep,
@@ -43,7 +45,7 @@ pub enum ExpressionRead {
 }
 
 // What a token is to an expression: an operand, a mark of sums or of products, a parenthesis, or nothing that one has.
-#[derive(Drop)]
+#[derive(Clone, Copy)]
 pub enum Symbol {
     Number(u32),
     Sums(Operation),
@@ -54,7 +56,7 @@ pub enum Symbol {
 }
 
 // What an operand begins with.
-#[derive(Drop)]
+#[derive(Clone, Copy)]
 enum Start {
     Number(u32),
     Opens,
@@ -62,14 +64,14 @@ enum Start {
 }
 
 // A mark that joins a further operand, or none.
-#[derive(Drop)]
+#[derive(Clone, Copy)]
 enum Mark {
     Joins(Operation),
     Absent,
 }
 
 // What reading a sum, a product or a factor gives: what was found and the cursor after it, a wrong form, or parentheses too deep.
-#[derive(Drop)]
+#[derive(Clone, Copy)]
 enum Part {
     Done(Found, Cursor),
     Wrong,
@@ -77,7 +79,7 @@ enum Part {
 }
 
 // A token more of the scan: whether an operand is next and how many parentheses are open, or the form is wrong.
-#[derive(Drop)]
+#[derive(Clone, Copy)]
 pub enum ScanStep {
     On(bool, usize),
     Wrong,

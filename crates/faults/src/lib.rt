@@ -1,5 +1,6 @@
 // Where in a line of wrong form the fault shows (document 02, K4). The meaning is in specs/Faults.antt; specs/Forms.antt and
 // specs/Walk.antt are the walk that finds it.
+#![tactic(auto)]
 
 mod moves; // how a token moves a state on
 mod states; // what a state says
@@ -7,7 +8,7 @@ mod stages; // how a byte moves a stage on
 pub mod place; // the walk over a line's bytes
 
 // What may be next in a line.
-#[derive(Drop)]
+#[derive(Clone, Copy)]
 pub enum State {
     Start, // a label, a statement's word or the end
     Body, // a statement's word or the end, behind a label
@@ -32,7 +33,7 @@ pub enum State {
 }
 
 // Where among its bytes the walk is, and the state that what has begun there began in.
-#[derive(Drop)]
+#[derive(Clone, Copy)]
 pub enum Stage {
     Between(State),
     Word(State),
@@ -45,7 +46,7 @@ pub enum Stage {
 }
 
 // A byte more of the walk: the stage behind it and where the word there began, or the place where it stops.
-#[derive(Drop)]
+#[derive(Clone, Copy)]
 pub enum Turn {
     Goes(Stage, usize),
     Stops(usize),

@@ -1,11 +1,13 @@
 // The printed image (document 01, "The printed image"; 02, K2): memory and map as text, in a lent room. The meaning is in specs/: Image.antt has
 // the text, Printing.antt the refusals and what the room holds after.
+#![tactic(auto)]
+
 pub mod printing;
 mod lengths; // how long the text is
 mod lines; // the text, written
 
 // The length of the text that was printed; or why nothing was.
-#[derive(Drop)]
+#[derive(Clone, Copy)]
 pub enum Printed {
     Done(usize),
     BadLoan,

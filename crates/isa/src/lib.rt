@@ -1,16 +1,18 @@
 // The ENS2025 instruction set: the 39 opcodes, operands, and instructions as words and back (document 01, "Layout").
 // The meaning is in specs/: Opcodes.antt has the table, Encoding.antt and Decoding.antt the words.
+#![tactic(auto)]
+
 pub mod decoding; // words to an instruction
 pub mod encoding; // an instruction to its words
 pub mod opcodes; // the table of the 39 opcodes
 pub mod operands; // modes, words, and what an opcode allows
 
 // The address of a cell of memory, and the counter of the next one: 0 to 65536. Never a line number.
-#[derive(Drop)]
+#[derive(Clone, Copy)]
 pub struct Address(pub usize);
 
 // The opcodes, named as the paper names them, in the order of their numbers.
-#[derive(Drop)]
+#[derive(Clone, Copy)]
 pub enum Opcode {
     NOP,
     HALT,
@@ -54,7 +56,7 @@ pub enum Opcode {
 }
 
 // What an opcode lets an operand be.
-#[derive(Drop)]
+#[derive(Clone, Copy)]
 pub enum Kinds {
     Nothing,
     Source,
@@ -64,7 +66,7 @@ pub enum Kinds {
 }
 
 // An operand, with its word: value, address, displacement or register code.
-#[derive(Drop)]
+#[derive(Clone, Copy)]
 pub enum Operand {
     Absent,
     Immediate(u16),
@@ -78,7 +80,7 @@ pub enum Operand {
 }
 
 // An opcode with its operands.
-#[derive(Drop)]
+#[derive(Clone, Copy)]
 pub struct Instruction {
     pub op: Opcode,
     pub first: Operand,
@@ -86,7 +88,7 @@ pub struct Instruction {
 }
 
 // An opcode's row of the table.
-#[derive(Drop)]
+#[derive(Clone, Copy)]
 pub struct Row {
     pub number: u16,
     pub first: Kinds,
@@ -94,14 +96,14 @@ pub struct Row {
 }
 
 // The opcode of a number, if there is one.
-#[derive(Drop)]
+#[derive(Clone, Copy)]
 pub enum FoundOpcode {
     Known(Opcode),
     Unknown,
 }
 
 // The encoder's answer: the words, or refusal 5.
-#[derive(Drop)]
+#[derive(Clone, Copy)]
 pub enum Encoded {
     One(u16),
     Two(u16, u16),
@@ -110,7 +112,7 @@ pub enum Encoded {
 }
 
 // What a first word alone decides.
-#[derive(Drop)]
+#[derive(Clone, Copy)]
 pub enum FirstWord {
     Allowed(Opcode),
     UnknownOpcode,
@@ -118,7 +120,7 @@ pub enum FirstWord {
 }
 
 // The decoder's answer: the instruction with the address after it, or stop 2, 3, 4 or 5.
-#[derive(Drop)]
+#[derive(Clone, Copy)]
 pub enum Decoded {
     Read(Instruction, Address),
     NoOpcode,

@@ -1,5 +1,7 @@
 // DATA's items (document 01, "Rules of writing"): numbers and strings by commas, and the cells they take. The meaning is in
 // specs/Items.antt.
+#![tactic(auto)]
+
 use numerals::Cursor;
 
 pub mod places; // where the first number out of range stands
@@ -9,7 +11,7 @@ mod strings; // how many characters a string has
 pub mod writing; // the cells of the items that follow DATA
 
 // What the tokens after DATA are: so many cells, or refusal 3 or 6.
-#[derive(Drop)]
+#[derive(Clone, Copy)]
 pub enum ItemsRead {
     Cells(usize),
     WrongForm,
@@ -17,7 +19,7 @@ pub enum ItemsRead {
 }
 
 // An item at a cursor: the cells it takes, whether it is in range, and the cursor after it; or no item.
-#[derive(Drop)]
+#[derive(Clone, Copy)]
 enum ItemRead {
     Found(usize, bool, Cursor),
     Absent,

@@ -1,5 +1,7 @@
 // Memory and map listed as source (document 02, K1 and K2), in a lent room. The meaning is in specs/: Lines.antt has the lines and their text,
 // Listing.antt the refusals and what the room holds after.
+#![tactic(auto)]
+
 pub mod giving; // the listing, or why there is none
 mod lines; // a line, written
 mod operands; // an operand, written
@@ -9,7 +11,7 @@ mod walking; // from address to address: measured first, then written
 use isa::{Address, Instruction};
 
 // The length of the listing that was given; or why none was.
-#[derive(Drop)]
+#[derive(Clone, Copy)]
 pub enum Listed {
     Done(usize),
     BadLoan,
@@ -18,7 +20,7 @@ pub enum Listed {
 }
 
 // A line of a listing: ORG, an instruction, a number of DATA, RES, END.
-#[derive(Drop)]
+#[derive(Clone, Copy)]
 pub enum Entry {
     Origin(Address),
     Instructs(Instruction),
@@ -28,7 +30,7 @@ pub enum Entry {
 }
 
 // What begins at an address: nothing in a free cell, a line with the address behind it, or an instruction that fails.
-#[derive(Drop)]
+#[derive(Clone, Copy)]
 pub enum Begins {
     Nothing,
     Line(Entry, Address),
@@ -36,7 +38,7 @@ pub enum Begins {
 }
 
 // How long a listing is, or where it fails.
-#[derive(Drop)]
+#[derive(Clone, Copy)]
 pub enum Measured {
     Long(usize),
     Fails(Address),

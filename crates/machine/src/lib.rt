@@ -1,5 +1,7 @@
 // The ENS2025 machine: one step, and a run (document 01, "What a step does"). The meaning is in specs/Steps.antt and
 // specs/Runs.antt; what each opcode does is in the crate `effects`.
+#![tactic(auto)]
+
 mod lent; // the step that is lent the register array
 mod loans; // what a good loan is
 pub mod run;
@@ -8,7 +10,7 @@ pub mod step;
 // The machine's record: 16 registers by the paper's codes, the stop code, and how many bytes were taken of the input and
 // written to the output. What a later request adds to the record (a dialect, the stack's direction, a guard) goes here.
 #[repr(C)] // its layout is C's: a host lends it (include/ens2025.h)
-#[derive(Drop)]
+#[derive(Clone, Copy)]
 pub struct Registers {
     pub r: [u16; 16],
     pub stop: u8,
@@ -17,14 +19,14 @@ pub struct Registers {
 }
 
 // A step's reply: the record after it, and the stop.
-#[derive(Drop)]
+#[derive(Clone, Copy)]
 pub struct Stepped {
     pub registers: Registers,
     pub stop: u8,
 }
 
 // A run's reply: the record after it, the stop, and how many steps completed.
-#[derive(Drop)]
+#[derive(Clone, Copy)]
 pub struct Ran {
     pub registers: Registers,
     pub stop: u8,
@@ -32,7 +34,7 @@ pub struct Ran {
 }
 
 // What the inner step answers beside what it leaves in the registers, memory and output that it is lent.
-#[derive(Drop)]
+#[derive(Clone, Copy)]
 pub struct Inner {
     pub stop: u8,
     pub completed: bool,

@@ -1,5 +1,7 @@
 // An opcode's operands (document 01, "Rules of writing"): their form, their number and kinds, and the ranges of their numbers. The
 // meaning is in specs/: Operands.antt, Checks.antt, Settling.antt and Places.antt.
+#![tactic(auto)]
+
 use isa::Operand;
 use numerals::Cursor;
 use values::{LabelIn, Value};
@@ -11,7 +13,7 @@ mod shapes; // one operand
 mod words; // what an operand's word is
 
 // An operand as it is written, each of one kind.
-#[derive(Drop)]
+#[derive(Clone, Copy)]
 pub enum Written {
     Absent,
     Immediate(Value),
@@ -25,14 +27,14 @@ pub enum Written {
 }
 
 // An operand with its word. What a label stands for takes the place of a word 0 when labels are settled.
-#[derive(Drop)]
+#[derive(Clone, Copy)]
 pub struct Given {
     pub operand: Operand,
     pub label: LabelIn,
 }
 
 // What the tokens after an opcode are: its operands, or refusal 3, 15, 16 or 6. A wrong kind names the operand's place, 1 or 2.
-#[derive(Drop)]
+#[derive(Clone, Copy)]
 pub enum InstructionRead {
     Read(Given, Given),
     WrongForm,
@@ -42,21 +44,21 @@ pub enum InstructionRead {
 }
 
 // A register's name at a cursor: its code, with the cursor after it.
-#[derive(Drop)]
+#[derive(Clone, Copy)]
 enum RegisterRead {
     Named(u16, Cursor),
     Absent,
 }
 
 // One operand, with the cursor after it.
-#[derive(Drop)]
+#[derive(Clone, Copy)]
 enum OperandRead {
     Read(Written, Cursor),
     Wrong,
 }
 
 // The first two of a list of operands, and how many they are, up to 3: no opcode has three.
-#[derive(Drop)]
+#[derive(Clone, Copy)]
 struct FirstTwo {
     count: usize,
     first: Written,
@@ -64,7 +66,7 @@ struct FirstTwo {
 }
 
 // A list of operands up to the line's end.
-#[derive(Drop)]
+#[derive(Clone, Copy)]
 enum ListRead {
     Read(FirstTwo),
     Wrong,

@@ -1,5 +1,7 @@
 // A line at its place (document 01, "Refusing a source": "label 10, 9; word 4; form 3; 5; 8; 6 or 7 ..; then the statement's result and
 // label addresses ..; 11; 12"): its label, its own refusal, its address and cells. The meaning is `lineVerdict` and `after` of sources.
+#![tactic(auto)]
+
 use isa::Address;
 
 mod acts; // what a statement does
@@ -10,7 +12,7 @@ pub mod naming; // labels that wait
 mod placing; // a statement at its place
 
 // Where a walk over lines stands: the address, how many labels are bound, and how many wait.
-#[derive(Drop)]
+#[derive(Clone, Copy)]
 pub struct Counters {
     pub at: Address,
     pub bound: usize,
@@ -18,7 +20,7 @@ pub struct Counters {
 }
 
 // A line passes, or a refusal's number.
-#[derive(Drop)]
+#[derive(Clone, Copy)]
 pub enum Did {
     Go(Counters),
     No(u8),

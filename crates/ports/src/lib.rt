@@ -1,19 +1,21 @@
 // Input and output of ENS2025 on lent bytes: INCHAR, ININT, INSTR, WRCHAR, WRINT, WRSTR (document 01, "What a step does").
 // The meaning is in specs/Input.antt and specs/Output.antt.
+#![tactic(auto)]
+
 ghost use Rattle.std.specs.Prelude.{◌≡◌, ◌+◌, leb};
 
 pub mod input;
 pub mod output;
 
 // A value taken, and the position after it; or stop 8.
-#[derive(Drop)]
+#[derive(Clone, Copy)]
 pub enum Taken {
     Value(u16, usize),
     NoValue(u8),
 }
 
 // The position after what was taken or written; or stop 5, 8 or 9.
-#[derive(Drop)]
+#[derive(Clone, Copy)]
 pub enum Moved {
     To(usize),
     Short(u8),

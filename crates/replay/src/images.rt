@@ -7,14 +7,14 @@ use image::Printed;
 use listing::Listed;
 
 // Which text of an image is asked for.
-#[derive(Drop)]
+#[derive(Clone, Copy)]
 pub(crate) enum Text {
     Printing,
     Listing,
 }
 
 // A memory and a map that a case lends: `M MAPLEN FILL STEP`, and the place after them.
-#[derive(Drop)]
+#[derive(Clone, Copy)]
 pub(crate) struct Loan {
     pub cells: usize,
     pub marks: usize,

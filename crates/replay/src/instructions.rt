@@ -8,7 +8,7 @@ use isa::opcodes::{opcode, row};
 use isa::{Address, Decoded, Encoded, FoundOpcode, Instruction, Operand};
 
 // The format's kind of an operand, and its word.
-#[derive(Drop)]
+#[derive(Clone, Copy)]
 struct Spelt {
     kind: usize,
     word: usize,

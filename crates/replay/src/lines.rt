@@ -4,7 +4,7 @@ ghost use Rattle.std.specs.Prelude.{◌<◌, ◌≤◌, length};
 use super::outcomes::Outcome;
 
 // A line's place in the room, the place after its LF, and how much of the room is held; or why there is none.
-#[derive(Drop)]
+#[derive(Clone, Copy)]
 pub(crate) struct Found {
     pub outcome: Outcome,
     pub start: usize,
@@ -14,7 +14,7 @@ pub(crate) struct Found {
 }
 
 // What was read: how much is held then, or that it cannot be read.
-#[derive(Drop)]
+#[derive(Clone, Copy)]
 struct Taken {
     held: usize,
     failed: bool,

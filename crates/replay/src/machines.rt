@@ -8,21 +8,21 @@ use machine::run::run;
 use machine::step::step;
 
 // What is asked: a step, or a run with a budget.
-#[derive(Drop)]
+#[derive(Clone, Copy)]
 pub(crate) enum Asked {
     Step,
     Run(u32),
 }
 
 // The 16 registers of a line, and the place after them.
-#[derive(Drop)]
+#[derive(Clone, Copy)]
 struct RegisterRow {
     r: [u16; 16],
     next: usize,
 }
 
 // A machine's record, the lengths of its input and its output room, and what the room is filled with.
-#[derive(Drop)]
+#[derive(Clone, Copy)]
 struct Loan {
     registers: Registers,
     input: usize,
@@ -32,7 +32,7 @@ struct Loan {
 }
 
 // What was done: the stop, the steps of a run, and the record that is left.
-#[derive(Drop)]
+#[derive(Clone, Copy)]
 struct Done {
     stop: u8,
     is_run: bool,

@@ -1,6 +1,8 @@
 // Answers cases with the proved crates, in the second program's format (docs/COMPARED.md, "Cases" and "Replies", every kind but L): cases
 // from standard input, replies to standard output. A line has at most 1,048,576 bytes with its LF. What keeps a case from being answered is
 // told on standard error and ends the program. A program of this kit has no exit status of its own: `second/cases/answer` gives one.
+#![tactic(auto)]
+
 mod cases; // the cases of the input, each to its reply
 mod fields; // numbers and bytes of a line
 mod images; // printing and listing

@@ -1,5 +1,5 @@
 // How far it went with a line: on, to the end of the input, or no further, for a reason that is told.
-#[derive(Drop)]
+#[derive(Clone, Copy)]
 pub(crate) enum Outcome {
     On,
     End,

@@ -6,7 +6,7 @@ use super::outcomes::Outcome;
 const LOST: usize = 18446744073709551615;
 
 // A reply, or its first part, that is a row of numbers.
-#[derive(Drop)]
+#[derive(Clone, Copy)]
 pub(crate) struct Row {
     pub count: usize,
     pub numbers: [usize; 7],

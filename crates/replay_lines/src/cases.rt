@@ -5,7 +5,7 @@ use super::answers::answer;
 use super::texts::room;
 
 // Why no more is answered.
-#[derive(Drop)]
+#[derive(Clone, Copy)]
 enum Why {
     Malformed,
     TooLong,
@@ -15,7 +15,7 @@ enum Why {
 }
 
 // What is next.
-#[derive(Drop)]
+#[derive(Clone, Copy)]
 enum Next {
     Letter,
     Blank,
@@ -27,14 +27,14 @@ enum Next {
 }
 
 // How much of a line was spelt, and what is next.
-#[derive(Drop)]
+#[derive(Clone, Copy)]
 struct Spelt {
     held: usize,
     next: Next,
 }
 
 // How much was read, or that nothing can be.
-#[derive(Drop)]
+#[derive(Clone, Copy)]
 struct Taken {
     bytes: usize,
     failed: bool,

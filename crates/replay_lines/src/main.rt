@@ -2,6 +2,8 @@
 // "Replies", kind L): cases from standard input, replies to standard output. Nothing larger than a line is held, so that the
 // reader can be seen to do with a stack of 64 KB. A line has at most 33,000 bytes, twice as many digits. What keeps a case from being
 // answered is told on standard error and ends the program; `second/cases/answer` gives the exit status, as for `replay`.
+#![tactic(auto)]
+
 mod answers; // a line's reply
 mod cases; // the bytes of a case, one after another
 mod texts; // the text of replies

@@ -1,12 +1,14 @@
 // `run FILE M [BUDGET]`: assembles a file and runs it from registers of zero, with standard input as its input. The rule's output goes to
 // standard output, the record of the run (crates/record) to standard error. A refused source is told as by `assemble`. A program of this
 // kit has no exit status of its own: the script `run` at the root gives one by what was printed.
+#![tactic(auto)]
+
 mod arguments; // BUDGET
 mod input; // standard input, read to its end
 mod running; // the run, its output and its record
 
 // What a word says of the budget.
-#[derive(Drop)]
+#[derive(Clone, Copy)]
 enum Budget {
     Steps(u32),
     Wrong,

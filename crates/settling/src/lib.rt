@@ -1,19 +1,21 @@
 // Each label that an operand names replaced by its word, once every line has passed (document 01, "Only if no line fails: 13 and 14
 // together, by line, then operand"). The meaning is `usesVerdict` and `filled` of sources.
+#![tactic(auto)]
+
 use sources::Line;
 
 pub mod settle; // all of them, in order
 mod words; // the word that a label stands for
 
 // The word that a label stands for, or a refusal's number.
-#[derive(Drop)]
+#[derive(Clone, Copy)]
 enum Word {
     Is(u16),
     No(u8),
 }
 
 // Every label has its word in its cell; or the first refusal, with its line, and whether the label is the second that this line names.
-#[derive(Drop)]
+#[derive(Clone, Copy)]
 pub enum Settled {
     Done,
     Refused(u8, Line, bool),

@@ -1,6 +1,8 @@
 // Fixed work on the proved machine, to be timed beside the second program (docs/COMPARED.md, "Speed"): three programs
 // without an end, so many steps of each; then two sources from standard input, parted by a byte 0, assembled a hundred times
 // each. For each a line that tells what it came to.
+#![tactic(auto)]
+
 ghost use Rattle.std.specs.Prelude.{◌≡◌, ◌<◌, length};
 
 mod assembling; // sources
@@ -12,7 +14,7 @@ use machine::Registers;
 use machine::run::run;
 
 // What a work came to: the registers it left, the last run's stop, and the steps in all.
-#[derive(Drop)]
+#[derive(Clone, Copy)]
 struct Done {
     registers: Registers,
     stop: u8,

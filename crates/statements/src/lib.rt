@@ -1,5 +1,7 @@
 // A line of a source (document 01, "Rules of writing"): its label and its statement, as one answer that touches no state. The meaning
 // is in specs/: Statements.antt and Checks.antt.
+#![tactic(auto)]
+
 use isa::Opcode;
 use operands::Given;
 use tokens::Token;
@@ -12,7 +14,7 @@ pub mod refusals; // the paper's number of a check that fails
 mod results; // what an expression, operands and items come to
 
 // What a line's statement says: what it is, with its operands, its value, or the number of its cells.
-#[derive(Drop)]
+#[derive(Clone, Copy)]
 pub enum Statement {
     Nothing,
     Instruction(Opcode, Given, Given),
@@ -25,7 +27,7 @@ pub enum Statement {
 
 // A check of a line that fails: refusal 4, 3, 15, 16, 8, 6 or 7. A wrong kind names the operand's place, 1 or 2; out of range is a number or
 // an operation, or else the statement's result.
-#[derive(Drop)]
+#[derive(Clone, Copy)]
 pub enum Failure {
     UnknownWord,
     WrongForm,
@@ -38,28 +40,28 @@ pub enum Failure {
 }
 
 // What a line's statement comes to: it passes the line's own checks and says this, or this is the first of them that fails.
-#[derive(Drop)]
+#[derive(Clone, Copy)]
 pub enum StatementRead {
     Passes(Statement),
     Fails(Failure),
 }
 
 // A line's reading.
-#[derive(Drop)]
+#[derive(Clone, Copy)]
 pub struct LineRead {
     pub label: LabelIn,
     pub statement: StatementRead,
 }
 
 // A line's label, and the statement's first token.
-#[derive(Drop)]
+#[derive(Clone, Copy)]
 pub struct Labelled {
     pub label: LabelIn,
     pub word: Token,
 }
 
 // An expression's result as a cell, or the check that fails.
-#[derive(Drop)]
+#[derive(Clone, Copy)]
 enum Outcome {
     Value(u16),
     Fails(Failure),

@@ -1,4 +1,6 @@
 // Lines and tokens of a source (document 01, "Rules of writing"). The meaning is in specs/: Lines.antt and Rows.antt.
+#![tactic(auto)]
+
 use numerals::{Cursor, Radix};
 
 pub mod commas; // what follows an operand or an item
@@ -8,7 +10,7 @@ pub mod strings; // the character of a string at a cursor
 pub mod tokens; // the token at a cursor
 
 // What a token is. A number above 65535 is out of every range, and counts as 65536.
-#[derive(Drop)]
+#[derive(Clone, Copy)]
 pub enum Kind {
     End,
     Stray,
@@ -19,7 +21,7 @@ pub enum Kind {
 }
 
 // A token: its kind, where it starts, whether it follows the one before directly, and the cursor after it.
-#[derive(Drop)]
+#[derive(Clone, Copy)]
 pub struct Token {
     pub kind: Kind,
     pub start: usize,
@@ -28,7 +30,7 @@ pub struct Token {
 }
 
 // What stands at a cursor inside a string: a character or the closing quote, with the cursor after it, or neither.
-#[derive(Drop)]
+#[derive(Clone, Copy)]
 pub enum Character {
     Stands(u8, Cursor),
     Closed(Cursor),
@@ -36,14 +38,14 @@ pub enum Character {
 }
 
 // The single mark at a cursor, with the cursor after it, or none.
-#[derive(Drop)]
+#[derive(Clone, Copy)]
 pub enum MarkRead {
     Is(u8, Cursor),
     Absent,
 }
 
 // What follows an operand or an item of DATA: a comma, with the cursor after it, the line's end, or neither.
-#[derive(Drop)]
+#[derive(Clone, Copy)]
 pub enum Follows {
     Comma(Cursor),
     Over,

@@ -1,0 +1,39 @@
+-- The quotient of the readings, cut toward zero, fits an `i32`; it leaves 16 bits at -32768/-1 alone.
+use Prim.Native.Nat.{ℕ}
+use mathlib.Core.Bool.{Bool, false}
+use mathlib.Core.Path.{sym, ap, ap₂, ◌∙◌}
+use lib.Signed.{quot_z}
+use borrow.Author.Rules.{rules}
+use borrow.Author.Tests.{eq-eqb, ne_eqb}
+use Rattle.arithmetic.specs.Cells.{cell, leaves16}
+use Rattle.arithmetic.specs.Operations.{outcome, DIV}
+use Rattle.arithmetic.specs.declared.Division.TheVariants.{Done}
+use Rattle.arithmetic.proofs.Laws.{quotient-leaves}
+use Rattle.arithmetic.proofs.Readings.{Computed, computed, divides, quotient-small, quotient-within}
+use Rattle.arithmetic.proofs.div.Goals as goal
+
+quotient : (c : tie.After-signed-of2) → Computed quot_z c.before.Signed-of.result c.signed-of2.result c.before.before.before.args.x c.before.before.before.args.y
+quotient c =
+    let s = c.before.before.before in
+    computed quot_z s.args.x s.args.y c.before.Signed-of.ensures c.signed-of2.ensures s.ranges.x s.ranges.y quotient-within
+
+pub returns-then-y-eq0 : goal.returns-then-y-eq0
+unfolding DIV
+returns-then-y-eq0 c = rw (eq-eqb c.args.y 0 c.if-y-eq0.true)
+
+pub nonzero_div-quotient : goal.nonzero_div-quotient
+nonzero_div-quotient c =
+    divides c.args.x c.args.y (quotient c) c.signed_of-2.ensures c.ranges.y c.if-y-eq0.false
+
+pub cell_of-requires : goal.cell_of-requires
+cell_of-requires c =
+    rw (quotient c).right (quotient-small c.args.x c.args.y c.ranges.x.fits)
+
+pub returns : goal.returns
+unfolding DIV
+returns c =
+    let x = c.args.x in
+    let y = c.args.y in
+    let value = c.cell_of.ensures ∙ ap cell (quotient q).right in
+    let leaving = c.leaves.ensures ∙ ap leaves16 (quotient q).right ∙ sym (quotient-leaves x y c.ranges.x.fits c.ranges.y.fits) in
+    rw (ne_eqb y 0 c.if-y-eq0.false) (ap Done (c.outcome_of.ensures ∙ ap₂ (λ (v : ℕ) (o : Bool). outcome v false o) value leaving))

@@ -1,0 +1,23 @@
+-- Each arm makes the operand at its mode's place of the list; past the list stands mode 7. Assumes nothing.
+use mathlib.Core.Path.{sym, ◌∙◌}
+use lib.ListN.{get_or-eq_default}
+use Rattle.isa.specs.Operands.{operand_of}
+use Rattle.isa.proofs.Modes.{seventh-target, seventh-other}
+use Rattle.isa.proofs.Past.{past}
+use Rattle.isa.proofs.operands.operand.Goals as goal
+
+pub returns-then-is_target : goal.returns-then-is_target
+unfolding operand_of
+returns-then-is_target c =
+    rw (
+      get_or-eq_default _ _ (past 7 c.args.mode c.in_default.rest),
+      seventh-target _ _ (sym c.is_target.ensures ∙ c.if-is_target.true),
+    )
+
+pub returns-else-is_target : goal.returns-else-is_target
+unfolding operand_of
+returns-else-is_target c =
+    rw (
+      get_or-eq_default _ _ (past 7 c.args.mode c.in_default.rest),
+      seventh-other _ _ (sym c.is_target.ensures ∙ c.if-is_target.false),
+    )

@@ -1,0 +1,15 @@
+-- Each arm's mode is one of the three, and the last arm's is none of them. Assumes nothing.
+use borrow.Author.Tests.{ne_eqb}
+use Rattle.isa.proofs.operands.target_mode.Goals as goal
+
+pub returns-in-3 : goal.returns-in-3
+returns-in-3 c = rw c.in-3.is
+
+pub returns-in-4 : goal.returns-in-4
+returns-in-4 c = rw c.in-4.is
+
+pub returns-in-7 : goal.returns-in-7
+returns-in-7 c = rw c.in-7.is
+
+pub returns-in_default : goal.returns-in_default
+returns-in_default c = rw (ne_eqb _ _ c.in_default.rest.0.0.1, ne_eqb _ _ c.in_default.rest.0.1, ne_eqb _ _ c.in_default.rest.1)

@@ -1,0 +1,15 @@
+-- The loop keeps its place plus the run that is left there: that is where the run ends.
+use borrow.Author.Rules.{rules}
+use Prim.Native.Nat.{◌+◌, ◌-◌}
+use mathlib.Core.Path.{◌≡◌}
+use native.Mathlib.Omega.{arith}
+use lib.ListN.{length, drop}
+use Rattle.numerals.specs.Reading.{run}
+use Rattle.numerals.proofs.Runs.{run_more, run-stop, run_end}
+use Rattle.numerals.proofs.bytes.run_end.Given as goal
+
+abbrev pub invariant-loop-i : goal.invariant-loop-i
+invariant-loop-i l = l.from + run l.below (drop l.from l.s) ≡ l.i + run l.below (drop l.i l.s)
+
+abbrev pub decreases-loop-i : goal.decreases-loop-i
+decreases-loop-i l = length l.s - l.i
