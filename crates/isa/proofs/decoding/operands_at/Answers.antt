@@ -6,16 +6,14 @@ use Rattle.isa.proofs.FirstWords.{when_allowed}
 use Rattle.isa.proofs.Refusals.{word-missing, word-whole, instruction_by}
 use Rattle.isa.proofs.decoding.operands_at.Goals as goal
 
--- CONV: no step: c.before.type_size.ensures
 pub returns-then-m-at : goal.returns-then-m-at
 returns-then-m-at c =
     let known = when_allowed _ _ c.requires.1 in
-    sym (word-missing _ _ _ known.0 known.1 (omega (arith, c.before.type_size.ensures)))
+    sym (word-missing _ _ _ known.0 known.1 (omega (arith, c.size_of-size.ensures)))
 
--- CONV: no step: c.before.before.before.before.before.before.before.type_size.ensures
 pub returns : goal.returns
 returns c =
-    let size = c.before.before.before.before.before.before.before.type_size.ensures in
+    let size = c.size_of-size.ensures in
     let there = c.if-m-at.false in
     let row = c.row-its.ensures in
     let known = when_allowed _ _ c.requires.1 in

@@ -1,0 +1,34 @@
+-- By what the labels come to: a refusal points where `name_in` finds it; else all is copied.
+use Rattle.labels.specs.Inner.Labels.{labels_in}
+use Rattle.uses.specs.Inner.Held.{uses_held}
+use Rattle.sources.specs.Inner.Assembling.{uses_verdict, second_refused, filled}
+use Rattle.sources.specs.Inner.Pointing.{label_point}
+use Rattle.assembler.proofs.Outcomes.{not-settled, all_settled}
+use borrow.Author.Rules.{rules}
+use Rattle.assembler.proofs.assemble.settle_and_accept.Goals as goal
+
+pub settle-requires : goal.settle-requires
+settle-requires c = let p = c.requires in (p.0, p.1, p.2)
+
+-- a label is refused
+pub returns-in-Refused : goal.returns-in-Refused
+returns-in-Refused c =
+    let named = c.name_in-column in
+    let found = c.f-1.given in
+    let a = c.args in
+    let bs = labels_in a.s.now a.starts.now a.keys.now a.values.now a.labels in
+    let us = uses_held a.s.now a.row.now a.aways.now a.uses in
+    not-settled a.memory.now a.map.now a.s.now c.settle.result found.0.0 found.0.1.0 found.0.1.1.0
+    (uses_verdict bs us) (second_refused 0 bs us) (filled bs us a.cells.now) c.settle.new.1.1.1.1.1.1.1.1.0 a.marks.now
+    named.result.0 _ found.1 c.settle.ensures named.ensures c.refused.ensures
+
+-- none is
+-- CONV: no step: c.before.before.before.before.before.before.before.before.enum_told.given.1 ['c.enum_told-1.given.1', 'c.in-Done.is']
+pub returns-in-Done : goal.returns-in-Done
+returns-in-Done c =
+    let a = c.args in
+    let bs = labels_in a.s.now a.starts.now a.keys.now a.values.now a.labels in
+    let us = uses_held a.s.now a.row.now a.aways.now a.uses in
+    all_settled a.memory.now a.map.now c.settle.result (uses_verdict bs us) (second_refused 0 bs us) (label_point a.s.now bs us)
+    (filled bs us a.cells.now) c.settle.new.1.1.1.1.1.1.1.1.0 a.marks.now _ c.enum_told.given.1
+    c.settle.ensures c.accept.ensures

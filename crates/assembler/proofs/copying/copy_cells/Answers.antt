@@ -1,0 +1,20 @@
+-- What is copied grows from the front.
+use Prim.Native.Nat.{ℕ, ◌-◌, ◌≤◌}
+use mathlib.Core.Path.{◌≡◌, refl, ◌∙◌}
+use native.Mathlib.Omega.{arith}
+use borrow.Author.Rules.{rules}
+use lib.ListN.{length, get_or, take, length-set}
+use Rattle.assembler.proofs.Rows.{copy_more, copy_end}
+use Rattle.assembler.proofs.copying.copy_cells.Goals as goal
+
+pub loop-i-init : goal.loop-i-init
+loop-i-init c = (omega arith, refl, c.requires, refl)
+
+pub loop-i-preserved : goal.loop-i-preserved
+loop-i-preserved c = (omega arith, length-set {A = ℕ} (c.loop-i.to) (c.loop-i.i) (get_or (c.args.from.now) (c.loop-i.i) 0) ∙ c.loop-i.invariant.1, c.loop-i.invariant.2, copy_more (c.args.from.now) (c.loop-i.to) (c.loop-i.i) (omega arith) (omega arith) (c.loop-i.invariant.3))
+
+pub shape_of-to : goal.shape_of-to
+shape_of-to c = c.loop-i.invariant.1
+
+pub returns : goal.returns
+returns c = copy_end (c.args.from.now) (c.loop-i.to) (c.loop-i.i) (omega arith) (omega arith) (c.loop-i.invariant.3)

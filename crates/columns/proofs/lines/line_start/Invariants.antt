@@ -1,0 +1,14 @@
+-- The loop's invariant: the line looked for is so many lines behind the one that the loop has come to (LineStarts).
+use borrow.Author.Rules.{rules}
+use Prim.Native.Nat.{◌-◌}
+use mathlib.Core.Path.{◌≡◌, refl, sym, ap, ◌∙◌}
+use native.Mathlib.Omega.{arith}
+use Rattle.columns.specs.Columns.{start_after}
+use Rattle.columns.proofs.LineStarts.{start-more, start-there}
+use Rattle.columns.proofs.lines.line_start.Given as goal
+
+abbrev pub invariant-loop-left : goal.invariant-loop-left
+invariant-loop-left l = start_after l.source (l.number - 1) 0 ≡ start_after l.source (l.left - 1) l.initial.left
+
+abbrev pub decreases-loop-left : goal.decreases-loop-left
+decreases-loop-left l = l.left

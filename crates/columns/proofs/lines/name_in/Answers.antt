@@ -1,0 +1,21 @@
+-- The part that is read is the line (LineStarts).
+use Prim.Native.Nat.{ℕ, ◌≤◌}
+use mathlib.Core.List.{List}
+use mathlib.Core.Path.{ap, ◌∙◌}
+use lib.ListN.{length}
+use Rattle.columns.specs.Columns.{name_column}
+use Rattle.columns.proofs.LineStarts.{part_within, part_there}
+use borrow.Author.Rules.{rules}
+use Rattle.columns.proofs.lines.name_in.Goals as goal
+
+pub returns : goal.returns
+returns c =
+    let a = c.args in
+    c.name_column.ensures ∙ ap (λ (l : List ℕ). name_column l a.number a.second) (part_there a.source.now a.line c.line_start-from.ensures c.line_end-end.ensures)
+
+-- MANUAL: -- no goal slice-bounds-name-column-end
+-- MANUAL: part_end : tie.Need-slice-bounds-name-column-end
+-- MANUAL: part_end c =
+-- MANUAL:     let a = c.before.before.before.args in
+-- MANUAL:     let h : c.line-end.result ≤ length a.source.now = part_within a.source.now a.line c.before.line-start.ensures c.line-end.ensures in
+-- MANUAL:     search rules

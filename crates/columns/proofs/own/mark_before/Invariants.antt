@@ -1,0 +1,14 @@
+-- The loop's invariant: what stands before the name stands before the place that the loop has come to (Found).
+use mathlib.Core.Path.{◌≡◌, refl, sym, ◌∙◌}
+use native.Mathlib.Omega.{arith}
+use borrow.Author.Tests.{not-true, not-false}
+use borrow.Author.Rules.{rules}
+use Rattle.columns.specs.Columns.{mark_before}
+use Rattle.columns.proofs.Found.{blank-before, mark-stands, none_before}
+use Rattle.columns.proofs.own.mark_before.Given as goal
+
+abbrev pub invariant-loop-at : goal.invariant-loop-at
+invariant-loop-at l = mark_before l.line l.name ≡ mark_before l.line l.at
+
+abbrev pub decreases-loop-at : goal.decreases-loop-at
+decreases-loop-at l = l.at

@@ -1,0 +1,11 @@
+-- The tokens behind the label are what `label` found, and the failure's place is found from there.
+use mathlib.Core.Path.{◌∙◌}
+use Rattle.columns.proofs.Found.{failure_at}
+use borrow.Author.Rules.{rules}
+use Rattle.columns.proofs.pointing.failure_column.Goals as goal
+
+-- CONV: no step: c.before.IsPlace-in.ensures []
+pub returns : goal.returns
+returns c =
+    let a = c.args in
+    c.column_at.ensures ∙ failure_at a.line.now c.label-found.result.word c.label-found.ensures.behind a.why c.IsPlace-in.ensures

@@ -1,0 +1,36 @@
+-- Nothing for a column that the line does not have; else both lines (`line-shown`).
+use native.Mathlib.Omega.{arith}
+use lib.ListN.{length}
+use Rattle.desk.proofs.Shown.{from-within, nowhere-shown, outside-shown, line-shown}
+use borrow.Author.Rules.{rules}
+use Rattle.desk.proofs.excerpts.excerpt.Goals as goal
+
+pub returns-then-column-eq0 : goal.returns-then-column-eq0
+returns-then-column-eq0 c =
+    nowhere-shown c.args.room.now c.args.line.now c.args.column (omega arith)
+
+pub returns-then-line-place : goal.returns-then-line-place
+returns-then-line-place c =
+    outside-shown c.args.room.now c.args.line.now c.args.column (omega arith) (omega arith)
+
+pub shown_end-end-requires : goal.shown_end-end-requires
+shown_end-end-requires c =
+    omega (arith, from-within (length c.args.line.now) c.args.column (omega arith) (omega arith))
+
+pub overflow_sub-place-2 : goal.overflow_sub-place-2
+overflow_sub-place-2 c =
+    omega (arith, from-within (length c.args.line.now) c.args.column (omega arith) (omega arith))
+
+pub put_caret-requires : goal.put_caret-requires
+put_caret-requires c =
+    omega (arith, from-within (length c.args.line.now) c.args.column (omega arith) (omega arith))
+
+-- CONV: whole record: c.before.before.before.before.before.before
+pub returns : goal.returns
+returns c =
+    let at-put-part = c in
+    let at-shown-end = at-put-part.before.before.before in
+    let at-shown-from = at-shown-end.before in
+    let start = at-shown-from.before.before.before.before.before in
+    line-shown start.args.room.now start.args.line.now start.args.column (omega arith) (omega arith)
+    at-shown-from.shown-from.ensures at-shown-end.shown-end.ensures at-put-part.put-part.ensures c.put_caret.ensures

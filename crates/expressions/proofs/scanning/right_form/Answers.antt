@@ -1,0 +1,45 @@
+-- The form of the row from the cursor on stays that of the rest, with what is next and the height; a token more takes a byte at least.
+use borrow.Author.Rules.{rules}
+use Prim.Native.Nat.{◌-◌, ◌≤◌}
+use mathlib.Core.Bool.{true}
+use mathlib.Core.Path.{◌≡◌, refl, sym, ◌∙◌}
+use native.Mathlib.Omega.{arith}
+use lib.ListN.{length}
+use Rattle.tokens.specs.Reading.{tokens_from}
+use Rattle.expressions.specs.Inner.Scanning.{right_form}
+use Rattle.expressions.proofs.Scans.{scan_ended, scan_wrong, scan-on, scan_moves}
+use Rattle.expressions.proofs.scanning.right_form.Goals as goal
+
+pub loop-kind-init : goal.loop-kind-init
+loop-kind-init c = (omega arith, omega arith, refl)
+
+pub returns-then-is_end : goal.returns-then-is_end
+returns-then-is_end c =
+    c.may_end.ensures
+    ∙ sym (c.loop-kind.invariant.2 ∙ scan_ended c.args.s.now c.loop-kind.at c.loop-kind.operand c.loop-kind.height c.next_token-t.ensures c.is_end.ensures c.if-is_end.true)
+
+pub returns-in-Wrong : goal.returns-in-Wrong
+returns-in-Wrong c =
+    sym
+    (c.loop-kind.invariant.2
+    ∙ scan_wrong c.args.s.now c.loop-kind.at c.loop-kind.operand c.loop-kind.height c.next_token-t.ensures c.is_end.ensures
+    c.symbol_of.ensures c.scan_step.ensures c.if-is_end.false c.in-Wrong.is)
+
+pub loop-kind-smaller : goal.loop-kind-smaller
+loop-kind-smaller c =
+    let m =
+    scan_moves c.args.s.now c.loop-kind.at c.loop-kind.operand c.loop-kind.height c.next_token-t.ensures c.is_end.ensures
+    c.symbol_of.ensures c.scan_step.ensures c.in-On.is in
+    omega arith
+
+pub loop-kind-preserved : goal.loop-kind-preserved
+loop-kind-preserved c =
+    let m =
+    scan_moves c.args.s.now c.loop-kind.at c.loop-kind.operand c.loop-kind.height c.next_token-t.ensures c.is_end.ensures
+    c.symbol_of.ensures c.scan_step.ensures c.in-On.is in (
+      omega arith,
+      omega arith,
+      c.loop-kind.invariant.2
+          ∙ scan-on c.args.s.now c.loop-kind.at c.loop-kind.operand c.loop-kind.height c.next_token-t.ensures c.is_end.ensures
+          c.symbol_of.ensures c.scan_step.ensures c.in-On.is,
+    )

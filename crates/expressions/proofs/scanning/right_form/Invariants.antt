@@ -1,0 +1,17 @@
+-- The form of the row from the cursor on stays that of the rest, with what is next and the height; a token more takes a byte at least.
+use borrow.Author.Rules.{rules}
+use Prim.Native.Nat.{◌-◌, ◌≤◌}
+use mathlib.Core.Bool.{true}
+use mathlib.Core.Path.{◌≡◌, refl, sym, ◌∙◌}
+use native.Mathlib.Omega.{arith}
+use lib.ListN.{length}
+use Rattle.tokens.specs.Reading.{tokens_from}
+use Rattle.expressions.specs.Inner.Scanning.{right_form}
+use Rattle.expressions.proofs.Scans.{scan_ended, scan_wrong, scan-on, scan_moves}
+use Rattle.expressions.proofs.scanning.right_form.Given as goal
+
+abbrev pub invariant-loop-kind : goal.invariant-loop-kind
+invariant-loop-kind l = (l.height ≤ l.operand) × (l.height ≤ length l.s) × (right_form (tokens_from l.s l.start) true 0 ≡ right_form (tokens_from l.s l.operand) l.initial.height l.height)
+
+abbrev pub decreases-loop-kind : goal.decreases-loop-kind
+decreases-loop-kind l = length l.s - l.operand

@@ -1,0 +1,28 @@
+-- What is measured and what is left to measure are the whole (`left-length`).
+use borrow.Author.Rules.{rules}
+use native.Mathlib.Omega.{arith}
+use mathlib.Core.Path.{◌≡◌, ap}
+use Prim.Native.Nat.{◌+◌, ◌-◌}
+use lib.ListN.{length}
+use Rattle.image.specs.Inner.Pieces.{cells_text}
+use Rattle.image.proofs.Texts.{left, left-length, left-none, cells-bound}
+use Rattle.image.proofs.lengths.cells_length.Goals as goal
+
+pub overflow_add-n : goal.overflow_add-n
+overflow_add-n c =
+    let a = c.args in
+    omega (
+      arith,
+      cells-bound a.memory.now a.map.now,
+      left-length a.memory.now a.map.now c.loop-i.i (omega arith),
+    )
+
+pub loop-i-preserved : goal.loop-i-preserved
+loop-i-preserved c =
+    let a = c.args in
+    omega (arith, left-length a.memory.now a.map.now c.loop-i.i (omega arith))
+
+pub returns : goal.returns
+returns c =
+    let a = c.args in
+    omega (arith, ap length (left-none a.memory.now a.map.now c.loop-i.i c.loop-i-test.false))

@@ -1,0 +1,15 @@
+-- What is measured and what is left to measure are the whole (`left-length`).
+use borrow.Author.Rules.{rules}
+use native.Mathlib.Omega.{arith}
+use mathlib.Core.Path.{◌≡◌, ap}
+use Prim.Native.Nat.{◌+◌, ◌-◌}
+use lib.ListN.{length}
+use Rattle.image.specs.Inner.Pieces.{cells_text}
+use Rattle.image.proofs.Texts.{left, left-length, left-none, cells-bound}
+use Rattle.image.proofs.lengths.cells_length.Given as goal
+
+abbrev pub invariant-loop-i : goal.invariant-loop-i
+invariant-loop-i l = l.initial.i + length (left l.memory l.map l.i) ≡ length (cells_text l.memory l.map)
+
+abbrev pub decreases-loop-i : goal.decreases-loop-i
+decreases-loop-i l = length l.map - l.i

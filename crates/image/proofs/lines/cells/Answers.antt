@@ -1,0 +1,30 @@
+-- Writing what is left behind what is written is writing all of it (`writing_more`).
+use borrow.Author.Rules.{rules}
+use native.Mathlib.Omega.{arith}
+use mathlib.Core.Path.{refl}
+use Prim.Native.Nat.{◌-◌}
+use lib.ListN.{length}
+use Rattle.image.proofs.Texts.{left, left-length}
+use Rattle.image.proofs.Rooms.{Writing, writing_more, writing-end}
+use Rattle.image.proofs.lines.cells.Goals as goal
+
+pub loop-i-init : goal.loop-i-init
+loop-i-init c = (refl, refl, refl)
+
+pub cell-at-requires : goal.cell-at-requires
+cell-at-requires c =
+    let a = c.args in
+    omega (arith, left-length a.memory.now a.map.now c.loop-i.i (omega arith))
+
+pub loop-i-preserved : goal.loop-i-preserved
+loop-i-preserved c =
+    let a = c.args in
+    writing_more a.room.now a.from a.memory.now a.map.now _ c.loop-i.at
+    c.loop-i.i c.loop-i.invariant
+    (omega arith) (omega arith) c.cell-at.ensures (omega arith)
+
+pub returns : goal.returns
+returns c =
+    let a = c.args in
+    writing-end a.room.now a.from a.memory.now a.map.now _ c.loop-i.at c.loop-i.i c.loop-i.invariant
+    c.loop-i-test.false

@@ -1,0 +1,15 @@
+-- Writing what is left behind what is written is writing all of it (`writing_more`).
+use borrow.Author.Rules.{rules}
+use native.Mathlib.Omega.{arith}
+use mathlib.Core.Path.{refl}
+use Prim.Native.Nat.{◌-◌}
+use lib.ListN.{length}
+use Rattle.image.proofs.Texts.{left, left-length}
+use Rattle.image.proofs.Rooms.{Writing, writing_more, writing-end}
+use Rattle.image.proofs.lines.cells.Given as goal
+
+abbrev pub invariant-loop-i : goal.invariant-loop-i
+invariant-loop-i l = Writing l.initial.room l.room l.from l.memory l.at l.initial.i l.i
+
+abbrev pub decreases-loop-i : goal.decreases-loop-i
+decreases-loop-i l = length l.memory - l.i

@@ -1,0 +1,6 @@
+-- By the flag.
+use borrow.Author.Rules.{rules}
+use Rattle.items.proofs.reading.reply.Goals as goal
+
+pub returns-then-fit : goal.returns-then-fit
+returns-then-fit c = rw c.if-fit.true

@@ -1,0 +1,16 @@
+-- The loop's invariant: what is left of the string at `i`, written from `at + n` on, gives what the whole string gives (Writes.antt); and
+-- no more cells are written than bytes passed. The measure is what is left of the line.
+use borrow.Author.Rules.{rules}
+use Prim.Native.Nat.{◌+◌, ◌-◌, ◌≤◌}
+use mathlib.Core.Path.{◌≡◌, refl, sym, ◌∙◌}
+use native.Mathlib.Omega.{arith}
+use lib.ListN.{length}
+use Rattle.items.proofs.Counts.{character_moves}
+use Rattle.items.proofs.Writes.{Left, string-start, string_on, string-closed, string-broken, string-over}
+use Rattle.items.proofs.writing.write_string.Given as goal
+
+abbrev pub invariant-loop-i : goal.invariant-loop-i
+invariant-loop-i l = (l.n ≤ l.initial.n) × (length l.i ≡ length l.initial.row) × Left l.s l.from l.initial.row (l.row + l.at) l.initial.n l.i (l.row + l.n)
+
+abbrev pub decreases-loop-i : goal.decreases-loop-i
+decreases-loop-i l = length l.s - l.initial.n

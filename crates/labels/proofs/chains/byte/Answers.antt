@@ -1,0 +1,8 @@
+use mathlib.Core.Path.{sym}
+use Prim.Native.Nat.{◌-◌}
+use lib.ListN.{get_or-eq_default}
+use borrow.Author.Rules.{rules}
+use Rattle.labels.proofs.chains.byte.Goals as goal
+
+pub returns : goal.returns
+returns c = sym (get_or-eq_default (c.args.s.now) 0 (c.if-i-s.false))

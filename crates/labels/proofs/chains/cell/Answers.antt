@@ -1,0 +1,11 @@
+use mathlib.Core.Path.{sym}
+use lib.ListN.{get_or-eq_default}
+use native.Mathlib.Omega.{arith}
+use borrow.Author.Rules.{rules}
+use Rattle.labels.proofs.chains.cell.Goals as goal
+
+pub overflow_cast-result : goal.overflow_cast-result
+overflow_cast-result c = omega (arith, c.shared_slice_known-1.given c.args.i)
+
+pub returns : goal.returns
+returns c = sym (get_or-eq_default c.args.row.now 0 c.if-i-row.false)

@@ -1,0 +1,9 @@
+use Rattle.machine.proofs.Answers.{refused-left}
+use borrow.Author.Rules.{rules}
+use Rattle.machine.proofs.lent.printed.Goals as goal
+
+pub returns-in-To : goal.returns-in-To
+returns-in-To c = λ m out out' l h. rw c.in-To.is (c.go_on.ensures m m out out' c.args.taken c.args.written l)
+
+pub returns-in-Short : goal.returns-in-Short
+returns-in-Short c = λ m out out' l h. rw (c.answered.ensures, h _ c.in-Short.is, c.in-Short.is) (refused-left _ m out c.args.taken c.args.written _)

@@ -1,0 +1,17 @@
+-- The tests are the two of the definition. Assumes nothing.
+use borrow.Author.Tests.{le-leb, lt-leb}
+use borrow.Author.Rules.{rules}
+use Rattle.names.specs.Names.{capital}
+use Rattle.names.proofs.lookup.capital_of.Goals as goal
+
+pub returns-then-b-lt97 : goal.returns-then-b-lt97
+unfolding capital
+returns-then-b-lt97 c = rw (lt-leb 97 _ c.if-b-lt97.true)
+
+pub returns-then-b-gt122 : goal.returns-then-b-gt122
+unfolding capital
+returns-then-b-gt122 c = rw (le-leb 97 _ c.if-b-lt97.false, lt-leb _ 122 c.if-b-gt122.true)
+
+pub returns : goal.returns
+unfolding capital
+returns c = rw (le-leb 97 _ c.if-b-lt97.false, le-leb _ 122 c.if-b-gt122.false)

@@ -1,0 +1,16 @@
+-- The loop holds the number of the bytes from its place on, which so few bytes keep below 48 bits. Assumes nothing.
+use borrow.Author.Rules.{rules}
+use Prim.Native.Nat.{◌-◌, ◌≤◌, ◌<◌}
+use mathlib.Core.List.{map}
+use mathlib.Core.Path.{◌≡◌, sym, ◌∙◌}
+use native.Mathlib.Omega.{arith}
+use lib.Seq.{slice, slice_empty}
+use Rattle.names.specs.Inner.Packing.{pack, digit}
+use Rattle.names.proofs.Packs.{number-none, number-long, number_short, room, room_six, room-step, pack-step}
+use Rattle.names.proofs.lookup.packed_within.Given as goal
+
+abbrev pub invariant-loop-i : goal.invariant-loop-i
+invariant-loop-i l = (l.start ≤ l.i) × (l.i ≤ l.end) × (l.initial.i < room (l.end - l.i)) × (l.initial.i ≡ pack (map digit (slice l.i l.end l.s)))
+
+abbrev pub decreases-loop-i : goal.decreases-loop-i
+decreases-loop-i l = l.i

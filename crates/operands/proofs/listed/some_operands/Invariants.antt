@@ -1,0 +1,19 @@
+-- One turn of the loop reads one operand; what is left to read is listed as before (Lists).
+use borrow.Author.Rules.{rules}
+use Prim.Native.Nat.{◌-◌}
+use mathlib.Core.Path.{◌≡◌, refl, sym, ap, subst, ◌∙◌}
+use native.Mathlib.Omega.{arith}
+use lib.ListN.{length}
+use Rattle.tokens.specs.Reading.{tokens_from}
+use Rattle.operands.specs.Reading.{operand, walk}
+use Rattle.operands.specs.Inner.Peeks.{Goes, listed}
+use Rattle.operands.specs.declared.ListRead.TheVariants as L
+use Rattle.operands.specs.declared.OperandRead.{OperandRead}
+use Rattle.operands.proofs.Lists.{some-wrong, some-over, some-neither, some-comma}
+use Rattle.operands.proofs.listed.some_operands.Given as goal
+
+abbrev pub invariant-loop-o : goal.invariant-loop-o
+invariant-loop-o l = listed l.at (walk l.s operand (tokens_from l.s l.initial.at)) ≡ listed l.all (walk l.s operand (tokens_from l.s l.initial.all))
+
+abbrev pub decreases-loop-o : goal.decreases-loop-o
+decreases-loop-o l = length l.s - l.initial.all

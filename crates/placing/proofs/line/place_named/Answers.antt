@@ -1,0 +1,67 @@
+-- The label's refusal is the line's; behind a label that passes, the line is its statement.
+use borrow.Author.Rules.{rules}
+use Prim.Native.Nat.{◌+◌, ◌-◌}
+use mathlib.Core.Path.{sym, ap, subst, ◌∙◌}
+use native.Mathlib.Omega.{arith}
+use lib.ListN.{length}
+use Rattle.values.specs.declared.LabelIn.TheVariants.{Named}
+use Rattle.statements.specs.declared.LineRead.{LineRead}
+use Rattle.sources.specs.Placing.{labelled}
+use Rattle.sources.specs.Inner.Assembling.{label_verdict}
+use Rattle.labels.specs.Inner.Labels.{words}
+use Rattle.labels.proofs.Laws.{length-words}
+use Rattle.placing.specs.Inner.State.{place_in, FairDid}
+use Rattle.placing.specs.declared.Did.TheVariants.{No}
+use Rattle.placing.proofs.LabelLaws.{label-within}
+use Rattle.placing.proofs.LineLaws.{as_read, tells_by, label-fails, named_placed}
+use Rattle.placing.proofs.line.place_named.Goals as goal
+
+pub declare-requires : goal.declare-requires
+declare-requires c =
+    let a = c.args in
+    let p = c.requires in
+    let w = label-within a.line.now (ap (λ (r : LineRead). r.label) (sym p.3) ∙ p.6) in
+    (p.0, p.1.starts-long, p.1.keys_long, w.0, w.1, omega (arith, w.1, p.4), p.5)
+
+pub place_statement-requires : goal.place_statement-requires
+place_statement-requires c =
+    let p = c.requires in
+    (subst FairDid c.in-Go.is c.declare.ensures.0, p.1.values_long, p.2)
+
+pub returns-in-No : goal.returns-in-No
+returns-in-No c =
+    let a = c.args in
+    let p = c.requires in
+    let d = c.declare in
+    let starts = d.new.1.1.1.0 in
+    let keys = d.new.1.1.1.1.0 in
+    let place = place_in a.s.now a.starts.now a.keys.now a.values.now a.marks.now a.c in
+    let f = c.f-1.given in (
+      tt,
+      λ k. as_read (length a.marks.now) k place a.line.now (λ z. place) (No f.0.0) p.3
+          (label-fails (length a.marks.now) k place (record { bytes = a.line.now; read = a.read }) p.6
+          (tells_by k (label_verdict k place a.line.now (Named a.n)) (labelled place a.line.now (Named a.n))
+          (place_in a.s.now starts keys a.values.now a.marks.now) f.1 (d.ensures.1 k a.values.now a.marks.now p.1.values_long))),
+    )
+
+pub returns-in-Go : goal.returns-in-Go
+returns-in-Go c =
+    let a = c.args in
+    let p = c.requires in
+    let d = c.declare in
+    let starts = d.new.1.1.1.0 in
+    let keys = d.new.1.1.1.1.0 in
+    let place = place_in a.s.now a.starts.now a.keys.now a.values.now a.marks.now a.c in
+    let g = c.d-1.given in
+    let fair = subst FairDid g.1 d.ensures.0 in
+    let n = g.0.0.bound + g.0.0.waiting in
+    let e = c.place_statement in
+    let long = length-words a.s.now starts keys n in (
+      e.ensures.0,
+      λ k. as_read (length a.marks.now) k place a.line.now (place_in a.s.now starts keys e.new.0 e.new.1.0) e.result p.3
+          (named_placed (length a.marks.now) k a.s.now a.starts.now a.keys.now starts keys a.values.now a.marks.now
+          e.new.0 e.new.1.0 a.line.now a.c a.read g.0.0 e.result p.6
+          (tells_by k (label_verdict k place a.line.now (Named a.n)) (labelled place a.line.now (Named a.n))
+          (place_in a.s.now starts keys a.values.now a.marks.now) g.1 (d.ensures.1 k a.values.now a.marks.now p.1.values_long))
+          e.ensures.1 (e.ensures.2 k (words a.s.now starts keys n) long)),
+    )

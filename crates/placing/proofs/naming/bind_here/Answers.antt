@@ -1,0 +1,14 @@
+-- Where none waits, nothing is to be done.
+use borrow.Author.Rules.{rules}
+use mathlib.Core.Path.{refl}
+use native.Mathlib.Omega.{arith}
+use Rattle.placing.proofs.PlaceLaws.{none-waits}
+use Rattle.placing.proofs.naming.bind_here.Goals as goal
+
+pub returns-then-c-eq0 : goal.returns-then-c-eq0
+returns-then-c-eq0 c =
+    let a = c.args in
+    (c.requires.0, refl, refl, λ ws ms l. none-waits a.c ws _ ms a.c.at.0 l c.if-c-eq0.true)
+
+pub overflow_cast-at : goal.overflow_cast-at
+overflow_cast-at c = omega (arith, c.requires.2 (omega arith))

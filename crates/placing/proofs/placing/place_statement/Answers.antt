@@ -1,0 +1,19 @@
+-- What fails has its own number; what passes is placed.
+use borrow.Author.Rules.{rules}
+use lib.ListN.{length}
+use Rattle.placing.specs.Inner.State.{state_of}
+use Rattle.placing.proofs.LineLaws.{own-fails, own-passes}
+use Rattle.placing.proofs.placing.place_statement.Goals as goal
+
+pub returns-in-Fails : goal.returns-in-Fails
+returns-in-Fails c = (tt, tt, λ k ws l. own-fails k _ c.in-Fails.is c.number_of.ensures)
+
+pub returns-in-Passes : goal.returns-in-Passes
+returns-in-Passes c =
+    let a = c.args in
+    let e = c.place in (
+      e.ensures.0,
+      e.ensures.1,
+      λ k ws l. own-passes (length a.marks.now) k (state_of ws a.values.now a.marks.now a.c) (state_of ws e.new.0 e.new.1.0)
+          e.result c.in-Passes.is c.act-a.ensures.0 (e.ensures.2 k ws l),
+    )

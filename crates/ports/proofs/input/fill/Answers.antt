@@ -1,0 +1,26 @@
+-- Each turn copies one byte more (`copy_more`), and the 0 cell is one element more at the end (`copy-last`).
+use mathlib.Core.Path.{sym}
+use Prim.Native.Nat.{◌+◌, ◌-◌}
+use native.Mathlib.Omega.{arith}
+use borrow.Author.Rules.{rules}
+use lib.ListN.{drop, length-drop}
+use lib.Seq.{get_or-drop}
+use Rattle.ports.proofs.Overwrites.{copy_last, Copied, copy_none, copy_more}
+use Rattle.ports.proofs.input.fill.Goals as goal
+
+pub loop-k-init : goal.loop-k-init
+loop-k-init c = copy_none _ _ (drop c.args.from c.args.input.now) _
+
+pub overflow_cast-m : goal.overflow_cast-m
+overflow_cast-m c = omega (arith, c.shared_slice_known-1.given (c.args.from + c.loop-k.k))
+
+pub loop-k-preserved : goal.loop-k-preserved
+loop-k-preserved c =
+    let a = c.args in
+    copy_more _ _ (drop a.from a.input.now) _ _ _ _ c.loop-k.invariant (omega arith) (omega arith)
+    (omega (arith, length-drop a.from a.input.now)) (sym (get_or-drop a.from a.input.now _ 0))
+
+pub returns : goal.returns
+returns c =
+    let a = c.args in
+    copy_last _ _ (drop a.from a.input.now) _ _ _ 0 c.loop-k.invariant (omega arith) (omega arith) (omega (arith, length-drop a.from a.input.now))

@@ -1,0 +1,15 @@
+-- The test is the one of the meaning; a byte is a cell.
+use mathlib.Core.Path.{sym}
+use native.Mathlib.Omega.{arith}
+use borrow.Author.Rules.{rules}
+use Rattle.ports.proofs.Outcomes.{byte-none, byte-taken}
+use Rattle.ports.proofs.input.take_byte.Goals as goal
+
+pub overflow_cast-result : goal.overflow_cast-result
+overflow_cast-result c = omega (arith, c.shared_slice_known-1.given c.args.at)
+
+pub returns-then-at-input : goal.returns-then-at-input
+returns-then-at-input c = sym (byte-taken _ _ c.if-at-input.true)
+
+pub returns-else-at-input : goal.returns-else-at-input
+returns-else-at-input c = sym (byte-none _ _ c.if-at-input.false)

@@ -1,0 +1,15 @@
+-- A turn passes eight cells none of which is 0, so that what is left of the string is eight shorter.
+use mathlib.Core.Path.{◌≡◌, refl}
+use Prim.Native.Nat.{◌+◌, ◌-◌}
+use native.Mathlib.Omega.{arith}
+use borrow.Author.Rules.{rules}
+use borrow.Author.Tests.{not-false}
+use lib.ListN.{length, drop}
+use Rattle.ports.specs.Output.{string_of}
+use Rattle.ports.proofs.output.past_full.Given as goal
+
+abbrev pub invariant-loop-i : goal.invariant-loop-i
+invariant-loop-i l = l.i + length (string_of (drop l.i l.m)) ≡ l.from + length (string_of (drop l.from l.m))
+
+abbrev pub decreases-loop-i : goal.decreases-loop-i
+decreases-loop-i l = length l.m - l.i

@@ -1,0 +1,18 @@
+-- Line behind line: what is written is the lines so far (`cells-more`).
+use mathlib.Core.Path.{◌≡◌, refl}
+use lib.ListN.{length}
+use native.Mathlib.Omega.{arith}
+use borrow.Author.Rules.{rules}
+use Prim.Native.Nat.{◌+◌, ◌*◌, ◌-◌, ◌≤◌}
+use Rattle.texts.specs.Lines.{text_of}
+use Rattle.texts.specs.Inner.Wrote.{Wrote}
+use Rattle.texts.proofs.Rooms.{wrote_none}
+use Rattle.record.specs.Inner.Cells.{lines_from}
+use Rattle.record.proofs.Texts.{cells-more}
+use Rattle.record.proofs.lines.cells.Given as goal
+
+abbrev pub invariant-loop-k : goal.invariant-loop-k
+invariant-loop-k l = (l.k ≤ l.from) × (length l.next ≡ length l.initial.room) × (Wrote l.initial.room l.room (text_of (lines_from l.at l.n l.names l.k)) l.next l.initial.k × (l.initial.k ≤ l.room + 20 * l.k))
+
+abbrev pub decreases-loop-k : goal.decreases-loop-k
+decreases-loop-k l = l.from - l.k

@@ -1,0 +1,9 @@
+-- No more are counted than were passed.
+use Rattle.std.proofs.Common.{◌≡◌, ◌-◌, ◌≤◌, length, ⊎_elim, arith, rules}
+use Rattle.replay.proofs.memory.marked.Given as goal
+
+abbrev pub invariant-loop-i : goal.invariant-loop-i
+invariant-loop-i l = (l.i-end ≤ i-end) × (i-end ≡ length l.map) × (l.i ≤ l.i-end)
+
+abbrev pub decreases-loop-i : goal.decreases-loop-i
+decreases-loop-i l = i-end - l.i-end

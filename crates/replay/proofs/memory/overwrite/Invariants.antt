@@ -1,0 +1,9 @@
+-- The memory keeps its length. The measure is how many pairs are left.
+use Rattle.std.proofs.Common.{◌≡◌, ◌-◌, ◌≤◌, length, rules}
+use Rattle.replay.proofs.memory.overwrite.Given as goal
+
+abbrev pub invariant-loop : goal.invariant-loop
+invariant-loop l = (l.counter ≤ l.at) × (length l.next ≡ length l.initial.m)
+
+abbrev pub decreases-loop : goal.decreases-loop
+decreases-loop l = l.at - l.counter

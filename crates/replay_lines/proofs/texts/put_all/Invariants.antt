@@ -1,0 +1,12 @@
+-- The room keeps its length. The measure is what is left of the text.
+use borrow.Author.Rules.{rules}
+use Prim.Native.Nat.{◌≤◌, ◌-◌}
+use lib.ListN.{length}
+use mathlib.Core.Path.{◌≡◌}
+use Rattle.replay_lines.proofs.texts.put_all.Given as goal
+
+abbrev pub invariant-loop-i : goal.invariant-loop-i
+invariant-loop-i l = (l.i-end ≤ i-end) × (i-end ≡ length l.at) × (length l.initial.i ≡ length l.initial.out)
+
+abbrev pub decreases-loop-i : goal.decreases-loop-i
+decreases-loop-i l = i-end - l.i-end

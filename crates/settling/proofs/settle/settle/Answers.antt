@@ -1,0 +1,81 @@
+-- All labels before the i-th pass, their words are in their cells, and the last of them is on the line kept.
+use borrow.Author.Rules.{rules}
+use native.Mathlib.Omega.{arith}
+use mathlib.Core.List.{List}
+use mathlib.Core.Path.{◌≡◌, refl, sym, ap, ◌∙◌}
+use Prim.Native.Nat.{ℕ, ◌+◌, ◌*◌, ◌-◌, ◌≤◌}
+use lib.ListN.{length, get_or, set}
+use Rattle.sources.specs.Order.{◌on◌}
+use Rattle.sources.specs.Inner.Assembling.{passes, uses_verdict, filled}
+use Rattle.labels.specs.Inner.Labels.{labels_in}
+use Rattle.uses.specs.Inner.Held.{uses_held}
+use Rattle.settling.proofs.Laws.{Second, nothing-held, nothing-before, nothing-filled, one_passes, one-before, all-refused, one-filled}
+use Rattle.settling.proofs.settle.settle.Goals as goal
+
+pub loop-i-init : goal.loop-i-init
+loop-i-init c = (omega arith, nothing-held _ _ _ _, sym (nothing-filled _ _ _ _ _), refl, nothing-before _ _ _ _)
+
+pub overflow_cast-start : goal.overflow_cast-start
+overflow_cast-start c = omega (arith, c.shared_slice_known-in-loop-i-1.given (4 * c.loop-i.i))
+
+pub overflow_cast-size : goal.overflow_cast-size
+overflow_cast-size c = omega (arith, c.shared_slice_known-in-loop-i-2-1.given (4 * c.loop-i.i + 1))
+
+pub overflow_cast-cell : goal.overflow_cast-cell
+overflow_cast-cell c = omega (arith, c.shared_slice_known-in-loop-i-3-1.given (4 * c.loop-i.i + 2))
+
+pub overflow_cast-line : goal.overflow_cast-line
+overflow_cast-line c = omega (arith, c.shared_slice_known-in-loop-i-4-1.given (4 * c.loop-i.i + 3))
+
+pub overflow_cast-away : goal.overflow_cast-away
+overflow_cast-away c = omega (arith, c.shared_slice_known-in-loop-i-5-1.given c.loop-i.i)
+
+pub word-requires : goal.word-requires
+word-requires c =
+    let i = c.loop-i.i in
+    let known = c.shared_slice_known-in-loop-i-4-1.given in (
+      omega (arith, known (4 * i)),
+      omega (arith, known (4 * i + 1)),
+      c.requires.0,
+      omega (arith, known (4 * i + 2)),
+      omega (arith, c.shared_slice_known-in-loop-i-5-1.given i),
+    )
+
+pub shape_of-cells-in-No : goal.shape_of-cells-in-No
+shape_of-cells-in-No c = c.loop-i.invariant.3
+
+pub returns-in-No : goal.returns-in-No
+returns-in-No c =
+    let a = c.args in
+    let bs = labels_in a.s.now a.starts.now a.keys.now a.values.now a.count in
+    let w = c.word in
+    all-refused bs a.s.now a.row.now a.aways.now c.loop-i.i a.uses c.in-No.f c.loop-i.before w.result
+    c.loop-i-test.true c.loop-i.invariant.1 c.loop-i.invariant.4 w.ensures c.in-No.is
+
+pub loop-i-preserved : goal.loop-i-preserved
+loop-i-preserved c =
+    let a = c.args in
+    let bs = labels_in a.s.now a.starts.now a.keys.now a.values.now a.count in
+    let i = c.loop-i.i in
+    let w = c.word in
+    let x = c.in-Is.w in (
+      omega (arith, c.loop-i-test.true),
+      one_passes bs a.s.now a.row.now a.aways.now i x w.result w.ensures c.in-Is.is c.loop-i.invariant.1,
+      c.put.ensures
+          ∙ ap (λ (m : List ℕ). set m (get_or a.row.now (4 * i + 2) 0) x) c.loop-i.invariant.2
+          ∙ one-filled bs a.s.now a.row.now a.aways.now i x w.result w.ensures c.in-Is.is a.cells.now,
+      c.put.auto.0 ∙ c.loop-i.invariant.3,
+      one-before bs a.s.now a.row.now a.aways.now i x w.result w.ensures c.in-Is.is c.loop-i.before c.loop-i.invariant.4,
+    )
+
+pub shape_of-cells : goal.shape_of-cells
+shape_of-cells c = c.loop-i.invariant.3
+
+pub returns : goal.returns
+returns c =
+    let a = c.args in
+    let bs = labels_in a.s.now a.starts.now a.keys.now a.values.now a.count in
+    let q : c.loop-i.i ≡ a.uses = omega (arith, c.loop-i-test.false, c.loop-i.invariant.0) in (
+      ap (λ (n : ℕ). uses_verdict bs (uses_held a.s.now a.row.now a.aways.now n)) (sym q) ∙ c.loop-i.invariant.1,
+      c.loop-i.invariant.2 ∙ ap (λ (n : ℕ). filled bs (uses_held a.s.now a.row.now a.aways.now n) a.cells.now) q,
+    )

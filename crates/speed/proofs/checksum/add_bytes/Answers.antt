@@ -1,0 +1,33 @@
+-- As for words: the sum is below 1,000,003, so that 31 times it and a byte fit.
+use native.Mathlib.Omega.{arith}
+use Prim.Native.Nat.{◌≤◌, ◌<◌, ◌-◌}
+use lib.ListN.{length}
+use mathlib.Core.Path.{◌≡◌}
+use Rattle.speed.proofs.checksum.add_bytes.Goals as goal
+
+pub loop-i-init : goal.loop-i-init
+loop-i-init c = omega arith
+
+pub overflow_mul-sum : goal.overflow_mul-sum
+overflow_mul-sum c = omega arith
+
+pub bounds-bytes-i : goal.bounds-bytes-i
+bounds-bytes-i c = omega arith
+
+pub overflow_cast-sum : goal.overflow_cast-sum
+overflow_cast-sum c = omega (arith, c.shared_slice_known-1.given c.loop-i.i)
+
+pub overflow_add-sum : goal.overflow_add-sum
+overflow_add-sum c = omega (arith, c.shared_slice_known-1.given c.loop-i.i)
+
+pub overflow_step-i : goal.overflow_step-i
+overflow_step-i c = omega arith
+
+pub loop-i-smaller : goal.loop-i-smaller
+loop-i-smaller c = omega arith
+
+pub loop-i-preserved : goal.loop-i-preserved
+loop-i-preserved c = omega (arith, c.shared_slice_known-1.given c.loop-i.i)
+
+pub returns : goal.returns
+returns c = omega arith

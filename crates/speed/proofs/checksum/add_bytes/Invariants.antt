@@ -1,0 +1,12 @@
+-- As for words: the sum is below 1,000,003, so that 31 times it and a byte fit.
+use native.Mathlib.Omega.{arith}
+use Prim.Native.Nat.{◌≤◌, ◌<◌, ◌-◌}
+use lib.ListN.{length}
+use mathlib.Core.Path.{◌≡◌}
+use Rattle.speed.proofs.checksum.add_bytes.Given as goal
+
+abbrev pub invariant-loop-i : goal.invariant-loop-i
+invariant-loop-i l = (l.i-end ≤ i-end) × (i-end ≡ length l.bytes) × (l.i < 1000003)
+
+abbrev pub decreases-loop-i : goal.decreases-loop-i
+decreases-loop-i l = i-end - l.i-end

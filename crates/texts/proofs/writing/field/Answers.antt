@@ -1,0 +1,37 @@
+-- A text, and the places of a decimal behind it (`wrote-field`).
+use native.Mathlib.Omega.{arith}
+use lib.ListN.{length-append}
+use Rattle.numerals.specs.Writing.{decimal}
+use Rattle.texts.proofs.Rooms.{places, places-start, wrote_field}
+use borrow.Author.Rules.{rules}
+use Rattle.texts.proofs.writing.field.Goals as goal
+
+pub slice_bounds-put_text-count : goal.slice_bounds-put_text-count
+slice_bounds-put_text-count c = omega (arith, places-start _ c.unsigned_decimal-written.ensures)
+
+pub overflow_sub-result : goal.overflow_sub-result
+overflow_sub-result c = omega (arith, places-start _ c.unsigned_decimal-written.ensures)
+
+pub overflow_add-result : goal.overflow_add-result
+overflow_add-result c =
+    let a = c.args in
+    omega (
+      arith,
+      length-append a.text.now (decimal a.n),
+      places-start _ c.unsigned_decimal-written.ensures,
+    )
+
+pub returns : goal.returns
+returns c =
+    let a = c.args in
+    wrote_field a.n c.unsigned_decimal-written.ensures a.room.now a.at
+    a.text.now c.requires
+    c.put_text.ensures c.put_text-2.ensures
+
+-- MANUAL: -- no goal slice-bounds-put-text-start
+-- MANUAL: part-put-text-start : tie.Need-slice-bounds-put-text-start
+-- MANUAL: part-put-text-start c = omega (arith, places-start _ c.before.before.before.unsigned-decimal.ensures)
+
+-- MANUAL: -- no goal slice-bounds-put-text-end
+-- MANUAL: part-put-text-end : tie.Need-slice-bounds-put-text-end
+-- MANUAL: part-put-text-end c = omega (arith, (places _ c.before.before.before.unsigned-decimal.ensures).1)

@@ -1,0 +1,15 @@
+-- The loop keeps its place plus the line that is left there: that is where the line ends.
+use borrow.Author.Rules.{rules}
+use Prim.Native.Nat.{◌+◌, ◌-◌}
+use mathlib.Core.Path.{◌≡◌}
+use native.Mathlib.Omega.{arith}
+use lib.ListN.{length, drop}
+use Rattle.tokens.specs.Reading.{line_length}
+use Rattle.tokens.proofs.LinesOf.{line-more, line-stop, line-none}
+use Rattle.tokens.proofs.lines.line_end.Given as goal
+
+abbrev pub invariant-loop-i : goal.invariant-loop-i
+invariant-loop-i l = l.from + line_length (drop l.from l.s) ≡ l.i + line_length (drop l.i l.s)
+
+abbrev pub decreases-loop-i : goal.decreases-loop-i
+decreases-loop-i l = length l.s - l.i

@@ -1,0 +1,16 @@
+-- The loop keeps its place plus the blanks that are left there: that is where they end.
+use borrow.Author.Rules.{rules}
+use Prim.Native.Nat.{◌+◌, ◌-◌}
+use mathlib.Core.Path.{◌≡◌, sym, ◌∙◌}
+use native.Mathlib.Omega.{arith}
+use lib.ListN.{length, drop}
+use borrow.Author.Tests.{not-true, not-false}
+use Rattle.tokens.specs.Reading.{blanks}
+use Rattle.tokens.proofs.Blanks.{blanks-more, blanks-stop, blanks-none}
+use Rattle.tokens.proofs.tokens.skip.Given as goal
+
+abbrev pub invariant-loop-i : goal.invariant-loop-i
+invariant-loop-i l = l.from + blanks (drop l.from l.s) ≡ l.i + blanks (drop l.i l.s)
+
+abbrev pub decreases-loop-i : goal.decreases-loop-i
+decreases-loop-i l = length l.s - l.i

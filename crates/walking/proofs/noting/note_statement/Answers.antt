@@ -1,0 +1,83 @@
+-- An instruction that a line says: its labels lie within the line, and each operand that names one has a word.
+use borrow.Author.Rules.{rules}
+use native.Mathlib.Omega.{arith}
+use Prim.Native.Nat.{◌+◌, ◌≤◌, ◌<◌}
+use mathlib.Core.List.{◌++◌}
+use mathlib.Core.Path.{refl, sym, ap, subst, ◌∙◌}
+use Rattle.codes.specs.Limits.{most_cells}
+use Rattle.isa.proofs.Top.{few-operands}
+use Rattle.statements.specs.Judging.{claim_of}
+use Rattle.statements.specs.declared.StatementRead.TheVariants.{Passes}
+use Rattle.sources.specs.Uses.{uses_by}
+use Rattle.uses.specs.Inner.Held.{uses_held}
+use Rattle.walking.proofs.Notes.{none_named}
+use Rattle.walking.proofs.Said.{some_byte, first-placeable, second-placeable, uses-noted}
+use Rattle.walking.proofs.noting.note_statement.Goals as goal
+
+pub overflow_add-next : goal.overflow_add-next
+overflow_add-next c =
+    omega (arith, c.operand_count.ensures, few-operands c.in-Instruction.op, c.requires.3)
+
+pub overflow_add-next-in-Instruction : goal.overflow_add-next-in-Instruction
+overflow_add-next-in-Instruction c =
+    omega (arith, c.operand_count.ensures, few-operands c.in-Instruction.op, c.requires.3)
+
+pub note_operands-requires : goal.note_operands-requires
+note_operands-requires c =
+    let a = c.args in
+    let e = c.requires.0 ∙ ap Passes c.in-Instruction.is in
+    let n = c.operand_count.ensures in
+    let room = subst (λ (x : Statement). 0 < claim_of x → a.at + claim_of x ≤ most_cells) c.in-Instruction.is c.requires.4 (omega arith) in (
+      c.requires.5,
+      c.requires.2,
+      c.requires.3,
+      first-placeable a.line.now e a.from a.at c.requires.1 room n,
+      second-placeable a.line.now e a.from a.at c.requires.1 room n,
+    )
+
+pub returns-in-Instruction : goal.returns-in-Instruction
+returns-in-Instruction c =
+    let a = c.args in
+    let e = c.requires.0 ∙ ap Passes c.in-Instruction.is in (
+      λ s part. uses-noted a.line.now e s a.from a.number part a.at c.operand_count.ensures
+          (uses_held s a.row.now a.aways.now a.count) (c.note_operands.ensures.0 s)
+          ∙ ap (λ (x : Statement). uses_held s a.row.now a.aways.now a.count ++ uses_by a.number a.line.now a.at x) (sym c.in-Instruction.is),
+      c.note_operands.ensures.1,
+      omega (arith, c.note_operands.ensures.2, some_byte a.line.now e),
+    )
+
+pub returns-in-Nothing : goal.returns-in-Nothing
+unfolding uses_by
+returns-in-Nothing c =
+    let a = c.args in
+    (λ s part. none_named _ a.number a.at a.line.now c.in-Nothing.is refl, omega arith, omega arith)
+
+pub returns-in-Org : goal.returns-in-Org
+unfolding uses_by
+returns-in-Org c =
+    let a = c.args in
+    (λ s part. none_named _ a.number a.at a.line.now c.in-Org.is refl, omega arith, omega arith)
+
+pub returns-in-Equ : goal.returns-in-Equ
+unfolding uses_by
+returns-in-Equ c =
+    let a = c.args in
+    (λ s part. none_named _ a.number a.at a.line.now c.in-Equ.is refl, omega arith, omega arith)
+
+pub returns-in-Res : goal.returns-in-Res
+unfolding uses_by
+returns-in-Res c =
+    let a = c.args in
+    (λ s part. none_named _ a.number a.at a.line.now c.in-Res.is refl, omega arith, omega arith)
+
+pub returns-in-Data : goal.returns-in-Data
+unfolding uses_by
+returns-in-Data c =
+    let a = c.args in
+    (λ s part. none_named _ a.number a.at a.line.now c.in-Data.is refl, omega arith, omega arith)
+
+pub returns-in-End : goal.returns-in-End
+unfolding uses_by
+returns-in-End c =
+    let a = c.args in
+    (λ s part. none_named _ a.number a.at a.line.now c.in-End.is refl, omega arith, omega arith)

@@ -1,0 +1,43 @@
+-- By what the statement comes to.
+use borrow.Author.Rules.{rules}
+use native.Mathlib.Omega.{arith}
+use mathlib.Core.List.{append-nil}
+use mathlib.Core.Path.{refl, sym, ◌∙◌}
+use Rattle.uses.specs.Inner.Held.{uses_held}
+use Rattle.walking.proofs.Kept.{room-said, cells-read, uses-read}
+use Rattle.walking.proofs.walk.keep_line.Goals as goal
+
+pub returns-in-Fails : goal.returns-in-Fails
+returns-in-Fails c =
+    let a = c.args in
+    let e = c.in-Fails.is in (
+      cells-read a.line.now a.cells.now a.at e refl,
+      λ s part. uses-read (uses_held s a.row.now a.aways.now a.count) a.number a.line.now a.at e (sym (append-nil _)),
+      omega arith,
+      omega arith,
+    )
+
+pub write_statement-requires : goal.write_statement-requires
+write_statement-requires c =
+    (c.requires.0 ∙ c.in-Passes.is, c.requires.3)
+
+pub note_statement-requires : goal.note_statement-requires
+note_statement-requires c =
+    (
+      c.requires.0 ∙ c.in-Passes.is,
+      c.requires.1,
+      c.requires.2,
+      c.requires.3,
+      room-said c.args.at c.in-Passes.says c.in-Passes.is c.requires.4,
+      c.requires.5,
+    )
+
+pub returns-in-Passes : goal.returns-in-Passes
+returns-in-Passes c =
+    let a = c.args in
+    let e = c.in-Passes.is in (
+      cells-read a.line.now a.cells.now a.at e c.write_statement.ensures,
+      λ s part. uses-read (uses_held s a.row.now a.aways.now a.count) a.number a.line.now a.at e (c.note_statement.ensures.0 s part),
+      c.note_statement.ensures.1,
+      c.note_statement.ensures.2,
+    )

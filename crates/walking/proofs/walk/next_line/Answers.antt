@@ -1,0 +1,14 @@
+-- By what the line comes to; END's arm is said, so that another answer there fails by what it is.
+use mathlib.Core.Bool.{cond}
+use mathlib.Core.Path.{sym, ap, ◌∙◌}
+use borrow.Author.Rules.{rules}
+use Rattle.statements.specs.declared.StatementRead.{StatementRead}
+use Rattle.sources.specs.Inner.Assembling.{is_end, ends_it}
+use Rattle.walking.proofs.walk.next_line.Goals as goal
+
+pub returns-in-End : goal.returns-in-End
+returns-in-End c =
+    let s = c.args in
+    sym (
+    ap (λ (r : StatementRead). cond (ends_it r) s.total s.next) c.in-Passes.is
+    ∙ ap (λ (x : Statement). cond (is_end x) s.total s.next) c.in-End.is)

@@ -1,0 +1,196 @@
+-- The loop over the lines: `Left` holds at each turn, and each turn is a law of Walks.antt.
+use borrow.Author.Rules.{rules}
+use native.Mathlib.Omega.{arith}
+use Prim.Native.Nat.{◌+◌, ◌-◌, ◌≤◌}
+use mathlib.Core.Path.{refl, sym, ap, ◌∙◌}
+use lib.ListN.{length}
+use Rattle.statements.specs.declared.LineRead.{LineRead}
+use Rattle.placing.specs.Inner.State.{place_in}
+use Rattle.walking.proofs.Walks.{Left, left_at_start, end-within, line_part, further, line-fits, turns_over, turn-stops, turn-room, turn-goes}
+use Rattle.walking.proofs.walk.walk_lines.Goals as goal
+
+pub loop-from-init : goal.loop-from-init
+loop-from-init c =
+    let a = c.args in
+    let pre = c.requires in
+    left_at_start a.s.now a.starts.now a.keys.now a.values.now a.marks.now a.cells.now a.row.now a.aways.now
+    pre.rows.starts-long pre.rows.keys_long pre.rows.values_long pre.marks-empty pre.cells-empty
+
+pub overflow_add-number : goal.overflow_add-number
+overflow_add-number c =
+    omega (arith, c.loop-from.invariant.few-lines, c.loop-from-test.true, c.requires.short)
+
+pub place_line-requires : goal.place_line-requires
+place_line-requires c =
+    let e = c.line_end-end.ensures in
+    let test = c.loop-from-test.true in
+    let p = c.loop-from in
+    let a = c.args in
+    let s = a.s.now in
+    let m = length a.marks.now in
+    let pre = c.requires in
+    let i = p.invariant in (
+      i.fair,
+      record { starts-long = i.starts-long; keys_long = i.keys_long; values_long = i.values_long },
+      omega (arith, i.marks-long, pre.few-cells),
+      c.read_line-read.ensures,
+      line-fits m s p.starts p.keys p.values p.marks p.cells p.row p.aways (length a.cells.now) (length a.row.now)
+          (length a.aways.now) p.c p.from p.number p.uses p.invariant test e pre.short,
+      line_part s p.from c.line_end-end.result,
+    )
+
+pub shape_of-starts-in-No : goal.shape_of-starts-in-No
+shape_of-starts-in-No c =
+    c.place_line.auto.1.1.1.1.0 ∙ c.loop-from.invariant.starts-long ∙ sym c.requires.rows.starts-long
+
+pub shape_of-keys-in-No : goal.shape_of-keys-in-No
+shape_of-keys-in-No c =
+    c.place_line.auto.1.1.1.1.1.0 ∙ c.loop-from.invariant.keys_long ∙ sym c.requires.rows.keys_long
+
+pub shape_of-values-in-No : goal.shape_of-values-in-No
+shape_of-values-in-No c =
+    c.place_line.auto.1.1.1.1.1.1.0 ∙ c.loop-from.invariant.values_long ∙ sym c.requires.rows.values_long
+
+pub shape_of-marks-in-No : goal.shape_of-marks-in-No
+shape_of-marks-in-No c =
+    c.place_line.auto.1.1.1.1.1.1.1.0 ∙ c.loop-from.invariant.marks-long
+
+pub shape_of-cells-in-No : goal.shape_of-cells-in-No
+shape_of-cells-in-No c =
+    c.loop-from.invariant.cells-long
+
+pub shape_of-row-in-No : goal.shape_of-row-in-No
+shape_of-row-in-No c =
+    c.loop-from.invariant.row-long
+
+pub shape_of-aways-in-No : goal.shape_of-aways-in-No
+shape_of-aways-in-No c =
+    c.loop-from.invariant.aways_long
+
+pub returns-in-No : goal.returns-in-No
+returns-in-No c =
+    let e = c.line_end-end.ensures in
+    let test = c.loop-from-test.true in
+    let p = c.loop-from in
+    let a = c.args in
+    let s = a.s.now in
+    let m = length a.marks.now in
+    let l = c.place_line in
+    let starts = l.new.1.1.1.1.0 in
+    let keys = l.new.1.1.1.1.1.0 in
+    let values = l.new.1.1.1.1.1.1.0 in
+    let marks = l.new.1.1.1.1.1.1.1.0 in
+    let f = c.f-1.given in
+    turn-stops m s p.starts p.keys p.values p.marks p.cells p.row p.aways (length a.cells.now) (length a.row.now)
+    (length a.aways.now) p.c p.from p.number p.uses p.invariant test e (place_in s starts keys values marks) f.1 (l.ensures.1 (p.number + 1))
+
+pub keep_line-uses-requires : goal.keep_line-uses-requires
+keep_line-uses-requires c =
+    let e = c.line_end-end.ensures in
+    let test = c.loop-from-test.true in
+    let p = c.loop-from in
+    let a = c.args in
+    let s = a.s.now in
+    let m = length a.marks.now in
+    let pre = c.requires in
+    let i = p.invariant in
+    let l = c.place_line in
+    let starts = l.new.1.1.1.1.0 in
+    let keys = l.new.1.1.1.1.1.0 in
+    let values = l.new.1.1.1.1.1.1.0 in
+    let marks = l.new.1.1.1.1.1.1.1.0 in
+    let r = c.read_line-read.ensures in
+    let u = i.few-uses test in (
+      ap (λ (x : LineRead). x.statement) (sym r),
+      line-fits m s p.starts p.keys p.values p.marks p.cells p.row p.aways (length a.cells.now) (length a.row.now)
+          (length a.aways.now) p.c p.from p.number p.uses p.invariant test e pre.short,
+      omega (arith, i.few-lines, test, pre.short),
+      i.fair.low,
+      turn-room m s p.starts p.keys p.values p.marks p.cells p.row p.aways (length a.cells.now) (length a.row.now)
+          (length a.aways.now) p.c p.from p.number p.uses p.invariant test e (place_in s starts keys values marks) c.in-Go.is
+          (l.ensures.1 (p.number + 1)) r pre.few-cells,
+      record {
+        cells = omega (arith, u, test, pre.short, pre.room.cells, i.row-long);
+        distances = omega (arith, u, test, pre.short, pre.room.distances, i.aways_long);
+      },
+    )
+
+pub overflow_add-end : goal.overflow_add-end
+overflow_add-end c =
+    omega (arith, end-within c.args.s.now c.loop-from.from c.line_end-end.ensures c.loop-from-test.true, c.requires.short)
+
+pub loop-from-smaller : goal.loop-from-smaller
+loop-from-smaller c =
+    let p = c.loop-from in
+    let s = c.args.s.now in
+    let h = c.line_end-end.ensures in
+    let st = c.read_line-read.result.statement in
+    let u = further st p.from (length s) (c.line_end-end.result + 1) (omega (arith, h)) c.loop-from-test.true in
+    omega (arith, u, c.next_line-from.ensures)
+
+pub loop-from-preserved : goal.loop-from-preserved
+loop-from-preserved c =
+    let e = c.line_end-end.ensures in
+    let test = c.loop-from-test.true in
+    let p = c.loop-from in
+    let a = c.args in
+    let s = a.s.now in
+    let m = length a.marks.now in
+    let l = c.place_line in
+    let starts = l.new.1.1.1.1.0 in
+    let keys = l.new.1.1.1.1.1.0 in
+    let values = l.new.1.1.1.1.1.1.0 in
+    let marks = l.new.1.1.1.1.1.1.1.0 in
+    let k = c.keep_line-uses in
+    turn-goes m s p.starts p.keys p.values p.marks p.cells p.row p.aways (length a.cells.now) (length a.row.now)
+    (length a.aways.now) p.c p.from p.number p.uses p.invariant test e (place_in s starts keys values marks) c.in-Go.is
+    (l.ensures.1 (p.number + 1)) starts keys values marks k.new.1.1.1.1.1.0 k.new.1.1.1.1.1.1.0 k.new.1.1.1.1.1.1.1.0
+    c.read_line-read.ensures (λ x. refl) l.ensures.0 l.auto.1.1.1.1.0 l.auto.1.1.1.1.1.0 l.auto.1.1.1.1.1.1.0
+    l.auto.1.1.1.1.1.1.1.0 k.auto.1.1.1.1.1.0 k.auto.1.1.1.1.1.1.0 k.auto.1.1.1.1.1.1.1.0 c.requires.short
+    k.ensures.0 (k.ensures.1 s (line_part s p.from c.line_end-end.result)) k.ensures.3 c.next_line-from.ensures
+
+pub shape_of-starts : goal.shape_of-starts
+shape_of-starts c =
+    c.loop-from.invariant.starts-long ∙ sym c.requires.rows.starts-long
+
+pub shape_of-keys : goal.shape_of-keys
+shape_of-keys c =
+    c.loop-from.invariant.keys_long ∙ sym c.requires.rows.keys_long
+
+pub shape_of-values : goal.shape_of-values
+shape_of-values c =
+    c.loop-from.invariant.values_long ∙ sym c.requires.rows.values_long
+
+pub shape_of-marks : goal.shape_of-marks
+shape_of-marks c =
+    c.loop-from.invariant.marks-long
+
+pub shape_of-cells : goal.shape_of-cells
+shape_of-cells c =
+    c.loop-from.invariant.cells-long
+
+pub shape_of-row : goal.shape_of-row
+shape_of-row c =
+    c.loop-from.invariant.row-long
+
+pub shape_of-aways : goal.shape_of-aways
+shape_of-aways c =
+    c.loop-from.invariant.aways_long
+
+pub returns : goal.returns
+returns c =
+    let p = c.loop-from in
+    let a = c.args in
+    let s = a.s.now in
+    let m = length a.marks.now in
+    let o = turns_over m s p.starts p.keys p.values p.marks p.cells p.row p.aways (length a.cells.now) (length a.row.now)
+    (length a.aways.now) p.c p.from p.number p.uses p.invariant c.loop-from-test.false in
+    (o.0, o.1, o.2, p.invariant.fair, p.invariant.uses_fit)
+
+-- MANUAL: -- no goal slice-bounds-line-end
+-- MANUAL: part-line-end : tie.Need-slice-bounds-line-end invariant-loop decreases-loop
+-- MANUAL: part-line-end c =
+-- MANUAL:     let looped = c.before.before in
+-- MANUAL:     let s = looped.before.before.before.before.before.before.before.before.before.args.s.now in
+-- MANUAL:     let h : c.line-end.result ≤ length s = end-within s looped.loop.from c.line-end.ensures c.before.loop-test.true in
+-- MANUAL:     search rules
