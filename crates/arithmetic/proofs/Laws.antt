@@ -1,7 +1,7 @@
 -- What crates above may cite of the operations: how large values and flags words are, each flag read back, V of DIV and
 -- MOD, and the signed account of ADD, SUB and MUL. Assumes nothing.
 use mathlib.Core.Path.{◌≡◌, refl, sym, ◌∙◌}
-use mathlib.Core.Bool.{Bool, true, false, cond, ◌&&◌, and-false, or_false}
+use mathlib.Core.Bool.{Bool, true, false, cond, ◌&&◌, and-false, or-false}
 use mathlib.Core.Logic.{◌⊎◌, ⊎_elim}
 use Prim.Native.Nat.{ℕ, zero, suc, ◌+◌, ◌-◌, ◌*◌, ◌/◌, ◌%◌, ◌≤◌, ◌<◌}
 use native.Mathlib.Omega.{arith}
@@ -110,7 +110,7 @@ NOT-fits x = omega arith
 leaves_is : (z : ℤ) → leaves16 z ≡ ltb 32767 (mag z)
 unfolding leaves16
 leaves_is (pos n) = refl
-leaves_is (negsuc n) = or_false (ltb 32767 n)
+leaves_is (negsuc n) = or-false (ltb 32767 n)
 
 stays : (z : ℤ) → mag z < 32768 → leaves16 z ≡ false
 stays z h = leaves_is z ∙ le-ltb 32767 (mag z) (omega arith)

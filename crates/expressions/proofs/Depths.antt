@@ -1,7 +1,7 @@
 -- A row's height passes a room somewhere exactly where its tree is deeper than the room.
 use Prim.Native.Nat.{ℕ, zero, suc, max}
 use Prim.Native.Char.{code}
-use mathlib.Core.Bool.{Bool, true, false, ◌||◌, or_assoc, or_false}
+use mathlib.Core.Bool.{Bool, true, false, ◌||◌, or_assoc, or-false}
 use mathlib.Core.List.{List, [], ◌∷◌, ◌++◌, append_assoc, append-nil}
 use mathlib.Core.Path.{◌≡◌, refl, sym, ap, ◌∙◌}
 use native.Mathlib.Omega.{arith}
@@ -96,4 +96,4 @@ sum-passes s =
 pub deeper : {ts : List Token} {tree : Tree} → Expression ts tree → (room : ℕ) → passes ts room ≡ ltb room (depth tree)
 unfolding passes
 deeper {ts} {tree} s room =
-    ap (λ (us : List Token). passes us room) (sym (append-nil ts)) ∙ sum-passes s [] room ∙ or_false (ltb room (depth tree))
+    ap (λ (us : List Token). passes us room) (sym (append-nil ts)) ∙ sum-passes s [] room ∙ or-false (ltb room (depth tree))

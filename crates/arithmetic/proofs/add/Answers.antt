@@ -5,15 +5,13 @@ use Rattle.arithmetic.specs.Operations.{ADD}
 use Rattle.arithmetic.proofs.Readings.{Computed, computed, sum-within}
 use Rattle.arithmetic.proofs.add.Goals as goal
 
-sum : (c : tie.After-signed-of2) → Computed ◌+ℤ◌ c.before.Signed-of.result c.signed-of2.result c.before.before.args.x c.before.before.args.y
+sum : (c : goal.After-signed_of-2) → Computed ◌+ℤ◌ c.signed_of.result c.signed_of-2.result c.args.x c.args.y
 sum c =
-    let s = c.before.before in
-    computed ◌+ℤ◌ s.args.x s.args.y c.before.Signed-of.ensures c.signed-of2.ensures s.ranges.x s.ranges.y sum-within
+    computed ◌+ℤ◌ c.args.x c.args.y c.signed_of.ensures c.signed_of-2.ensures c.ranges.x c.ranges.y sum-within
 
 pub overflow_add-signed_of : goal.overflow_add-signed_of
 overflow_add-signed_of c = (sum c).ranges
 
--- CONV: whole record: c.before.before
 pub returns : goal.returns
 unfolding ADD
-returns c = rw (← (sum c).right, ← c.leaves-overflow.ensures, c.outcome_of.ensures)
+returns c = rw (← (sum c.before.before).right, ← c.leaves-overflow.ensures, c.outcome_of.ensures)

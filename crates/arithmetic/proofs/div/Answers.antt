@@ -12,10 +12,9 @@ use Rattle.arithmetic.proofs.Laws.{quotient-leaves}
 use Rattle.arithmetic.proofs.Readings.{Computed, computed, divides, quotient-small, quotient-within}
 use Rattle.arithmetic.proofs.div.Goals as goal
 
-quotient : (c : tie.After-signed-of2) → Computed quot_z c.before.Signed-of.result c.signed-of2.result c.before.before.before.args.x c.before.before.before.args.y
+quotient : (c : goal.After-signed_of-2) → Computed quot_z c.signed_of.result c.signed_of-2.result c.args.x c.args.y
 quotient c =
-    let s = c.before.before.before in
-    computed quot_z s.args.x s.args.y c.before.Signed-of.ensures c.signed-of2.ensures s.ranges.x s.ranges.y quotient-within
+    computed quot_z c.args.x c.args.y c.signed_of.ensures c.signed_of-2.ensures c.ranges.x c.ranges.y quotient-within
 
 pub returns-then-y-eq0 : goal.returns-then-y-eq0
 unfolding DIV
@@ -32,7 +31,7 @@ cell_of-requires c =
 pub returns : goal.returns
 unfolding DIV
 returns c =
-    let x = c.args.x in
+    let q = c.before.before.before in let x = c.args.x in
     let y = c.args.y in
     let value = c.cell_of.ensures ∙ ap cell (quotient q).right in
     let leaving = c.leaves.ensures ∙ ap leaves16 (quotient q).right ∙ sym (quotient-leaves x y c.ranges.x.fits c.ranges.y.fits) in

@@ -7,15 +7,13 @@ use Rattle.arithmetic.specs.Operations.{MOD}
 use Rattle.arithmetic.proofs.Readings.{Computed, computed, divides, quotient-within, remainder_small, remainder_within}
 use Rattle.arithmetic.proofs.modulo.Goals as goal
 
-quotient : (c : tie.After-signed-of2) → Computed quot_z c.before.Signed-of.result c.signed-of2.result c.before.before.before.args.x c.before.before.before.args.y
+quotient : (c : goal.After-signed_of-2) → Computed quot_z c.signed_of.result c.signed_of-2.result c.args.x c.args.y
 quotient c =
-    let s = c.before.before.before in
-    computed quot_z s.args.x s.args.y c.before.Signed-of.ensures c.signed-of2.ensures s.ranges.x s.ranges.y quotient-within
+    computed quot_z c.args.x c.args.y c.signed_of.ensures c.signed_of-2.ensures c.ranges.x c.ranges.y quotient-within
 
-remainder : (c : tie.After-signed-of2) → Computed rem_z c.before.Signed-of.result c.signed-of2.result c.before.before.before.args.x c.before.before.before.args.y
+remainder : (c : goal.After-signed_of-2) → Computed rem_z c.signed_of.result c.signed_of-2.result c.args.x c.args.y
 remainder c =
-    let s = c.before.before.before in
-    computed rem_z s.args.x s.args.y c.before.Signed-of.ensures c.signed-of2.ensures s.ranges.x s.ranges.y remainder_within
+    computed rem_z c.args.x c.args.y c.signed_of.ensures c.signed_of-2.ensures c.ranges.x c.ranges.y remainder_within
 
 pub returns-then-y-eq0 : goal.returns-then-y-eq0
 unfolding MOD
@@ -32,7 +30,7 @@ cell_of-requires c =
 pub returns : goal.returns
 unfolding MOD
 returns c =
-    rw (
+    let q = c.before.before in rw (
       ne_eqb c.args.y 0 c.if-y-eq0.false,
       ← (remainder q).right,
       ← c.cell_of.ensures,

@@ -5,10 +5,9 @@ use Rattle.arithmetic.specs.Operations.{MUL}
 use Rattle.arithmetic.proofs.Readings.{Computed, computed, product-within, unsigned_within}
 use Rattle.arithmetic.proofs.mul.Goals as goal
 
-product : (c : tie.After-signed-of2) → Computed ◌*ℤ◌ c.before.Signed-of.result c.signed-of2.result c.before.before.args.x c.before.before.args.y
+product : (c : goal.After-signed_of-2) → Computed ◌*ℤ◌ c.signed_of.result c.signed_of-2.result c.args.x c.args.y
 product c =
-    let s = c.before.before in
-    computed ◌*ℤ◌ s.args.x s.args.y c.before.Signed-of.ensures c.signed-of2.ensures s.ranges.x s.ranges.y product-within
+    computed ◌*ℤ◌ c.args.x c.args.y c.signed_of.ensures c.signed_of-2.ensures c.ranges.x c.ranges.y product-within
 
 pub overflow_mul-product : goal.overflow_mul-product
 overflow_mul-product c =
@@ -17,7 +16,6 @@ overflow_mul-product c =
 pub overflow_mul-signed_of : goal.overflow_mul-signed_of
 overflow_mul-signed_of c = (product c).ranges
 
--- CONV: whole record: c.before.before
 pub returns : goal.returns
 unfolding MUL
-returns c = rw (← (product c).right, ← c.leaves-overflow.ensures, c.outcome_of.ensures)
+returns c = rw (← (product c.before.before).right, ← c.leaves-overflow.ensures, c.outcome_of.ensures)

@@ -9,20 +9,20 @@ use Rattle.arithmetic.specs.Cells.{cell}
 use Rattle.arithmetic.proofs.Readings.{raised, kept, cell-small}
 use Rattle.arithmetic.proofs.cells.cell_of.Goals as goal
 
-below-zero : (c : tie.Then1) → to_z w32 (of_z w32 c.before.args.z) +ℤ pos 65536 ≡ pos (cell c.before.args.z)
+below-zero : (c : goal.Then-z-lt0) → to_z w32 (of_z w32 c.args.z) +ℤ pos 65536 ≡ pos (cell c.args.z)
 below-zero c =
-    let e = to_z-of_z w32 c.before.args.z c.before.ranges.z in
-    rw e (raised c.before.args.z (rw e at c.if1.true) c.before.requires)
+    let e = to_z-of_z w32 c.args.z c.ranges.z in
+    rw e (raised c.args.z (rw e at c.if-z-lt0.true) c.requires)
 
-from_zero : (c : tie.Else1) → to_z w32 (of_z w32 c.before.args.z) ≡ pos (cell c.before.args.z)
+from_zero : (c : goal.Else-z-lt0) → to_z w32 (of_z w32 c.args.z) ≡ pos (cell c.args.z)
 from_zero c =
-    let e = to_z-of_z w32 c.before.args.z c.before.ranges.z in
-    e ∙ kept c.before.args.z (rw e at c.if1.false)
+    let e = to_z-of_z w32 c.args.z c.ranges.z in
+    e ∙ kept c.args.z (rw e at c.if-z-lt0.false)
 
 -- an `i32` holds a cell
-held : (c : tie.Then1) → to_z w32 (cell c.before.args.z) ≡ pos (cell c.before.args.z)
+held : (c : goal.Then-z-lt0) → to_z w32 (cell c.args.z) ≡ pos (cell c.args.z)
 held c =
-    to_z_pos w32 (cell c.before.args.z) (omega (arith, cell-small c.before.args.z c.before.requires))
+    to_z_pos w32 (cell c.args.z) (omega (arith, cell-small c.args.z c.requires))
 
 pub overflow_add-result : goal.overflow_add-result
 overflow_add-result c =

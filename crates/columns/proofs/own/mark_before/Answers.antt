@@ -13,12 +13,12 @@ loop-at-init c = refl
 pub returns-then-not-blank_at : goal.returns-then-not-blank_at
 returns-then-not-blank_at c =
     let a = c.args in
-    sym (c.loop-at.invariant ∙ mark-stands a.line.now c.loop-at.at c.loop-at-test.true (sym c.blank_at.ensures ∙ not-true _ c.if-not-blank_at.true))
+    sym (c.loop-at.invariant ∙ mark-stands a.line.now c.loop-at.at c.loop-at-test.true (sym c.blank_at.ensures ∙ c.if-not-blank_at.true))
 
 pub loop-at-preserved : goal.loop-at-preserved
 loop-at-preserved c =
     let a = c.args in
-    c.loop-at.invariant ∙ blank-before a.line.now c.loop-at.at c.loop-at-test.true (sym c.blank_at.ensures ∙ not-false _ c.if-not-blank_at.false)
+    c.loop-at.invariant ∙ blank-before a.line.now c.loop-at.at c.loop-at-test.true (sym c.blank_at.ensures ∙ c.if-not-blank_at.false)
 
 pub returns : goal.returns
 returns c =

@@ -26,5 +26,5 @@ returns-in-12 c =
 pub returns-in_default : goal.returns-in_default
 returns-in_default c =
     let a = c.args in
-    let r = c.in_default.rest in
+    let r = c.in_default.in_default-own.rest in
     c.read_again.ensures ∙ sym (of_checks a.line.now a.number r.0.0.0.1 r.0.0.1 r.0.1 r.1)

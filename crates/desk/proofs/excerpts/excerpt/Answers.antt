@@ -25,10 +25,9 @@ pub put_caret-requires : goal.put_caret-requires
 put_caret-requires c =
     omega (arith, from-within (length c.args.line.now) c.args.column (omega arith) (omega arith))
 
--- CONV: whole record: c.before.before.before.before.before.before
 pub returns : goal.returns
 returns c =
-    let at-put-part = c in
+    let at-put-part = c.before.before.before.before.before.before in
     let at-shown-end = at-put-part.before.before.before in
     let at-shown-from = at-shown-end.before in
     let start = at-shown-from.before.before.before.before.before in

@@ -13,10 +13,9 @@ pub piece-requires : goal.piece-requires
 piece-requires c =
     omega (arith, blanks-length c.args.n 80 (omega arith))
 
--- CONV: whole record: c.before.before.before.before.before.before.before
 pub returns : goal.returns
 returns c =
-    let at-piece2 = c in
+    let at-piece2 = c.before.before.before.before.before.before.before in
     let at_piece = at-piece2.before.before.before.before.before in
     let start = at_piece.before.before.before.before in
     caret_put start.args.room.now start.args.at start.args.n (omega arith) at_piece.piece.ensures

@@ -10,10 +10,9 @@ pub piece-requires : goal.piece-requires
 piece-requires c =
     omega (arith, length-map c.args.part.now shown_byte)
 
--- CONV: whole record: c.before.before.before.before.before.before.before
 pub returns : goal.returns
 returns c =
-    let at-put-shown = c in
+    let at-put-shown = c.before.before.before.before.before.before.before in
     let at_piece = at-put-shown.before.before.before.before in
     let start = at_piece.before.before.before.before.before in
     part_put start.args.room.now start.args.part.now (omega arith) at_piece.piece.ensures at-put-shown.put-shown.ensures

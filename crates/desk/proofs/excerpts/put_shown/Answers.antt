@@ -15,10 +15,9 @@ use Rattle.desk.proofs.excerpts.put_shown.Goals as goal
 pub loop-k-init : goal.loop-k-init
 loop-k-init c = copy_none _ _ (map shown_byte c.args.part.now) _
 
--- CONV: whole record: c.before.before.before
 pub loop-k-preserved : goal.loop-k-preserved
 loop-k-preserved c =
-    let at-loop = c in
+    let at-loop = c.before.before.before in
     let start = at-loop.before.before.before in
     let part = start.args.part.now in
     copy_more _ _ (map shown_byte part) _ _ _ _ at-loop.loop.invariant (omega arith) (omega arith) (omega (arith, length-map part shown_byte))

@@ -9,10 +9,9 @@ pub field-second-requires : goal.field-second-requires
 field-second-requires c =
     omega (arith, field_length (bytes "refused=") c.args.refusal)
 
--- CONV: whole record: c.before.before.before.before.before.before.before.before
 pub field-third-requires : goal.field-third-requires
 field-third-requires c =
-    let at-narrow = c in
+    let at-narrow = c.before.before.before.before.before.before.before.before in
     let start = at-narrow.before.before in
     omega (arith, field_length (bytes "refused=") start.args.refusal, field_length (bytes "\nline=") at-narrow.narrow.result)
 
@@ -25,10 +24,9 @@ field-last-requires c =
       field_length (bytes "\ncolumn=") c.narrow-place.result,
     )
 
--- CONV: whole record: c.before.before.before.before.before.before.before
 pub returns : goal.returns
 returns c =
-    let at-field3 = c in
+    let at-field3 = c.before.before.before.before.before.before.before in
     let at-field2 = at-field3.before.before.before.before.before in
     let at_field = at-field2.before.before.before.before.before in
     let at-narrow2 = at_field.before.before.before in

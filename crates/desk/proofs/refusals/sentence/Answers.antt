@@ -5,16 +5,14 @@ use Rattle.desk.proofs.Told.{field_length, sentence_told}
 use borrow.Author.Rules.{rules}
 use Rattle.desk.proofs.refusals.sentence.Goals as goal
 
--- CONV: whole record: c.before.before.before.before.before.before.before
 pub field-second-requires : goal.field-second-requires
 field-second-requires c =
-    let at-narrow = c in
+    let at-narrow = c.before.before.before.before.before.before.before in
     omega (arith, field_length (bytes ":") at-narrow.narrow.result)
 
--- CONV: whole record: c.before.before.before.before.before.before.before.before.before.before.before
 pub field-refused-requires : goal.field-refused-requires
 field-refused-requires c =
-    let at-narrow2 = c in
+    let at-narrow2 = c.before.before.before.before.before.before.before.before.before.before.before in
     let at-narrow = at-narrow2.before in
     omega (arith, field_length (bytes ":") at-narrow.narrow.result, field_length (bytes ":") at-narrow2.narrow2.result)
 
@@ -27,10 +25,9 @@ field-told-requires c =
       field_length (bytes ": refused ") c.args.refusal,
     )
 
--- CONV: whole record: c.before.before.before.before.before.before.before
 pub returns : goal.returns
 returns c =
-    let at-why = c in
+    let at-why = c.before.before.before.before.before.before.before in
     let at-put = at-why.before.before.before.before in
     let at-field3 = at-put.before.before.before.before.before in
     let at-field2 = at-field3.before.before.before.before.before in

@@ -26,7 +26,7 @@ pub returns-then-relative : goal.returns-then-relative
 unfolding locate place_of value_at see
 returns-then-relative c =
     rw (
-      relative-operand k _ _ (past 7 c.args.mode c.in_default.rest)
+      relative-operand k _ _ (past 7 c.args.mode c.in_default.in_default-own.rest)
           (t ∙ c.if-relative.true),
       ← c.sum-then-relative.ensures,
     ) c.at_cell-then-relative.ensures
@@ -35,5 +35,5 @@ pub returns-else-relative : goal.returns-else-relative
 unfolding locate place_of value_at see
 returns-else-relative c =
     let s = c.args in
-    rw (stacked_operand k _ _ (past 7 s.mode c.in_default.rest) (t ∙ c.if-relative.false))
+    rw (stacked_operand k _ _ (past 7 s.mode c.in_default.in_default-own.rest) (t ∙ c.if-relative.false))
     (c.at_cell-else-relative.ensures ∙ counted s.m.now s.r.now SP s.word c.sum-else-relative.ensures)

@@ -36,5 +36,5 @@ pub returns-in_default : goal.returns-in_default
 unfolding mark_symbol
 returns-in_default c =
     let b = c.args.b in
-    let r = c.in_default.rest in
+    let r = c.in_default.in_default-own.rest in
     rw (ne_eqb b 40 r.0.0.0.0.0.0.1, ne_eqb b 41 r.0.0.0.0.0.1, ne_eqb b 43 r.0.0.0.0.1, ne_eqb b 45 r.0.0.0.1, ne_eqb b 42 r.0.0.1, ne_eqb b 47 r.0.1, ne_eqb b 37 r.1)

@@ -26,5 +26,5 @@ returns-in-36 c = sym (ap starts c.in-36.is)
 
 pub returns-in_default : goal.returns-in_default
 returns-in_default c =
-    let r = c.in_default.rest in
+    let r = c.in_default.in_default-own.rest in
     sym (starts_none c.args.b r.0.0.0.0.1 r.0.0.0.1 r.0.0.1 r.0.1 r.1)

@@ -18,5 +18,5 @@ returns-in-14 c = sym (ap indexes c.in-14.is)
 
 pub returns-in_default : goal.returns-in_default
 returns-in_default c =
-    let r = c.in_default.rest in
+    let r = c.in_default.in_default-own.rest in
     sym (indexes-none c.args.code r.0.0.1 r.0.1 r.1)

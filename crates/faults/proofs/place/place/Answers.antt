@@ -38,10 +38,10 @@ pub returns-then-not-live : goal.returns-then-not-live
 returns-then-not-live c =
     let l = c.loop-at in
     let e = at-end c.args.line.now l.x l.began l.at c.loop-at-test.false in
-    sym (l.invariant.0 ∙ e ∙ cond-not _ _ (sym c.live.ensures ∙ not-true _ c.if-not-live.true))
+    sym (l.invariant.0 ∙ e ∙ cond-not _ _ (sym c.live.ensures ∙ c.if-not-live.true))
 
 pub returns : goal.returns
 returns c =
     let l = c.loop-at in
     let e = at-end c.args.line.now l.x l.began l.at c.loop-at-test.false in
-    sym (l.invariant.0 ∙ e ∙ cond_is _ _ (sym c.live.ensures ∙ not-false _ c.if-not-live.false))
+    sym (l.invariant.0 ∙ e ∙ cond_is _ _ (sym c.live.ensures ∙ c.if-not-live.false))

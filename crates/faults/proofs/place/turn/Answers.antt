@@ -17,7 +17,7 @@ returns-then-not-live c =
     let a = c.args in
     let p = c.requires in
     let e = sym c.grows.ensures ∙ c.if-grows.false in
-    turn_dead a.line.now a.x a.began a.at p.0 e (sym c.live.ensures ∙ not-true _ c.if-not-live.true)
+    turn_dead a.line.now a.x a.began a.at p.0 e (sym c.live.ensures ∙ c.if-not-live.true)
 
 pub step-next-requires : goal.step-next-requires
 step-next-requires c =
@@ -31,7 +31,7 @@ returns-then-goes c =
     let a = c.args in
     let p = c.requires in
     let e = sym c.grows.ensures ∙ c.if-grows.false in
-    let l = sym c.live.ensures ∙ not-false _ c.if-not-live.false in
+    let l = sym c.live.ensures ∙ c.if-not-live.false in
     turn_on a.line.now a.x a.began a.at p.0 c.step-next.result e l c.step-next.ensures p.2 (sym c.goes.ensures ∙ c.if-goes.true)
 
 pub returns : goal.returns
@@ -39,6 +39,6 @@ returns c =
     let a = c.args in
     let p = c.requires in
     let e = sym c.grows.ensures ∙ c.if-grows.false in
-    let l = sym c.live.ensures ∙ not-false _ c.if-not-live.false in
+    let l = sym c.live.ensures ∙ c.if-not-live.false in
     turn-ends a.line.now a.x a.began a.at p.0 c.step-next.result e l c.step-next.ensures (sym c.goes.ensures ∙ c.if-goes.false)
     c.stopped.ensures

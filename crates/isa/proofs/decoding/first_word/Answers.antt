@@ -8,7 +8,7 @@ use Rattle.isa.proofs.decoding.first_word.Goals as goal
 pub returns-then-not-permits : goal.returns-then-not-permits
 returns-then-not-permits c =
     let found = sym c.opcode.ensures ∙ c.in-Known.is in
-    let first = sym (rw c.row-its.ensures at c.permits.ensures) ∙ not-true _ c.if-not-permits.true in
+    let first = sym (rw c.row-its.ensures at c.permits.ensures) ∙ c.if-not-permits.true in
     sym (first_mode_unknown _ _ found first)
 
 pub returns-then-not-permits-2 : goal.returns-then-not-permits-2
@@ -17,7 +17,7 @@ returns-then-not-permits-2 c =
     sym c.opcode.ensures ∙
     c.in-Known.is in
     let row = c.row-its.ensures in
-    let second = sym (rw row at c.permits-in-Known.ensures) ∙ not-true _ c.if-not-permits-2.true in
+    let second = sym (rw row at c.permits-in-Known.ensures) ∙ c.if-not-permits-2.true in
     sym (second_mode_unknown _ _ found second)
 
 pub returns-else-not-permits-2 : goal.returns-else-not-permits-2
@@ -26,8 +26,8 @@ returns-else-not-permits-2 c =
     sym c.opcode.ensures ∙
     c.in-Known.is in
     let row = c.row-its.ensures in
-    let first = sym (rw row at c.permits.ensures) ∙ not-false _ c.if-not-permits.false in
-    let second = sym (rw row at c.permits-in-Known.ensures) ∙ not-false _ c.if-not-permits-2.false in
+    let first = sym (rw row at c.permits.ensures) ∙ c.if-not-permits.false in
+    let second = sym (rw row at c.permits-in-Known.ensures) ∙ c.if-not-permits-2.false in
     sym (modes-known _ _ found first second)
 
 pub returns-in-Unknown : goal.returns-in-Unknown

@@ -5,16 +5,16 @@ use Rattle.isa.proofs.decoding.read_unless.Goals as goal
 
 pub returns-then-not-register_there : goal.returns-then-not-register_there
 unfolding read_unless
-returns-then-not-register_there c = rw (← c.register_there.ensures, not-true c.register_there.result c.if-not-register_there.true)
+returns-then-not-register_there c = rw (← c.register_there.ensures, c.if-not-register_there.true)
 
 pub returns-then-not-register_there-2 : goal.returns-then-not-register_there-2
 unfolding read_unless
 returns-then-not-register_there-2 c =
     rw (
       ← c.register_there.ensures,
-      not-false c.register_there.result c.if-not-register_there.false,
+      c.if-not-register_there.false,
       ← c.register_there-2.ensures,
-      not-true c.register_there-2.result c.if-not-register_there-2.true,
+      c.if-not-register_there-2.true,
     )
 
 pub returns : goal.returns
@@ -22,7 +22,7 @@ unfolding read_unless
 returns c =
     rw (
       ← c.register_there.ensures,
-      not-false c.register_there.result c.if-not-register_there.false,
+      c.if-not-register_there.false,
       ← c.register_there-2.ensures,
-      not-false c.register_there-2.result c.if-not-register_there-2.false,
+      c.if-not-register_there-2.false,
     )

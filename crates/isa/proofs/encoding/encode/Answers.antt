@@ -15,7 +15,7 @@ number r = r.number
 
 pub returns-then-not-is_allowed : goal.returns-then-not-is_allowed
 unfolding encode_of
-returns-then-not-is_allowed c = rw (← c.is_allowed.ensures, not-true c.is_allowed.result c.if-not-is_allowed.true)
+returns-then-not-is_allowed c = rw (← c.is_allowed.ensures, c.if-not-is_allowed.true)
 
 pub overflow_mul-its : goal.overflow_mul-its
 overflow_mul-its c = omega (arith, ap number c.row-its.ensures, number-below c.args.i.op)
@@ -54,6 +54,6 @@ returns c =
     let second = c.mode-2 in
     let its-words =
     encoded c.args.i (row.result.number * 64 + first.result * 8 + second.result)
-    (sym asked.ensures ∙ not-false asked.result c.if-not-is_allowed.false)
+    (sym asked.ensures ∙ c.if-not-is_allowed.false)
     (omega (arith, ap number row.ensures, first.ensures, second.ensures)) in
     ap answered c.laid_out.ensures ∙ its-words

@@ -8,7 +8,7 @@ unfolding allowed
 returns-then-not-allowed_kind c =
     rw (
       ← (rw c.row-its.ensures at c.allowed_kind.ensures),
-      not-true c.allowed_kind.result c.if-not-allowed_kind.true,
+      c.if-not-allowed_kind.true,
     )
 
 pub returns-then-not-allowed_kind-2 : goal.returns-then-not-allowed_kind-2
@@ -17,9 +17,9 @@ returns-then-not-allowed_kind-2 c =
     let row = c.row-its.ensures in
     rw (
       ← (rw row at c.allowed_kind.ensures),
-      not-false c.allowed_kind.result c.if-not-allowed_kind.false,
+      c.if-not-allowed_kind.false,
       ← (rw row at c.allowed_kind-2.ensures),
-      not-true c.allowed_kind-2.result c.if-not-allowed_kind-2.true,
+      c.if-not-allowed_kind-2.true,
     )
 
 pub returns-then-not-register_there : goal.returns-then-not-register_there
@@ -28,11 +28,11 @@ returns-then-not-register_there c =
     let row = c.row-its.ensures in
     rw (
       ← (rw row at c.allowed_kind.ensures),
-      not-false c.allowed_kind.result c.if-not-allowed_kind.false,
+      c.if-not-allowed_kind.false,
       ← (rw row at c.allowed_kind-2.ensures),
-      not-false c.allowed_kind-2.result c.if-not-allowed_kind-2.false,
+      c.if-not-allowed_kind-2.false,
       ← c.register_there.ensures,
-      not-true c.register_there.result c.if-not-register_there.true,
+      c.if-not-register_there.true,
     )
 
 pub returns : goal.returns
@@ -41,10 +41,10 @@ returns c =
     let row = c.row-its.ensures in
     rw (
       ← (rw row at c.allowed_kind.ensures),
-      not-false c.allowed_kind.result c.if-not-allowed_kind.false,
+      c.if-not-allowed_kind.false,
       ← (rw row at c.allowed_kind-2.ensures),
-      not-false c.allowed_kind-2.result c.if-not-allowed_kind-2.false,
+      c.if-not-allowed_kind-2.false,
       ← c.register_there.ensures,
-      not-false c.register_there.result c.if-not-register_there.false,
+      c.if-not-register_there.false,
     )
     c.register_there-2.ensures

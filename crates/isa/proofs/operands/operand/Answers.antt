@@ -10,7 +10,7 @@ pub returns-then-is_target : goal.returns-then-is_target
 unfolding operand_of
 returns-then-is_target c =
     rw (
-      get_or-eq_default _ _ (past 7 c.args.mode c.in_default.rest),
+      get_or-eq_default _ _ (past 7 c.args.mode c.in_default.in_default-own.rest),
       seventh-target _ _ (sym c.is_target.ensures ∙ c.if-is_target.true),
     )
 
@@ -18,6 +18,6 @@ pub returns-else-is_target : goal.returns-else-is_target
 unfolding operand_of
 returns-else-is_target c =
     rw (
-      get_or-eq_default _ _ (past 7 c.args.mode c.in_default.rest),
+      get_or-eq_default _ _ (past 7 c.args.mode c.in_default.in_default-own.rest),
       seventh-other _ _ (sym c.is_target.ensures ∙ c.if-is_target.false),
     )

@@ -33,4 +33,4 @@ pub returns-in-Indirect : goal.returns-in-Indirect
 returns-in-Indirect c = rw c.in-Indirect.is
 
 pub returns-in_default : goal.returns-in_default
-returns-in_default c = no_register c.args.o c.in_default.keys3
+returns-in_default c = no_register c.args.o c.in_default.in_default-own.keys3

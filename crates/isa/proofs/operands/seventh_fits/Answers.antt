@@ -33,4 +33,4 @@ pub returns-in-Relative : goal.returns-in-Relative
 returns-in-Relative c = rw c.in-Relative.is c.is_target-in-Relative.ensures
 
 pub returns-in_default : goal.returns-in_default
-returns-in_default c = no-seventh c.args.k c.args.o c.in_default.keys3
+returns-in_default c = no-seventh c.args.k c.args.o c.in_default.in_default-own.keys3

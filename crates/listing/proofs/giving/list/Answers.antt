@@ -8,23 +8,23 @@ use Rattle.listing.proofs.giving.list.Goals as goal
 pub returns-then-not-good_loan : goal.returns-then-not-good_loan
 returns-then-not-good_loan c =
     let a = c.args in
-    lists-bad a.memory.now a.map.now a.room.now (sym c.good_loan.ensures ∙ not-true _ c.if-not-good_loan.true)
+    lists-bad a.memory.now a.map.now a.room.now (sym c.good_loan.ensures ∙ c.if-not-good_loan.true)
 
 pub measured-requires : goal.measured-requires
-measured-requires c = sym c.good_loan.ensures ∙ not-false _ c.if-not-good_loan.false
+measured-requires c = sym c.good_loan.ensures ∙ c.if-not-good_loan.false
 
 pub given-requires : goal.given-requires
 given-requires c =
-    (sym c.good_loan.ensures ∙ not-false _ c.if-not-good_loan.false, sym c.measured.ensures ∙ c.in-Long.is)
+    (sym c.good_loan.ensures ∙ c.if-not-good_loan.false, sym c.measured.ensures ∙ c.in-Long.is)
 
 pub returns-in-Fails : goal.returns-in-Fails
 returns-in-Fails c =
     let a = c.args in
-    lists-undecoded a.memory.now a.map.now a.room.now (sym c.good_loan.ensures ∙ not-false _ c.if-not-good_loan.false)
+    lists-undecoded a.memory.now a.map.now a.room.now (sym c.good_loan.ensures ∙ c.if-not-good_loan.false)
     (sym c.in-Fails.is ∙ c.measured.ensures)
 
 pub returns-in-Long : goal.returns-in-Long
 returns-in-Long c =
     let a = c.args in
-    lists-good a.memory.now a.map.now a.room.now (sym c.good_loan.ensures ∙ not-false _ c.if-not-good_loan.false)
+    lists-good a.memory.now a.map.now a.room.now (sym c.good_loan.ensures ∙ c.if-not-good_loan.false)
     c.given.ensures

@@ -25,11 +25,11 @@ pub overflow_mul-number : goal.overflow_mul-number
 overflow_mul-number c = omega (arith, room_six (c.args.end - c.loop-i.i) (omega arith))
 
 pub overflow_add-number : goal.overflow_add-number
-overflow_add-number c = omega (arith, room_six (c.args.end - c.loop-i.i) (omega arith), c.digit_of.type-inv)
+overflow_add-number c = omega (arith, room_six (c.args.end - c.loop-i.i) (omega arith), c.digit_of.type_inv)
 
 pub loop-i-preserved : goal.loop-i-preserved
 loop-i-preserved c =
-    let r = room-step c.loop-i.number c.digit_of.result c.loop-i.i c.args.end (omega arith) (omega arith) (omega arith) (omega (arith, c.digit_of.type-inv)) in
+    let r = room-step c.loop-i.number c.digit_of.result c.loop-i.i c.args.end (omega arith) (omega arith) (omega arith) (omega (arith, c.digit_of.type_inv)) in
     (omega arith, omega arith, r, omega (arith, pack-step c.args.s.now c.loop-i.i c.args.end (omega arith) (omega arith) (omega arith)))
 
 pub returns : goal.returns

@@ -15,7 +15,7 @@ pub overflow_mul-v : goal.overflow_mul-v
 overflow_mul-v c = omega (arith, mul-le-mul_right c.args.radix c.loop-i.invariant.1)
 
 pub overflow_add-v : goal.overflow_add-v
-overflow_add-v c = omega (arith, mul-le-mul_right c.args.radix c.loop-i.invariant.1, c.rank_of.type-inv)
+overflow_add-v c = omega (arith, mul-le-mul_right c.args.radix c.loop-i.invariant.1, c.rank_of.type_inv)
 
 pub loop-i-preserved : goal.loop-i-preserved
 loop-i-preserved c =

@@ -43,7 +43,7 @@ returns-then-find-count c =
 pub returns : goal.returns
 returns c =
     let h = c.hold in
-    let a = c.args in
+    let few = left.before.before.before.before in let a = c.args in
     let p = c.requires in
     let size = a.n.end - a.n.start in
     let count = a.c.bound + a.c.waiting in (

@@ -21,7 +21,7 @@ pub returns-then-not-all_full : goal.returns-then-not-all_full
 returns-then-not-all_full c = c.loop-i.invariant
 
 pub loop-i-preserved : goal.loop-i-preserved
-loop-i-preserved c = omega (arith, c.all_full.ensures (not-false _ c.if-not-all_full.false))
+loop-i-preserved c = omega (arith, c.all_full.ensures c.if-not-all_full.false)
 
 pub returns : goal.returns
 returns c = c.loop-i.invariant

@@ -13,38 +13,34 @@ use Rattle.statements.proofs.Ranges.{below, above, inside, near, cell-raised, ce
 use Rattle.statements.proofs.results.in_range.Goals as goal
 
 -- what the two tests leave
-is-near : (c : tie.Else2) → mag c.before.before.args.z < 65536
+is-near : (c : goal.Else-z-gt65535) → mag c.args.z < 65536
 is-near c =
-    let p = c.before.before in
-    let e = to_z-of_z w32 p.args.z p.ranges.z in
-    let l = to_z-of_z w32 p.args.least p.ranges.least in
-    near p.args.least p.args.z p.requires (rw (e, l) at c.before.if1.false) (rw e at c.if2.false)
+    let e = to_z-of_z w32 c.args.z c.ranges.z in
+    let l = to_z-of_z w32 c.args.least c.ranges.least in
+    near c.args.least c.args.z c.requires (rw (e, l) at c.if-z-least.false) (rw e at c.if-z-gt65535.false)
 
-below-zero : (c : tie.Then3) → to_z w32 (of_z w32 c.before.before.before.args.z) +ℤ pos 65536 ≡ pos (of_z w16 c.before.before.before.args.z)
+below-zero : (c : goal.Then-z-lt0) → to_z w32 (of_z w32 c.args.z) +ℤ pos 65536 ≡ pos (of_z w16 c.args.z)
 below-zero c =
-    let p = c.before.before.before in
-    let e = to_z-of_z w32 p.args.z p.ranges.z in
-    rw e (cell-raised p.args.z (rw e at c.if3.true) (is-near c.before))
+    let e = to_z-of_z w32 c.args.z c.ranges.z in
+    rw e (cell-raised c.args.z (rw e at c.if-z-lt0.true) (is-near c.before))
 
-from_zero : (c : tie.Else3) → to_z w32 (of_z w32 c.before.before.before.args.z) ≡ pos (of_z w16 c.before.before.before.args.z)
+from_zero : (c : goal.Else-z-lt0) → to_z w32 (of_z w32 c.args.z) ≡ pos (of_z w16 c.args.z)
 from_zero c =
-    let p = c.before.before.before in
-    let e = to_z-of_z w32 p.args.z p.ranges.z in
-    e ∙ cell_as_is p.args.z (rw e at c.if3.false)
+    let e = to_z-of_z w32 c.args.z c.ranges.z in
+    e ∙ cell_as_is c.args.z (rw e at c.if-z-lt0.false)
 
 -- an `i32` holds a cell
-held : (c : tie.Then3) → to_z w32 (of_z w16 c.before.before.before.args.z) ≡ pos (of_z w16 c.before.before.before.args.z)
+held : (c : goal.Then-z-lt0) → to_z w32 (of_z w16 c.args.z) ≡ pos (of_z w16 c.args.z)
 held c =
-    let z = c.before.before.before.args.z in
+    let z = c.args.z in
     to_z_pos w32 (of_z w16 z) (omega (arith, cell-small z (is-near c.before)))
 
 -- what the range's tests leave is kept as its cell
-is-kept : (c : tie.Else2) → cell_in c.before.before.args.least c.before.before.args.z ≡ Value (of_z w16 c.before.before.args.z)
+is-kept : (c : goal.Else-z-gt65535) → cell_in c.args.least c.args.z ≡ Value (of_z w16 c.args.z)
 is-kept c =
-    let p = c.before.before in
-    let e = to_z-of_z w32 p.args.z p.ranges.z in
-    let l = to_z-of_z w32 p.args.least p.ranges.least in
-    inside p.args.least p.args.z (rw (e, l) at c.before.if1.false) (rw e at c.if2.false)
+    let e = to_z-of_z w32 c.args.z c.ranges.z in
+    let l = to_z-of_z w32 c.args.least c.ranges.least in
+    inside c.args.least c.args.z (rw (e, l) at c.if-z-least.false) (rw e at c.if-z-gt65535.false)
 
 pub returns-then-z-least : goal.returns-then-z-least
 returns-then-z-least c =
@@ -58,28 +54,23 @@ returns-then-z-gt65535 c =
     let l = to_z-of_z w32 c.args.least c.ranges.least in
     sym (above c.args.least c.args.z (rw (e, l) at c.if-z-least.false) (rw e at c.if-z-gt65535.true))
 
--- CONV: whole record: c.before
 pub overflow_add-result : goal.overflow_add-result
 overflow_add-result c =
     let z = c.args.z in
-    rw (below-zero c) (record { sfits = omega (arith, cell-small z (is-near c)) })
+    rw (below-zero c) (record { sfits = omega (arith, cell-small z (is-near c.before)) })
 
--- CONV: whole record: c.before
 pub overflow_cast-result : goal.overflow_cast-result
 overflow_cast-result c =
     let z = c.args.z in
-    rw (below-zero c, held c) (tt, record { fits = cell-small z (is-near c) })
+    rw (below-zero c, held c) (tt, record { fits = cell-small z (is-near c.before) })
 
--- CONV: whole record: c.before
 pub returns-then-z-lt0 : goal.returns-then-z-lt0
-returns-then-z-lt0 c = rw (below-zero c, held c) (sym (is-kept c))
+returns-then-z-lt0 c = rw (below-zero c, held c) (sym (is-kept c.before))
 
--- CONV: whole record: c.before
 pub overflow_cast-result-2 : goal.overflow_cast-result-2
 overflow_cast-result-2 c =
     let z = c.args.z in
-    rw (from_zero c) (tt, record { fits = cell-small z (is-near c) })
+    rw (from_zero c) (tt, record { fits = cell-small z (is-near c.before) })
 
--- CONV: whole record: c.before
 pub returns : goal.returns
-returns c = rw (from_zero c) (sym (is-kept c))
+returns c = rw (from_zero c) (sym (is-kept c.before))

@@ -12,12 +12,12 @@ use Rattle.tokens.proofs.tokens.skip.Goals as goal
 pub returns-then-not-is_blank : goal.returns-then-not-is_blank
 returns-then-not-is_blank c =
     let a = c.args in
-    omega (arith, blanks-stop a.s.now c.loop-i.i (omega arith) (sym c.is_blank.ensures ∙ not-true _ c.if-not-is_blank.true))
+    omega (arith, blanks-stop a.s.now c.loop-i.i (omega arith) (sym c.is_blank.ensures ∙ c.if-not-is_blank.true))
 
 pub loop-i-preserved : goal.loop-i-preserved
 loop-i-preserved c =
     let a = c.args in
-    omega (arith, blanks-more a.s.now c.loop-i.i (omega arith) (sym c.is_blank.ensures ∙ not-false _ c.if-not-is_blank.false))
+    omega (arith, blanks-more a.s.now c.loop-i.i (omega arith) (sym c.is_blank.ensures ∙ c.if-not-is_blank.false))
 
 pub returns : goal.returns
 returns c =
