@@ -37,3 +37,19 @@ returns-else-relative c =
     let s = c.args in
     rw (stacked_operand k _ _ (past 7 s.mode c.in_default.in_default-own.rest) (t ∙ c.if-relative.false))
     (c.at_cell-else-relative.ensures ∙ counted s.m.now s.r.now SP s.word c.sum-else-relative.ensures)
+
+pub bounds-r-12 : goal.bounds-r-12
+unfolding operand_of locate place_of value_at there_in see
+bounds-r-12 c = search rules
+
+pub bounds-r-13 : goal.bounds-r-13
+unfolding operand_of locate place_of value_at there_in see
+bounds-r-13 c = search rules
+
+pub overflow_cast-next : goal.overflow_cast-next
+unfolding operand_of locate place_of value_at there_in see
+overflow_cast-next c = search rules
+
+pub bounds-r-14 : goal.bounds-r-14
+unfolding operand_of locate place_of value_at there_in see
+bounds-r-14 c = search rules

@@ -87,3 +87,6 @@ loop-kind-preserved c =
     let t = c.next_token-t.ensures in
     let o = c.out_at.ensures in
     c.loop-kind.invariant ∙ passed s c.loop-kind.at c.loop-kind.begins t o c.in-Mark.is c.if-out_at.false
+
+pub loop-kind-init : goal.loop-kind-init
+loop-kind-init c = refl

@@ -44,3 +44,18 @@ returns c =
     takes-word a.starts.now a.keys.now a.line.now a.count a.place a.start a.size
     c.key-k.result c.chain_of-chain.result _ p.0 p.1 p.2 (omega (arith, c.shared_slice_known-1.given a.start))
     c.key-k.ensures c.chain_of-chain.ensures refl
+
+pub overflow_cast-keys-2 : goal.overflow_cast-keys-2
+overflow_cast-keys-2 c = omega (arith, chain_below _ c.chain_of-chain.ensures)
+
+pub overflow_add-keys-2 : goal.overflow_add-keys-2
+overflow_add-keys-2 c = omega (arith, chain_below _ c.chain_of-chain.ensures)
+
+pub offset_bounds-keys-chain : goal.offset_bounds-keys-chain
+offset_bounds-keys-chain c = omega (arith, chain_below _ c.chain_of-chain.ensures)
+
+pub overflow_add-keys-5 : goal.overflow_add-keys-5
+overflow_add-keys-5 c = omega (arith, chain_below _ c.chain_of-chain.ensures)
+
+pub offset_bounds-keys-chain-2 : goal.offset_bounds-keys-chain-2
+offset_bounds-keys-chain-2 c = omega (arith, chain_below _ c.chain_of-chain.ensures)

@@ -47,3 +47,6 @@ loop-o-preserved c =
     let e = sym c.follows.ensures ∙ c.in-Comma.is in
     let h = some-comma s c.loop-o.all c.loop-o.at g c.with_operand-all.ensures e in
     c.loop-o.invariant ∙ h.0
+
+pub loop-o-init : goal.loop-o-init
+loop-o-init c = refl

@@ -67,3 +67,6 @@ pub loop-at-preserved : goal.loop-at-preserved
 loop-at-preserved c =
     let s = c.args.s.now in
     sym (past-mark s c.loop-at.at c.next_token-t.ensures c.in-Mark.is c.if-b-eq44.false) ∙ c.loop-at.invariant
+
+pub loop-at-init : goal.loop-at-init
+loop-at-init c = refl

@@ -187,6 +187,9 @@ returns c =
     (length a.aways.now) p.c p.from p.number p.uses p.invariant c.loop-from-test.false in
     (o.0, o.1, o.2, p.invariant.fair, p.invariant.uses_fit)
 
+pub slice_bounds-line-count : goal.slice_bounds-line-count
+slice_bounds-line-count c = omega arith
+
 -- MANUAL: -- no goal slice-bounds-line-end
 -- MANUAL: part-line-end : tie.Need-slice-bounds-line-end invariant-loop decreases-loop
 -- MANUAL: part-line-end c =

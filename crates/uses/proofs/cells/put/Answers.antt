@@ -1,0 +1,8 @@
+-- `set` past the end changes nothing.
+use mathlib.Core.Path.{sym}
+use borrow.Author.Rules.{rules}
+use lib.Seq.{set_out}
+use Rattle.uses.proofs.cells.put.Goals as goal
+
+pub returns : goal.returns
+returns c = sym (set_out c.args.cells.now c.args.at c.args.word c.if-at-cells.false)
