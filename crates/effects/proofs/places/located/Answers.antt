@@ -1,9 +1,8 @@
 -- Each arm finds the operand at its mode's place of the list; past the list stands mode 7.
 use mathlib.Core.Path.{◌∙◌}
-use borrow.Author.Rules.{rules}
+use native.Mathlib.Omega.{arith}
 use Rattle.codes.specs.Registers.{IX, IY, SP}
 use Rattle.isa.specs.Operands.{operand_of}
-use Rattle.isa.proofs.Past.{past}
 use Rattle.effects.specs.Seen.{see}
 use Rattle.effects.specs.Places.{place_of, value_at, there_in}
 use Rattle.effects.specs.Inner.Located.{locate}
@@ -46,7 +45,7 @@ pub returns-then-relative : goal.returns-then-relative
 unfolding locate place_of value_at see
 returns-then-relative c k t =
     rw (
-      relative-operand k _ _ (past 7 c.args.mode c.in_default.in_default-own.rest)
+      relative-operand k c.args.mode c.args.word (omega arith)
           (t ∙ c.if-relative.true),
       ← c.sum-then-relative.ensures,
     ) c.at_cell-then-relative.ensures
@@ -55,5 +54,5 @@ pub returns-else-relative : goal.returns-else-relative
 unfolding locate place_of value_at see
 returns-else-relative c k t =
     let s = c.args in
-    rw (stacked_operand k _ _ (past 7 s.mode c.in_default.in_default-own.rest) (t ∙ c.if-relative.false))
+    rw (stacked_operand k s.mode s.word (omega arith) (t ∙ c.if-relative.false))
     (c.at_cell-else-relative.ensures ∙ counted s.m.now s.r.now SP s.word c.sum-else-relative.ensures)
