@@ -8,4 +8,4 @@ use Rattle.expressions.specs.declared.Worth.TheVariants.{Is}
 use Rattle.expressions.proofs.worths.plain_worth.Goals as goal
 
 pub returns-in-Is : goal.returns-in-Is
-returns-in-Is c = ap Is (to_z-of_z {w = w32} (record { sfits = c.known_told-1.given.0.1 })) ∙ sym (ap plain c.in-Is.is)
+returns-in-Is c = ?
