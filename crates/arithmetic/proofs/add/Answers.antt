@@ -10,7 +10,7 @@ sum c =
     computed ◌+ℤ◌ c.args.x c.args.y c.signed_of.ensures c.signed_of-2.ensures c.ranges.x c.ranges.y sum-within
 
 pub overflow_add-signed_of : goal.overflow_add-signed_of
-overflow_add-signed_of c = (sum c).ranges
+overflow_add-signed_of c = (sum c).fits
 
 pub returns : goal.returns
 unfolding ADD

@@ -14,7 +14,7 @@ overflow_mul-product c =
     record { fits = unsigned_within c.args.x c.args.y c.ranges.x.fits c.ranges.y.fits }
 
 pub overflow_mul-signed_of : goal.overflow_mul-signed_of
-overflow_mul-signed_of c = (product c).ranges
+overflow_mul-signed_of c = (product c).fits
 
 pub returns : goal.returns
 unfolding MUL

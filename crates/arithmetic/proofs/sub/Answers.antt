@@ -10,7 +10,7 @@ difference c =
     computed ◌-ℤ◌ c.args.x c.args.y c.signed_of.ensures c.signed_of-2.ensures c.ranges.x c.ranges.y difference-within
 
 pub overflow_sub-signed_of : goal.overflow_sub-signed_of
-overflow_sub-signed_of c = (difference c).ranges
+overflow_sub-signed_of c = (difference c).fits
 
 pub returns : goal.returns
 unfolding SUB

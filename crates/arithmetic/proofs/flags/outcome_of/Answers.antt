@@ -8,9 +8,9 @@ pub returns : goal.returns
 unfolding outcome flags_of
 returns c =
     rw (
-      c.bit_of.ensures.0,
-      c.bit_of-2.ensures.0,
-      c.bit_of-3.ensures.0,
-      c.bit_of-4.ensures.0,
-      c.bit_of-5.ensures.0,
+      c.bit_of.ensures.value,
+      c.bit_of-2.ensures.value,
+      c.bit_of-3.ensures.value,
+      c.bit_of-4.ensures.value,
+      c.bit_of-5.ensures.value,
     )
