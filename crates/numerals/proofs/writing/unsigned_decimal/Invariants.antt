@@ -6,7 +6,7 @@ use Rattle.numerals.proofs.Filling.{Filled, filled-start, filled_more, filled-do
 use Rattle.numerals.proofs.writing.unsigned_decimal.Given as goal
 
 abbrev pub invariant-loop-i : goal.invariant-loop-i
-invariant-loop-i l = (1 ≤ l.initial.left) × (l.initial.left ≤ 11) × Filled l.n l.i l.initial.left l.left
+invariant-loop-i l = (1 ≤ l.i) × (l.i ≤ 11) × Filled l.n l.bytes l.i l.left
 
 abbrev pub decreases-loop-i : goal.decreases-loop-i
-decreases-loop-i l = l.initial.left
+decreases-loop-i l = l.i
