@@ -27,7 +27,7 @@ pub returns-in_default : goal.returns-in_default
 returns-in_default c =
     let a = c.args in
     let e = sym c.register_at-read.ensures ∙ c.in-Named.is in
-    index_no a.s.now a.from.at a.v e c.in_default.rest.0.0.1 c.in_default.rest.0.1 c.in_default.rest.1
+    index_no a.s.now a.from.at a.v e c.in_default.in_default-own.rest.0.0.1 c.in_default.in_default-own.rest.0.1 c.in_default.in_default-own.rest.1
 
 pub returns-in-Absent : goal.returns-in-Absent
 returns-in-Absent c =

@@ -46,7 +46,7 @@ unfolding starts
 returns-in_default c =
     let a = c.args in
     let e = sym c.mark_at-read.ensures ∙ c.in-Is.is in
-    let r = c.in_default.rest in
+    let r = c.in_default.in_default-own.rest in
     operand_no a.s.now a.from.at e
     (rw (ne_eqb _ _ r.0.0.0.0.1, ne_eqb _ _ r.0.0.0.1, ne_eqb _ _ r.0.0.1, ne_eqb _ _ r.0.1, ne_eqb _ _ r.1))
 
