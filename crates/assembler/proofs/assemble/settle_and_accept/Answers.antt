@@ -19,7 +19,7 @@ returns-in-Refused c =
     let bs = labels_in a.s.now a.starts.now a.keys.now a.values.now a.labels in
     let us = uses_held a.s.now a.row.now a.aways.now a.uses in
     not-settled a.memory.now a.map.now a.s.now c.settle.result found.0.0 found.0.1.0 found.0.1.1.0
-    (uses_verdict bs us) (second_refused 0 bs us) (filled bs us a.cells.now) c.settle.new.1.1.1.1.1.1.1.1.0 a.marks.now
+    (uses_verdict bs us) (second_refused 0 bs us) (filled bs us a.cells.now) c.settle.new.cells a.marks.now
     named.result.0 _ found.1 c.settle.ensures named.ensures c.refused.ensures
 
 -- none is
@@ -30,5 +30,5 @@ returns-in-Done c =
     let bs = labels_in a.s.now a.starts.now a.keys.now a.values.now a.labels in
     let us = uses_held a.s.now a.row.now a.aways.now a.uses in
     all_settled a.memory.now a.map.now c.settle.result (uses_verdict bs us) (second_refused 0 bs us) (label_point a.s.now bs us)
-    (filled bs us a.cells.now) c.settle.new.1.1.1.1.1.1.1.1.0 a.marks.now _ c.enum_told.given.1
+    (filled bs us a.cells.now) c.settle.new.cells a.marks.now _ c.enum_told.given.1
     c.settle.ensures c.accept.ensures
