@@ -12,7 +12,6 @@ use Rattle.assembler.proofs.assemble.assemble_over.Goals as goal
 -- a line is refused
 pub returns-in-Refused : goal.returns-in-Refused
 returns-in-Refused c =
-    let found = c.f-1.given in
     let w = c.walk in
     let a = c.args in
     let s = a.s.now in
@@ -20,13 +19,12 @@ returns-in-Refused c =
     let held =
     Holds s w.new.starts w.new.keys w.new.values w.new.marks w.new.cells
     w.new.row w.new.aways (work_of M s) in
-    not-walked M s a.memory.now a.map.now w.result found.0.0 found.0.1.0 held (memory_of (work_of M s)) (work_of M s).place.marks _
-    found.1 w.ensures c.refused_line.ensures
+    not-walked M s a.memory.now a.map.now w.result c.in-Refused.f c.in-Refused.l held (memory_of (work_of M s)) (work_of M s).place.marks _
+    c.in-Refused.is w.ensures c.refused_line.ensures
 
 -- the source's end is
 pub returns-in-Late : goal.returns-in-Late
 returns-in-Late c =
-    let found = c.l-1.given in
     let w = c.walk in
     let a = c.args in
     let s = a.s.now in
@@ -34,13 +32,12 @@ returns-in-Late c =
     let held =
     Holds s w.new.starts w.new.keys w.new.values w.new.marks w.new.cells
     w.new.row w.new.aways (work_of M s) in
-    late_at_end M s a.memory.now a.map.now w.result found.0.0 held (memory_of (work_of M s)) (work_of M s).place.marks _ found.1
+    late_at_end M s a.memory.now a.map.now w.result c.in-Late.l held (memory_of (work_of M s)) (work_of M s).place.marks _ c.in-Late.is
     w.ensures c.refused.ensures
 
 -- neither is
 pub settle_and_accept-requires : goal.settle_and_accept-requires
 settle_and_accept-requires c =
-    let found = c.labels-1.given in
     let w = c.walk in
     let a = c.args in
     let s = a.s.now in
@@ -48,7 +45,7 @@ settle_and_accept-requires c =
     let held =
     Holds s w.new.starts w.new.keys w.new.values w.new.marks w.new.cells
     w.new.row w.new.aways (work_of M s) in
-    let h = walk-passed M s held w.result found.0.0 found.0.1.0 found.1 w.ensures in
+    let h = walk-passed M s held w.result c.in-Passes.labels c.in-Passes.uses c.in-Passes.is w.ensures in
     let few = h.1.few-named in
     let lent = c.requires.0 in
     let long : length a.cells.now ≡ M = ap length lent.cells-empty ∙ length-replicate {A = ℕ} M 0 in (
@@ -68,7 +65,6 @@ settle_and_accept-requires c =
 
 pub returns-in-Passes : goal.returns-in-Passes
 returns-in-Passes c =
-    let found = c.labels-1.given in
     let w = c.walk in
     let a = c.args in
     let s = a.s.now in
@@ -76,9 +72,9 @@ returns-in-Passes c =
     let held =
     Holds s w.new.starts w.new.keys w.new.values w.new.marks w.new.cells
     w.new.row w.new.aways (work_of M s) in
-    let h = walk-passed M s held w.result found.0.0 found.0.1.0 found.1 w.ensures in
+    let h = walk-passed M s held w.result c.in-Passes.labels c.in-Passes.uses c.in-Passes.is w.ensures in
     all-walked M s a.memory.now a.map.now w.new.starts w.new.keys w.new.values w.new.marks
-    w.new.cells w.new.row w.new.aways found.0.0 found.0.1.0 _ h.0 h.1
+    w.new.cells w.new.row w.new.aways c.in-Passes.labels c.in-Passes.uses _ h.0 h.1
     c.settle_and_accept.ensures
 
 -- what the walk alone was lent keeps its length

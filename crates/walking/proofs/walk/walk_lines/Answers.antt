@@ -188,3 +188,9 @@ returns c =
 
 pub slice_bounds-line-count : goal.slice_bounds-line-count
 slice_bounds-line-count c = omega arith
+
+pub slice_bounds-line-end : goal.slice_bounds-line-end
+slice_bounds-line-end c =
+    let s = c.args.s.now in
+    let h : c.line_end-end.result ≤ length s = end-within s c.loop-from.from c.line_end-end.ensures c.loop-from-test.true in
+    search rules
