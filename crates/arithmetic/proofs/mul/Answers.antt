@@ -1,6 +1,5 @@
 -- The unsigned product, which a `u32` holds, gives the value and C, the product of the readings, which an `i32` holds, V.
 use lib.IntN.{◌*ℤ◌}
-use borrow.Author.Rules.{rules}
 use Rattle.arithmetic.specs.Operations.{MUL}
 use Rattle.arithmetic.proofs.Readings.{Computed, computed, product-within, unsigned_within}
 use Rattle.arithmetic.proofs.mul.Goals as goal
@@ -14,7 +13,7 @@ overflow_mul-product c =
     record { fits = unsigned_within c.args.x c.args.y c.ranges.x.fits c.ranges.y.fits }
 
 pub overflow_mul-signed_of : goal.overflow_mul-signed_of
-overflow_mul-signed_of c = (product c).ranges
+overflow_mul-signed_of c = (product c).fits
 
 pub returns : goal.returns
 unfolding MUL

@@ -7,7 +7,7 @@ use borrow.Author.Rules.{rules}
 use Rattle.speed.proofs.perform.Given as goal
 
 abbrev pub invariant-loop : goal.invariant-loop
-invariant-loop l = (counter ≤ l.out) × (l.counter ≤ counter * 4294967295) × (length l.stop ≡ length l.initial.m) × (length l.initial.steps ≡ length l.m)
+invariant-loop l = (counter ≤ l.runs) × (l.counter ≤ counter * 4294967295) × (length l.out ≡ length l.initial.m) × (length l.g ≡ length l.initial.out)
 
 abbrev pub decreases-loop : goal.decreases-loop
-decreases-loop l = l.out - counter
+decreases-loop l = l.runs - counter

@@ -8,7 +8,7 @@ use Rattle.assembler.proofs.Rows.{copy_more, copy_end}
 use Rattle.assembler.proofs.copying.copy_cells.Given as goal
 
 abbrev pub invariant-loop-i : goal.invariant-loop-i
-invariant-loop-i l = (l.i ≤ length l.from) × (length l.initial.i ≡ length l.initial.to) × (length l.from ≡ length l.initial.to) × (take l.i l.initial.i ≡ take l.i l.from)
+invariant-loop-i l = (l.i ≤ length l.from) × (length l.to ≡ length l.initial.to) × (length l.from ≡ length l.initial.to) × (take l.i l.to ≡ take l.i l.from)
 
 abbrev pub decreases-loop-i : goal.decreases-loop-i
 decreases-loop-i l = length l.from - l.i

@@ -10,7 +10,7 @@ use Rattle.assembler.proofs.Rows.{count-one, count-other, count-end}
 use Rattle.assembler.proofs.counting.counted.Given as goal
 
 abbrev pub invariant-loop-i : goal.invariant-loop-i
-invariant-loop-i l = (l.i ≤ length l.marks) × (l.initial.i ≤ l.i) × (cells_marked l.mark l.marks ≡ l.initial.i + cells_marked l.mark (drop l.i l.marks))
+invariant-loop-i l = (l.i ≤ length l.marks) × (l.c ≤ l.i) × (cells_marked l.mark l.marks ≡ l.c + cells_marked l.mark (drop l.i l.marks))
 
 abbrev pub decreases-loop-i : goal.decreases-loop-i
 decreases-loop-i l = length l.marks - l.i

@@ -8,7 +8,7 @@ use Rattle.columns.proofs.LineStarts.{start-more, start-there}
 use Rattle.columns.proofs.lines.line_start.Given as goal
 
 abbrev pub invariant-loop-left : goal.invariant-loop-left
-invariant-loop-left l = start_after l.source (l.number - 1) 0 ≡ start_after l.source (l.left - 1) l.initial.left
+invariant-loop-left l = start_after l.source (l.number - 1) 0 ≡ start_after l.source (l.left - 1) l.from
 
 abbrev pub decreases-loop-left : goal.decreases-loop-left
 decreases-loop-left l = l.left

@@ -13,7 +13,7 @@ use Rattle.desk.proofs.Shown.{shown_at}
 use Rattle.desk.proofs.excerpts.put_shown.Given as goal
 
 abbrev pub invariant-loop-k : goal.invariant-loop-k
-invariant-loop-k l = Copied l.initial.room l.room (map shown_byte l.at) (length l.at) l.initial.k l.k
+invariant-loop-k l = Copied l.initial.room l.at (map shown_byte l.part) (length l.part) l.room l.k
 
 abbrev pub decreases-loop-k : goal.decreases-loop-k
-decreases-loop-k l = length l.at - l.k
+decreases-loop-k l = length l.part - l.k

@@ -6,7 +6,7 @@ use mathlib.Core.Path.{◌≡◌}
 use Rattle.desk.proofs.source.load.Given as goal
 
 abbrev pub invariant-loop : goal.invariant-loop
-invariant-loop l = (l.end ≤ l.held) × (length l.initial.counter ≡ length l.initial.room) × (l.counter ≤ length l.initial.counter)
+invariant-loop l = (l.counter ≤ l.end) × (length l.room ≡ length l.initial.room) × (l.held ≤ length l.room)
 
 abbrev pub decreases-loop : goal.decreases-loop
-decreases-loop l = l.held - l.end
+decreases-loop l = l.end - l.counter

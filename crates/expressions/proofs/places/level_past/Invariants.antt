@@ -13,7 +13,7 @@ use Rattle.expressions.proofs.Levels.{level_ended, level_wrong, level-on, level_
 use Rattle.expressions.proofs.places.level_past.Given as goal
 
 abbrev pub invariant-loop-kind : goal.invariant-loop-kind
-invariant-loop-kind l = (l.height ≤ deepest) × (level_at (tokens_from l.s l.start) true 0 ≡ level_at (tokens_from l.s l.operand) l.initial.height l.height)
+invariant-loop-kind l = (l.height ≤ deepest) × (level_at (tokens_from l.s l.start) true 0 ≡ level_at (tokens_from l.s l.at) l.operand l.height)
 
 abbrev pub decreases-loop-kind : goal.decreases-loop-kind
-decreases-loop-kind l = length l.s - l.operand
+decreases-loop-kind l = length l.s - l.at

@@ -11,7 +11,7 @@ use Rattle.expressions.proofs.Scans.{scan_ended, scan_wrong, scan-on, scan_moves
 use Rattle.expressions.proofs.scanning.right_form.Given as goal
 
 abbrev pub invariant-loop-kind : goal.invariant-loop-kind
-invariant-loop-kind l = (l.height ≤ l.operand) × (l.height ≤ length l.s) × (right_form (tokens_from l.s l.start) true 0 ≡ right_form (tokens_from l.s l.operand) l.initial.height l.height)
+invariant-loop-kind l = (l.height ≤ l.at) × (l.height ≤ length l.s) × (right_form (tokens_from l.s l.start) true 0 ≡ right_form (tokens_from l.s l.at) l.operand l.height)
 
 abbrev pub decreases-loop-kind : goal.decreases-loop-kind
-decreases-loop-kind l = length l.s - l.operand
+decreases-loop-kind l = length l.s - l.at

@@ -13,7 +13,7 @@ use borrow.Author.Rules.{rules}
 use Rattle.faults.proofs.place.place.Given as goal
 
 abbrev pub invariant-loop-at : goal.invariant-loop-at
-invariant-loop-at l = (place l.line ≡ place_at l.line l.began l.initial.at l.at) × (l.initial.at ≤ l.at) × (opens_in (lex_at l.line l.began l.initial.at l.at) ≤ l.at)
+invariant-loop-at l = (place l.line ≡ place_at l.line l.x l.began l.at) × (l.began ≤ l.at) × (opens_in (lex_at l.line l.x l.began l.at) ≤ l.at)
 
 abbrev pub decreases-loop-at : goal.decreases-loop-at
 decreases-loop-at l = length l.line - l.at

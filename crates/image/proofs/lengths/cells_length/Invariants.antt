@@ -9,7 +9,7 @@ use Rattle.image.proofs.Texts.{left, left-length, left-none, cells-bound}
 use Rattle.image.proofs.lengths.cells_length.Given as goal
 
 abbrev pub invariant-loop-i : goal.invariant-loop-i
-invariant-loop-i l = l.initial.i + length (left l.memory l.map l.i) ≡ length (cells_text l.memory l.map)
+invariant-loop-i l = l.n + length (left l.memory l.map l.i) ≡ length (cells_text l.memory l.map)
 
 abbrev pub decreases-loop-i : goal.decreases-loop-i
 decreases-loop-i l = length l.map - l.i

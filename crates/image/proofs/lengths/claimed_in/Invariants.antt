@@ -10,7 +10,7 @@ use Rattle.image.proofs.Texts.{claimed-free, claimed-more, claimed-none, claimed
 use Rattle.image.proofs.lengths.claimed_in.Given as goal
 
 abbrev pub invariant-loop-i : goal.invariant-loop-i
-invariant-loop-i l = l.initial.i + claimed (drop l.i l.map) ≡ claimed l.map
+invariant-loop-i l = l.n + claimed (drop l.i l.map) ≡ claimed l.map
 
 abbrev pub decreases-loop-i : goal.decreases-loop-i
 decreases-loop-i l = length l.map - l.i

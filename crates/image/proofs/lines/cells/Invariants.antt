@@ -9,7 +9,7 @@ use Rattle.image.proofs.Rooms.{Writing, writing_more, writing-end}
 use Rattle.image.proofs.lines.cells.Given as goal
 
 abbrev pub invariant-loop-i : goal.invariant-loop-i
-invariant-loop-i l = Writing l.initial.room l.room l.from l.memory l.at l.initial.i l.i
+invariant-loop-i l = Writing l.initial.room l.from l.memory l.map l.room l.at l.i
 
 abbrev pub decreases-loop-i : goal.decreases-loop-i
-decreases-loop-i l = length l.memory - l.i
+decreases-loop-i l = length l.map - l.i

@@ -10,7 +10,7 @@ use Rattle.items.proofs.Located.{is-out, passed, moves}
 use Rattle.items.proofs.places.number_out.Given as goal
 
 abbrev pub invariant-loop-kind : goal.invariant-loop-kind
-invariant-loop-kind l = number_out_in (tokens_from l.s l.initial.at) ≡ out_from l.begins (tokens_from l.s l.initial.begins)
+invariant-loop-kind l = number_out_in (tokens_from l.s l.initial.at) ≡ out_from l.begins (tokens_from l.s l.at)
 
 abbrev pub decreases-loop-kind : goal.decreases-loop-kind
-decreases-loop-kind l = length l.s - l.initial.begins
+decreases-loop-kind l = length l.s - l.at

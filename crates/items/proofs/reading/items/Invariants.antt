@@ -14,7 +14,7 @@ use Rattle.items.proofs.Walks.{verdict-start, turn-absent, turn-over, turn-neith
 use Rattle.items.proofs.reading.items.Given as goal
 
 abbrev pub invariant-loop-n : goal.invariant-loop-n
-invariant-loop-n l = (l.initial.fit ≤ l.cells) × (items_read l.s (tokens_from l.s l.initial.at) ≡ verdict l.initial.fit l.fit (walk l.s item (tokens_from l.s l.cells)))
+invariant-loop-n l = (l.cells ≤ l.at) × (items_read l.s (tokens_from l.s l.initial.at) ≡ verdict l.cells l.fit (walk l.s item (tokens_from l.s l.at)))
 
 abbrev pub decreases-loop-n : goal.decreases-loop-n
-decreases-loop-n l = length l.s - l.cells
+decreases-loop-n l = length l.s - l.at

@@ -9,7 +9,7 @@ use Rattle.items.proofs.Counts.{Left, character_moves, count-start, count_on, co
 use Rattle.items.proofs.strings.character_count.Given as goal
 
 abbrev pub invariant-loop-i : goal.invariant-loop-i
-invariant-loop-i l = (l.initial.i + l.count ≤ l.initial.count) × Left l.s l.initial.i l.initial.count l.count
+invariant-loop-i l = (l.initial.i + l.count ≤ l.i) × Left l.s l.initial.i l.i l.count
 
 abbrev pub decreases-loop-i : goal.decreases-loop-i
-decreases-loop-i l = length l.s - l.initial.count
+decreases-loop-i l = length l.s - l.i

@@ -18,8 +18,8 @@ use Rattle.items.proofs.Writes.{some_item, some_end, last_written, next-accepted
 use Rattle.items.proofs.writing.write_items.Given as goal
 
 abbrev pub invariant-loop-n : goal.invariant-loop-n
-invariant-loop-n l = (l.k ≤ l.initial.k) × (length l.i ≡ length l.initial.row) × (accepted (walk l.s item (tokens_from l.s l.initial.k)) ≡ true)
-    × (sets l.initial.row l.row (cells_from l.s (tokens_from l.s l.at)) ≡ sets l.i (l.row + l.k) (cells_from l.s (tokens_from l.s l.initial.k)))
+invariant-loop-n l = (l.k ≤ l.i) × (length l.row ≡ length l.initial.row) × (accepted (walk l.s item (tokens_from l.s l.i)) ≡ true)
+    × (sets l.initial.row l.at (cells_from l.s (tokens_from l.s l.initial.i)) ≡ sets l.row (l.at + l.k) (cells_from l.s (tokens_from l.s l.i)))
 
 abbrev pub decreases-loop-n : goal.decreases-loop-n
-decreases-loop-n l = length l.s - l.initial.k
+decreases-loop-n l = length l.s - l.i

@@ -10,7 +10,7 @@ use Rattle.items.proofs.Writes.{Left, string-start, string_on, string-closed, st
 use Rattle.items.proofs.writing.write_string.Given as goal
 
 abbrev pub invariant-loop-i : goal.invariant-loop-i
-invariant-loop-i l = (l.n ≤ l.initial.n) × (length l.i ≡ length l.initial.row) × Left l.s l.from l.initial.row (l.row + l.at) l.initial.n l.i (l.row + l.n)
+invariant-loop-i l = (l.n ≤ l.i) × (length l.row ≡ length l.initial.row) × Left l.s l.from l.initial.row (l.at + l.k) l.i l.row (l.at + l.n)
 
 abbrev pub decreases-loop-i : goal.decreases-loop-i
-decreases-loop-i l = length l.s - l.initial.n
+decreases-loop-i l = length l.s - l.i

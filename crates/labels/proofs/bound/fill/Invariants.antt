@@ -11,7 +11,7 @@ use Rattle.labels.proofs.Laws.{filled_more}
 use Rattle.labels.proofs.bound.fill.Given as goal
 
 abbrev pub invariant-loop-i : goal.invariant-loop-i
-invariant-loop-i l = (l.values ≤ l.i) × (l.i ≤ l.from) × (take l.i l.initial.i ≡ take l.values l.initial.values ++ replicate (l.i - l.values) l.to) × (length l.initial.i ≡ length l.initial.values)
+invariant-loop-i l = (l.from ≤ l.i) × (l.i ≤ l.to) × (take l.i l.values ≡ take l.from l.initial.values ++ replicate (l.i - l.from) l.v) × (length l.values ≡ length l.initial.values)
 
 abbrev pub decreases-loop-i : goal.decreases-loop-i
-decreases-loop-i l = l.from - l.i
+decreases-loop-i l = l.to - l.i

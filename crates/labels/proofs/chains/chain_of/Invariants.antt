@@ -7,7 +7,7 @@ use Rattle.labels.proofs.Laws.{chain_none, chain_more}
 use Rattle.labels.proofs.chains.chain_of.Given as goal
 
 abbrev pub invariant-loop-i : goal.invariant-loop-i
-invariant-loop-i l = (l.initial.chain ≤ l.n) × (l.chain < chains) × (l.chain ≡ chain_of (window l.s (l.a + l.initial.chain) (l.n - l.initial.chain)))
+invariant-loop-i l = (l.i ≤ l.n) × (l.chain < chains) × (l.chain ≡ chain_of (window l.s (l.a + l.i) (l.n - l.i)))
 
 abbrev pub decreases-loop-i : goal.decreases-loop-i
-decreases-loop-i l = l.initial.chain
+decreases-loop-i l = l.i

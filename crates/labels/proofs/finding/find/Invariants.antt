@@ -10,7 +10,7 @@ use Rattle.labels.proofs.Walks.{Walked, onward-within, onward-below, no-word, wa
 use Rattle.labels.proofs.finding.find.Given as goal
 
 abbrev pub invariant-loop-named : goal.invariant-loop-named
-invariant-loop-named l = Walked l.s l.starts l.keys (window l.line l.start l.size) l.count l.chain l.initial.named l.named × InCell l.named
+invariant-loop-named l = Walked l.s l.starts l.keys (window l.line l.start l.size) l.count l.chain l.found l.named × InCell l.named
 
 abbrev pub decreases-loop-named : goal.decreases-loop-named
 decreases-loop-named l = l.named

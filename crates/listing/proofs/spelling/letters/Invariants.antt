@@ -7,7 +7,7 @@ use Rattle.listing.proofs.Letters.{Spelling, spelling_length, spelling_more, spe
 use Rattle.listing.proofs.spelling.letters.Given as goal
 
 abbrev pub invariant-loop-left : goal.invariant-loop-left
-invariant-loop-left l = Spelling l.initial.room l.room l.at l.put l.initial.left l.left
+invariant-loop-left l = Spelling l.initial.room l.at l.number l.room l.put l.left
 
 abbrev pub decreases-loop-left : goal.decreases-loop-left
 decreases-loop-left l = l.left

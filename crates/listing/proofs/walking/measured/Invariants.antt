@@ -8,7 +8,7 @@ use Rattle.listing.proofs.Loops.{Measuring, measuring_start, measuring_skip, mea
 use Rattle.listing.proofs.walking.measured.Given as goal
 
 abbrev pub invariant-loop-at : goal.invariant-loop-at
-invariant-loop-at l = Measuring l.memory l.map l.behind l.initial.at l.at
+invariant-loop-at l = Measuring l.memory l.map l.length l.behind l.at
 
 abbrev pub decreases-loop-at : goal.decreases-loop-at
 decreases-loop-at l = list.length l.map - l.at

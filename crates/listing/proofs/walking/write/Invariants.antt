@@ -8,7 +8,7 @@ use Rattle.listing.proofs.Loops.{Writing, writing_start, writing-skip, writing-f
 use Rattle.listing.proofs.walking.write.Given as goal
 
 abbrev pub invariant-loop-at : goal.invariant-loop-at
-invariant-loop-at l = Writing l.initial.room l.memory l.map l.initial.behind l.behind l.initial.at l.at
+invariant-loop-at l = Writing l.initial.room l.memory l.map l.room l.put l.behind l.at
 
 abbrev pub decreases-loop-at : goal.decreases-loop-at
 decreases-loop-at l = length l.map - l.at

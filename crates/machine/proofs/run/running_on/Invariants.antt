@@ -13,7 +13,7 @@ use Rattle.machine.proofs.Turns.{is_running, running-good, turn-first, turn-none
 use Rattle.machine.proofs.run.running_on.Given as goal
 
 abbrev pub invariant-loop-count : goal.invariant-loop-count
-invariant-loop-count l = (later l.count (run_of (l.initial.out - l.count) l.m (running l.initial.written l.initial.taken l.taken l.written l.initial.count)) ≡ run_of l.initial.out l.m (running l.out l.initial.m l.input l.budget l.initial.r)) × (good_loan l.m (running l.initial.written l.initial.taken l.taken l.written l.initial.count) ≡ true) × (l.count ≤ l.initial.out) × (length l.initial.taken ≡ length l.initial.m) × (length l.taken ≡ length l.input)
+invariant-loop-count l = (later l.count (run_of (l.budget - l.count) l.input (running l.r l.m l.out l.taken l.written)) ≡ run_of l.budget l.input (running l.initial.r l.initial.m l.initial.out l.initial.taken l.initial.written)) × (good_loan l.input (running l.r l.m l.out l.taken l.written) ≡ true) × (l.count ≤ l.budget) × (length l.m ≡ length l.initial.m) × (length l.out ≡ length l.initial.out)
 
 abbrev pub decreases-loop-count : goal.decreases-loop-count
-decreases-loop-count l = l.initial.out - l.count
+decreases-loop-count l = l.budget - l.count

@@ -10,7 +10,7 @@ use Rattle.names.proofs.Packs.{number-none, number-long, number_short, room, roo
 use Rattle.names.proofs.lookup.packed_within.Given as goal
 
 abbrev pub invariant-loop-i : goal.invariant-loop-i
-invariant-loop-i l = (l.start ≤ l.i) × (l.i ≤ l.end) × (l.initial.i < room (l.end - l.i)) × (l.initial.i ≡ pack (map digit (slice l.i l.end l.s)))
+invariant-loop-i l = (l.start ≤ l.i) × (l.i ≤ l.end) × (l.number < room (l.end - l.i)) × (l.number ≡ pack (map digit (slice l.i l.end l.s)))
 
 abbrev pub decreases-loop-i : goal.decreases-loop-i
 decreases-loop-i l = l.i

@@ -1,15 +1,14 @@
 -- The loop cuts after each digit, and the worth that is left stays the same; cutting on the way is cutting at the end.
-use borrow.Author.Rules.{rules}
-use Prim.Native.Nat.{◌+◌, ◌*◌, ◌-◌, ◌≤◌}
-use mathlib.Core.Logic.{⊎_elim}
+use Prim.Native.Nat.{◌+◌, ◌*◌, ◌-◌}
 use mathlib.Core.Path.{◌≡◌, sym, ◌∙◌}
 use native.Mathlib.Nat.{mul-le-mul_right}
 use native.Mathlib.Omega.{arith}
 use lib.ListN.{get_or, take, drop}
 use Rattle.numerals.specs.Bytes.{rank}
 use Rattle.numerals.specs.Numbers.{cut}
-use Rattle.numerals.proofs.Worths.{cut_after, cut_at_end, cut_step, cut-done}
+use Rattle.numerals.proofs.Worths.{cut_at_end, cut_step, cut-done}
 use Rattle.numerals.proofs.reading.worth_of.Goals as goal
+use Rattle.numerals.proofs.reading.worth_of.Goals.{then-v-gt65536, else-v-gt65536}
 
 pub overflow_mul-v : goal.overflow_mul-v
 overflow_mul-v c = omega (arith, mul-le-mul_right c.args.radix c.loop-i.invariant.1)
@@ -21,7 +20,7 @@ pub loop-i-preserved : goal.loop-i-preserved
 loop-i-preserved c =
     let a = c.args in
     let e : c.if-v-gt65536.v ≡ cut (c.loop-i.v * a.radix + rank (get_or a.s.now c.loop-i.i 0)) =
-    ⊎_elim (λ w. omega arith) (λ w. omega arith) c.if-v-gt65536.branch in (
+    elim c.if-v-gt65536.branch [ then-v-gt65536 w ↦ omega arith | else-v-gt65536 w ↦ omega arith ] in (
       omega arith,
       omega arith,
       c.loop-i.invariant.2 ∙ cut_step a.radix c.loop-i.v c.loop-i.i a.end a.s.now (omega arith) (omega arith) e,

@@ -1,19 +1,13 @@
 -- The loop cuts after each digit, and the worth that is left stays the same; cutting on the way is cutting at the end.
-use borrow.Author.Rules.{rules}
-use Prim.Native.Nat.{◌+◌, ◌*◌, ◌-◌, ◌≤◌}
-use mathlib.Core.Logic.{⊎_elim}
-use mathlib.Core.Path.{◌≡◌, sym, ◌∙◌}
-use native.Mathlib.Nat.{mul-le-mul_right}
-use native.Mathlib.Omega.{arith}
-use lib.ListN.{get_or, take, drop}
-use Rattle.numerals.specs.Bytes.{rank}
-use Rattle.numerals.specs.Numbers.{cut}
-use Rattle.numerals.proofs.Worths.{cut_after, cut_at_end, cut_step, cut-done}
+use Prim.Native.Nat.{◌-◌, ◌≤◌}
+use mathlib.Core.Path.{◌≡◌}
+use lib.ListN.{take, drop}
+use Rattle.numerals.proofs.Worths.{cut_after}
 use Rattle.numerals.proofs.reading.worth_of.Given as goal
 
 abbrev pub invariant-loop-i : goal.invariant-loop-i
-invariant-loop-i l = (l.i ≤ l.end) × (l.initial.i ≤ 65536)
-    × (cut_after l.radix 0 (take (l.end - l.from) (drop l.from l.s)) ≡ cut_after l.radix l.initial.i (take (l.end - l.i) (drop l.i l.s)))
+invariant-loop-i l = (l.i ≤ l.end) × (l.v ≤ 65536)
+    × (cut_after l.radix 0 (take (l.end - l.from) (drop l.from l.s)) ≡ cut_after l.radix l.v (take (l.end - l.i) (drop l.i l.s)))
 
 abbrev pub decreases-loop-i : goal.decreases-loop-i
 decreases-loop-i l = l.end - l.i

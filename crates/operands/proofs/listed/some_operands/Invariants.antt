@@ -13,7 +13,7 @@ use Rattle.operands.proofs.Lists.{some-wrong, some-over, some-neither, some-comm
 use Rattle.operands.proofs.listed.some_operands.Given as goal
 
 abbrev pub invariant-loop-o : goal.invariant-loop-o
-invariant-loop-o l = listed l.at (walk l.s operand (tokens_from l.s l.initial.at)) ≡ listed l.all (walk l.s operand (tokens_from l.s l.initial.all))
+invariant-loop-o l = listed l.initial.all (walk l.s operand (tokens_from l.s l.initial.at)) ≡ listed l.all (walk l.s operand (tokens_from l.s l.at))
 
 abbrev pub decreases-loop-o : goal.decreases-loop-o
-decreases-loop-o l = length l.s - l.initial.all
+decreases-loop-o l = length l.s - l.at

@@ -9,7 +9,7 @@ use Rattle.placing.proofs.CellLaws.{paint_from, paint_more, paint_end}
 use Rattle.placing.proofs.claims.paint.Given as goal
 
 abbrev pub invariant-loop-i : goal.invariant-loop-i
-invariant-loop-i l = (l.i ≤ l.at) × (length l.initial.i ≡ length l.initial.marks) × (sets l.initial.marks l.marks (replicate l.at l.n) ≡ sets l.initial.i (l.marks + l.i) (replicate (l.at - l.i) l.n))
+invariant-loop-i l = (l.i ≤ l.n) × (length l.marks ≡ length l.initial.marks) × (sets l.initial.marks l.at (replicate l.n l.mark) ≡ sets l.marks (l.at + l.i) (replicate (l.n - l.i) l.mark))
 
 abbrev pub decreases-loop-i : goal.decreases-loop-i
-decreases-loop-i l = l.at - l.i
+decreases-loop-i l = l.n - l.i

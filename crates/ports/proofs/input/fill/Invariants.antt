@@ -9,7 +9,7 @@ use Rattle.ports.proofs.Overwrites.{copy_last, Copied, copy_none, copy_more}
 use Rattle.ports.proofs.input.fill.Given as goal
 
 abbrev pub invariant-loop-k : goal.invariant-loop-k
-invariant-loop-k l = Copied l.initial.m l.m (drop l.input l.to) l.from l.initial.k l.k
+invariant-loop-k l = Copied l.initial.m l.to (drop l.from l.input) l.n l.m l.k
 
 abbrev pub decreases-loop-k : goal.decreases-loop-k
-decreases-loop-k l = l.from - l.k
+decreases-loop-k l = l.n - l.k

@@ -10,7 +10,7 @@ use Rattle.ports.proofs.Overwrites.{Copied, copy_none, copy_more, copy_end}
 use Rattle.ports.proofs.output.copy.Given as goal
 
 abbrev pub invariant-loop-k : goal.invariant-loop-k
-invariant-loop-k l = Copied l.initial.out l.out l.at (length l.at) l.initial.k l.k
+invariant-loop-k l = Copied l.initial.out l.at l.text (length l.text) l.out l.k
 
 abbrev pub decreases-loop-k : goal.decreases-loop-k
-decreases-loop-k l = length l.at - l.k
+decreases-loop-k l = length l.text - l.k

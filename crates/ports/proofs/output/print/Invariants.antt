@@ -13,7 +13,7 @@ use Rattle.ports.proofs.Overwrites.{Copied, copy_none, copy_more, copy_end}
 use Rattle.ports.proofs.output.print.Given as goal
 
 abbrev pub invariant-loop-k : goal.invariant-loop-k
-invariant-loop-k l = Copied l.initial.out l.out (map low_byte (drop l.m l.at)) l.from l.initial.k l.k
+invariant-loop-k l = Copied l.initial.out l.at (map low_byte (drop l.from l.m)) l.n l.out l.k
 
 abbrev pub decreases-loop-k : goal.decreases-loop-k
-decreases-loop-k l = l.from - l.k
+decreases-loop-k l = l.n - l.k

@@ -12,7 +12,7 @@ use Rattle.record.proofs.Texts.{cells-more}
 use Rattle.record.proofs.lines.cells.Given as goal
 
 abbrev pub invariant-loop-k : goal.invariant-loop-k
-invariant-loop-k l = (l.k ≤ l.from) × (length l.next ≡ length l.initial.room) × (Wrote l.initial.room l.room (text_of (lines_from l.at l.n l.names l.k)) l.next l.initial.k × (l.initial.k ≤ l.room + 20 * l.k))
+invariant-loop-k l = (l.k ≤ l.n) × (length l.room ≡ length l.initial.room) × (Wrote l.initial.room l.at (text_of (lines_from l.names l.r l.from l.k)) l.room l.next × (l.next ≤ l.at + 20 * l.k))
 
 abbrev pub decreases-loop-k : goal.decreases-loop-k
-decreases-loop-k l = l.from - l.k
+decreases-loop-k l = l.n - l.k

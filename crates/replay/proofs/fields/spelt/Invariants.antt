@@ -3,7 +3,7 @@ use Rattle.std.proofs.Common.{◌≡◌, ◌-◌, length, arith, length-set, rul
 use Rattle.replay.proofs.fields.spelt.Given as goal
 
 abbrev pub invariant-loop-i : goal.invariant-loop-i
-invariant-loop-i l = length l.n ≡ length l.initial.into
+invariant-loop-i l = length l.into ≡ length l.initial.into
 
 abbrev pub decreases-loop-i : goal.decreases-loop-i
 decreases-loop-i l = length l.s - l.i

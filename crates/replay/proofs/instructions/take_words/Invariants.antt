@@ -3,7 +3,7 @@ use Rattle.std.proofs.Common.{◌≡◌, ◌-◌, ◌≤◌, length, arith, leng
 use Rattle.replay.proofs.instructions.take_words.Given as goal
 
 abbrev pub invariant-loop-i : goal.invariant-loop-i
-invariant-loop-i l = (l.i-end ≤ i-end) × (i-end ≡ length l.initial.m) × (length l.initial.i ≡ length l.initial.m)
+invariant-loop-i l = (l.i ≤ i-end) × (i-end ≡ length l.initial.m) × (length l.m ≡ length l.initial.m)
 
 abbrev pub decreases-loop-i : goal.decreases-loop-i
-decreases-loop-i l = i-end - l.i-end
+decreases-loop-i l = i-end - l.i

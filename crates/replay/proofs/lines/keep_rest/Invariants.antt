@@ -3,7 +3,7 @@ use Rattle.std.proofs.Common.{◌≡◌, ◌-◌, ◌≤◌, length, arith, leng
 use Rattle.replay.proofs.lines.keep_rest.Given as goal
 
 abbrev pub invariant-loop-i : goal.invariant-loop-i
-invariant-loop-i l = (length l.n ≡ length l.initial.text) × (l.initial.i ≤ length l.initial.text)
+invariant-loop-i l = (length l.text ≡ length l.initial.text) × (l.n ≤ length l.initial.text)
 
 abbrev pub decreases-loop-i : goal.decreases-loop-i
-decreases-loop-i l = l.from - l.i
+decreases-loop-i l = l.held - l.i

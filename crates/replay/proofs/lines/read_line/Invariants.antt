@@ -3,7 +3,7 @@ use Rattle.std.proofs.Common.{◌≡◌, ◌-◌, length, arith, length-take}
 use Rattle.replay.proofs.lines.read_line.Given as goal
 
 abbrev pub invariant-loop-more : goal.invariant-loop-more
-invariant-loop-more l = length l.initial.held ≡ length l.initial.text
+invariant-loop-more l = length l.text ≡ length l.initial.text
 
 abbrev pub decreases-loop-more : goal.decreases-loop-more
-decreases-loop-more l = length l.initial.held - l.held
+decreases-loop-more l = length l.text - l.held

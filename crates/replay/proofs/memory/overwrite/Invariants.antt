@@ -3,7 +3,7 @@ use Rattle.std.proofs.Common.{◌≡◌, ◌-◌, ◌≤◌, length, rules}
 use Rattle.replay.proofs.memory.overwrite.Given as goal
 
 abbrev pub invariant-loop : goal.invariant-loop
-invariant-loop l = (l.counter ≤ l.at) × (length l.next ≡ length l.initial.m)
+invariant-loop l = (l.counter ≤ l.count) × (length l.m ≡ length l.initial.m)
 
 abbrev pub decreases-loop : goal.decreases-loop
-decreases-loop l = l.at - l.counter
+decreases-loop l = l.count - l.counter

@@ -3,7 +3,7 @@ use Rattle.std.proofs.Common.{◌≡◌, ◌-◌, ◌≤◌, length, rules}
 use Rattle.replay.proofs.replies.put_all.Given as goal
 
 abbrev pub invariant-loop-i : goal.invariant-loop-i
-invariant-loop-i l = (l.i-end ≤ i-end) × (i-end ≡ length l.at) × (length l.initial.i ≡ length l.initial.out)
+invariant-loop-i l = (l.i ≤ i-end) × (i-end ≡ length l.text) × (length l.out ≡ length l.initial.out)
 
 abbrev pub decreases-loop-i : goal.decreases-loop-i
-decreases-loop-i l = i-end - l.i-end
+decreases-loop-i l = i-end - l.i

@@ -6,7 +6,7 @@ use mathlib.Core.Path.{◌≡◌}
 use Rattle.replay_lines.proofs.cases.answer_all.Given as goal
 
 abbrev pub invariant-loop-turns : goal.invariant-loop-turns
-invariant-loop-turns l = (33000 ≡ length l.initial.now) × (512 ≡ length l.now)
+invariant-loop-turns l = (33000 ≡ length l.line) × (512 ≡ length l.bytes)
 
 abbrev pub decreases-loop-turns : goal.decreases-loop-turns
 decreases-loop-turns l = l.turns

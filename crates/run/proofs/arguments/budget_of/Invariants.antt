@@ -9,7 +9,7 @@ use Rattle.run.proofs.Budgets.{budget_none, budget_some, budget_more, budget_oth
 use Rattle.run.proofs.arguments.budget_of.Given as goal
 
 abbrev pub invariant-loop-i : goal.invariant-loop-i
-invariant-loop-i l = (budget_after l.initial.i (drop l.i l.word) ≡ budget_of l.word) × (l.initial.i ≤ 1000000)
+invariant-loop-i l = (budget_after l.steps (drop l.i l.word) ≡ budget_of l.word) × (l.steps ≤ 1000000)
 
 abbrev pub decreases-loop-i : goal.decreases-loop-i
 decreases-loop-i l = length l.word - l.i

@@ -14,11 +14,11 @@ use Rattle.settling.proofs.settle.settle.Given as goal
 
 abbrev pub invariant-loop-i : goal.invariant-loop-i
 invariant-loop-i l = let bs = labels_in l.s l.starts l.keys l.values l.count in
-    (l.initial.before ≤ l.uses)
-    × (uses_verdict bs (uses_held l.s l.row l.aways l.initial.before) ≡ passes)
-    × (l.i ≡ filled bs (uses_held l.s l.row l.aways l.initial.before) l.initial.cells)
-    × (length l.i ≡ length l.initial.cells)
-    × Second bs l.s l.row l.aways l.initial.before l.before
+    (l.i ≤ l.uses)
+    × (uses_verdict bs (uses_held l.s l.row l.aways l.i) ≡ passes)
+    × (l.cells ≡ filled bs (uses_held l.s l.row l.aways l.i) l.initial.cells)
+    × (length l.cells ≡ length l.initial.cells)
+    × Second bs l.s l.row l.aways l.i l.before
 
 abbrev pub decreases-loop-i : goal.decreases-loop-i
-decreases-loop-i l = l.uses - l.initial.before
+decreases-loop-i l = l.uses - l.i

@@ -6,7 +6,7 @@ use borrow.Author.Rules.{rules}
 use Rattle.speed.proofs.assembling.parted.Given as goal
 
 abbrev pub invariant-loop-i : goal.invariant-loop-i
-invariant-loop-i l = (l.i-end ≤ i-end) × (i-end ≡ length l.text)
+invariant-loop-i l = (l.i ≤ i-end) × (i-end ≡ length l.text)
 
 abbrev pub decreases-loop-i : goal.decreases-loop-i
-decreases-loop-i l = i-end - l.i-end
+decreases-loop-i l = i-end - l.i

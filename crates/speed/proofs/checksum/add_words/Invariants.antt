@@ -6,7 +6,7 @@ use mathlib.Core.Path.{◌≡◌}
 use Rattle.speed.proofs.checksum.add_words.Given as goal
 
 abbrev pub invariant-loop-i : goal.invariant-loop-i
-invariant-loop-i l = (l.i-end ≤ i-end) × (i-end ≡ length l.words) × (l.i < 1000003)
+invariant-loop-i l = (l.i ≤ i-end) × (i-end ≡ length l.words) × (l.sum < 1000003)
 
 abbrev pub decreases-loop-i : goal.decreases-loop-i
-decreases-loop-i l = i-end - l.i-end
+decreases-loop-i l = i-end - l.i

@@ -6,7 +6,7 @@ use mathlib.Core.Path.{◌≡◌}
 use Rattle.speed.proofs.images.load.Given as goal
 
 abbrev pub invariant-loop-i : goal.invariant-loop-i
-invariant-loop-i l = (l.i-end ≤ i-end) × (i-end ≡ length l.m) × (length l.i ≡ length l.initial.m)
+invariant-loop-i l = (l.i ≤ i-end) × (i-end ≡ length l.words) × (length l.m ≡ length l.initial.m)
 
 abbrev pub decreases-loop-i : goal.decreases-loop-i
-decreases-loop-i l = i-end - l.i-end
+decreases-loop-i l = i-end - l.i

@@ -10,7 +10,7 @@ use Rattle.walking.proofs.Walks.{Left, left_at_start, end-within, line_part, fur
 use Rattle.walking.proofs.walk.walk_lines.Given as goal
 
 abbrev pub invariant-loop-from : goal.invariant-loop-from
-invariant-loop-from l = Left (length l.keys) l.s l.row l.initial.aways l.aways l.initial.c l.c l.initial.from l.from (length l.initial.values) (length l.values) (length l.initial.marks) l.initial.number l.number l.initial.uses l.uses
+invariant-loop-from l = Left (length l.initial.marks) l.s l.starts l.keys l.values l.marks l.cells l.row l.aways (length l.initial.cells) (length l.initial.row) (length l.initial.aways) l.c l.from l.number l.uses
 
 abbrev pub decreases-loop-from : goal.decreases-loop-from
-decreases-loop-from l = length l.s - l.number
+decreases-loop-from l = length l.s - l.from
