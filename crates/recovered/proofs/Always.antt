@@ -260,5 +260,6 @@ module _ (M : ℕ) (bs : List Block) (memory marks : List ℕ) (image : Image M 
 
   -- no run fails
   pub runs_decode : {at a : ℕ} {rs : List Run} → Runs memory marks at rs → Parted at → FirstBadRun rs a → ⊥
+  runs_decode (over f) d b = elim b [ ]
   runs_decode (next {r = r} c t) d (L.here k u) = run-never r c d k u
   runs_decode (next {r = r} c t) d (L.later x u) = runs_decode t (parted-next r c) u

@@ -2,12 +2,12 @@
 use borrow.Author.Rules.{rules}
 use native.Mathlib.Omega.{arith}
 use mathlib.Core.Path.{◌≡◌}
-use mathlib.Core.Logic.{⊎_elim}
 use Prim.Native.Nat.{◌+◌, ◌-◌}
 use lib.ListN.{length, drop}
 use Rattle.image.specs.Image.{claimed}
 use Rattle.image.proofs.Texts.{claimed-free, claimed-more, claimed-none, claimed-within}
 use Rattle.image.proofs.lengths.claimed_in.Goals as goal
+use Rattle.image.proofs.lengths.claimed_in.Goals.{then-map-i-ne-FREE, else-map-i-ne-FREE}
 
 pub overflow_add-n : goal.overflow_add-n
 overflow_add-n c =
@@ -17,8 +17,10 @@ overflow_add-n c =
 pub loop-i-preserved : goal.loop-i-preserved
 loop-i-preserved c =
     let marks = c.args.map.now in
-    ⊎_elim (λ w. omega (arith, claimed-more marks c.loop-i.i (omega arith) w.0.taken))
-    (λ w. omega (arith, claimed-free marks c.loop-i.i (omega arith) w.0.left)) c.if-map-i-ne-FREE.branch
+    elim c.if-map-i-ne-FREE.branch [
+      then-map-i-ne-FREE w ↦ omega (arith, claimed-more marks c.loop-i.i (omega arith) w.if-map-i-ne-FREE.true)
+      | else-map-i-ne-FREE w ↦ omega (arith, claimed-free marks c.loop-i.i (omega arith) w.if-map-i-ne-FREE.false)
+    ]
 
 pub returns : goal.returns
 returns c = omega (arith, claimed-none c.args.map.now c.loop-i.i c.loop-i-test.false)

@@ -44,4 +44,4 @@ pub shape_of-room : goal.shape_of-room
 shape_of-room c =
     let a = c.args in
     wrote_length a.room.now a.at _ c.requires
-    (returns-2 c)
+    (returns c)
