@@ -6,22 +6,32 @@
 mod printing; // the image, written out
 
 use columns::Column;
+use desk::printing::fail;
 use desk::refusals::print_refusal;
-use desk::rooms;
+use desk::{arguments, rooms};
 use sources::Line;
+use std::io::Write;
 
 // Assembles a source at a size, and prints.
-fn assemble_at(path: &[u8], text: &[u8], memory: &mut [u16], map: &mut [u8]) {
+fn assemble_at(rt: &HostRuntime, path: &[u8], text: &[u8], memory: &mut [u16], map: &mut [u8]) {
     let reply = assembler::assemble::assemble(text, memory, map);
     if reply.refusal == 0 {
-        printing::print_image(memory, map);
+        printing::print_image(&mut rt.stdout(), &mut rt.stderr(), memory, map);
         return;
     }
-    print_refusal(path, text, reply.refusal, reply.line, reply.column);
+    print_refusal(
+        &mut rt.stdout(),
+        &mut rt.stderr(),
+        path,
+        text,
+        reply.refusal,
+        reply.line,
+        reply.column,
+    );
 }
 
 // Lends as many cells as M says.
-fn assemble_text(path: &[u8], text: &[u8], size: usize) {
+fn assemble_text(rt: &HostRuntime, path: &[u8], text: &[u8], size: usize) {
     let mut memory = rooms::memory();
     let mut map = rooms::map();
     if memory.len() < size {
@@ -30,34 +40,39 @@ fn assemble_text(path: &[u8], text: &[u8], size: usize) {
     if map.len() < size {
         return;
     }
-    assemble_at(path, text, &mut memory[..size], &mut map[..size]);
+    assemble_at(rt, path, text, &mut memory[..size], &mut map[..size]);
 }
 
-fn assemble_file(path: &[u8], size: usize) {
+fn assemble_file(rt: &HostRuntime, path: &[u8], size: usize) {
     let mut text = rooms::source();
-    let loaded = desk::source::read(path, &mut text);
-    if loaded.failed {
-        return;
+    match desk::source::read(rt, path, &mut text) {
+        Ok(n) => assemble_text(rt, path, &text[..n], size),
+        Err(error) => fail(&mut rt.stderr(), path, &error),
     }
-    let n = loaded.bytes;
-    assemble_text(path, &text[..n], size);
 }
 
-fn main() {
-    if os::arg_count() != 3 {
-        io::write_all(2, b"usage: assemble FILE M\n");
+fn main(rt: HostRuntime) {
+    if arguments::count(&rt) != 3 {
+        let _ = rt.stderr().write_all(b"usage: assemble FILE M\n");
         return;
     }
-    let size = desk::arguments::size();
-    let mut path = io::buffer();
-    let n = os::arg(1, &mut path);
+    let size = arguments::size(&rt);
+    let mut path = rooms::path();
     if size == 0 {
-        print_refusal(&path[..n], b"", 1, Line(0), Column(0));
+        let n = arguments::argument(&rt, 1, &mut path);
+        print_refusal(
+            &mut rt.stdout(),
+            &mut rt.stderr(),
+            &path[..n],
+            b"",
+            1,
+            Line(0),
+            Column(0),
+        );
         return;
     }
-    if os::errno() != 0 {
-        os::fail(b"assemble: FILE");
-        return;
+    match arguments::file(&rt, &mut path) {
+        Ok(n) => assemble_file(&rt, &path[..n], size),
+        Err(error) => fail(&mut rt.stderr(), b"assemble: FILE", &error),
     }
-    assemble_file(&path[..n], size);
 }

@@ -3,6 +3,7 @@ ghost use Rattle.std.specs.Prelude.{◌≡◌, length};
 
 use desk::printing::write;
 use image::Printed;
+use std::io::Write;
 
 // The largest image's text: 35 bytes, and 22 a cell. The `ensures` gives the length, which lending needs.
 fn room() -> [u8; 360483]
@@ -12,18 +13,23 @@ fn room() -> [u8; 360483]
 }
 
 // The image of a memory and a map.
-pub(crate) fn print_image(memory: &[u16], map: &[u8]) {
+pub(crate) fn print_image(
+    output: &mut impl Write,
+    errors: &mut impl Write,
+    memory: &[u16],
+    map: &[u8],
+) {
     let mut text = room();
     match image::printing::print(memory, map, &mut text) {
         Printed::Done(n) => {
-            write(1, &text, n);
+            write(output, errors, &text, n);
         }
-        Printed::BadLoan => cannot_print(),
-        Printed::RoomShort => cannot_print(),
+        Printed::BadLoan => cannot_print(errors),
+        Printed::RoomShort => cannot_print(errors),
     }
 }
 
 // The room has place for the largest image: this is said of none.
-fn cannot_print() {
-    io::write_all(2, b"assemble: the image cannot be printed\n");
+fn cannot_print(errors: &mut impl Write) {
+    let _ = errors.write_all(b"assemble: the image cannot be printed\n");
 }

@@ -5,6 +5,9 @@ ghost use Rattle.desk.specs.Putting.{PutSo};
 
 use ports::Moved;
 use ports::output::put_text;
+use std::fmt::InlineText;
+use std::io;
+use std::io::Write;
 
 // Puts a text at a place, and answers the place after it; what does not fit is left out.
 pub fn put(out: &mut [u8], at: usize, text: &[u8]) -> usize
@@ -16,15 +19,49 @@ pub fn put(out: &mut [u8], at: usize, text: &[u8]) -> usize
     }
 }
 
-// Writes what was put, and answers whether all of it was taken. Output that cannot be written is told. What becomes of it is the
-// operating system's.
-pub fn write(fd: i32, out: &[u8], end: usize) -> bool {
-    if out.len() < end {
+// The system's sentence, without the number that `io::Error` puts behind it.
+fn unnumbered(sentence: &str) -> &str {
+    match sentence.rsplit_once(" (os error ") {
+        Some((why, _)) => why,
+        None => sentence,
+    }
+}
+
+// Tells on standard error what failed, and why.
+pub fn fail(errors: &mut impl Write, what: &[u8], error: &io::Error) {
+    let told = InlineText::<256>::of(error);
+    let why = unnumbered(told.as_str());
+    let _ = errors.write_all(what);
+    let _ = errors.write_all(b": ");
+    let _ = errors.write_all(why.as_bytes());
+    let _ = errors.write_all(b"\n");
+}
+
+// Writes what was put to standard output, and answers whether all of it was taken. Output that cannot be written is told. What becomes of
+// it is the operating system's.
+pub fn write(output: &mut impl Write, errors: &mut impl Write, text: &[u8], end: usize) -> bool {
+    if text.len() < end {
         return false;
     }
-    if io::write_all(fd, &out[..end]) {
-        return true;
+    match output.write_all(&text[..end]) {
+        Ok(()) => true,
+        Err(error) => {
+            fail(errors, b"output", &error);
+            false
+        }
     }
-    os::fail(b"output");
-    false
+}
+
+// The same to standard error.
+pub fn write_error(errors: &mut impl Write, text: &[u8], end: usize) -> bool {
+    if text.len() < end {
+        return false;
+    }
+    match errors.write_all(&text[..end]) {
+        Ok(()) => true,
+        Err(error) => {
+            fail(errors, b"output", &error);
+            false
+        }
+    }
 }

@@ -8,11 +8,12 @@ ghost use Rattle.desk.specs.Putting.{PutSo};
 ghost use Rattle.desk.specs.Refusals.{line_told, column_told, refusal_text, reason_of, name_told, sentence_text, AtHead};
 
 use super::excerpts::excerpt;
-use super::printing::{put, write};
+use super::printing::{put, write, write_error};
 use super::rooms;
 use columns::Column;
 use columns::lines::line_start;
 use sources::Line;
+use std::io::Write;
 use texts::writing::field;
 use tokens::lines::line_end;
 
@@ -107,15 +108,23 @@ fn line_shown(room: &mut [u8], source: &[u8], line: Line, column: Column) -> usi
 
 // What is told of a refusal; the sentence and the line only where the three lines could be written. What becomes of them is the operating
 // system's.
-pub fn print_refusal(path: &[u8], source: &[u8], refusal: u8, line: Line, column: Column) {
+pub fn print_refusal(
+    output: &mut impl Write,
+    errors: &mut impl Write,
+    path: &[u8],
+    source: &[u8],
+    refusal: u8,
+    line: Line,
+    column: Column,
+) {
     let mut room = rooms::sentence();
     let number = line.0;
     let place = column.0;
     let end = lines(&mut room, refusal, Line(number), Column(place));
-    if write(1, &room, end) {
+    if write(output, errors, &room, end) {
         let told = sentence(&mut room, path, refusal, Line(number), Column(place));
-        write(2, &room, told);
+        write_error(errors, &room, told);
         let shown = line_shown(&mut room, source, Line(number), Column(place));
-        write(2, &room, shown);
+        write_error(errors, &room, shown);
     }
 }

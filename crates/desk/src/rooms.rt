@@ -8,6 +8,13 @@ pub fn word() -> [u8; 131072]
     [0; 131072]
 }
 
+// FILE: a path that the system takes is shorter.
+pub fn path() -> [u8; 4096]
+    ensures { 4096 ≡ length result }
+{
+    [0; 4096]
+}
+
 // A source, and one byte more: a file that fills it is too long, however long it is.
 pub fn source() -> [u8; 32769]
     ensures { 32769 ≡ length result }

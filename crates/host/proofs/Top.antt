@@ -1,6 +1,6 @@
 -- What the host's step and run promise, restated for a reader: "one step in which the host lends the register set and finds it changed where
 -- it lies" (01), and a run likewise. The promises of `ens2025_step` and `ens2025_run` stand in src/, each one equation with machine's meaning;
--- the arguments are the walks of their code in step/ and run/. Whatever is lent gets a reply: no promise has a premise.
+-- that the code meets them Rattle finds by itself, with no file. Whatever is lent gets a reply: no promise has a premise.
 use mathlib.Core.Path.{◌≡◌, refl, sym, ap, ◌∙◌}
 use mathlib.Core.Bool.{Bool, true, false, cond}
 use mathlib.Core.List.{List, [], ◌∷◌}

@@ -15,7 +15,7 @@ use Rattle.isa.specs.declared.Address.{Address}
 use Rattle.isa.specs.declared.Opcode.{Opcode}
 use Rattle.isa.specs.declared.FirstWord.TheVariants.{Allowed, UnknownOpcode, UnknownMode}
 use Rattle.isa.specs.declared.Decoded.{Decoded}
-use Rattle.isa.specs.declared.Decoded.TheVariants.{Read, NoOpcode, NoMode, NoRegister, PastMemory}
+use Rattle.isa.specs.declared.Decoded.TheVariants.{Read, NoRegister, PastMemory}
 use Rattle.isa.specs.Opcodes.{table}
 use Rattle.isa.specs.Operands.{mode_of, operand_words, register_there, modes_of, one_of, operand_of}
 use Rattle.isa.specs.Inner.Words.{word_of}

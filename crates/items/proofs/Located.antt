@@ -20,6 +20,7 @@ use Rattle.tokens.proofs.Places.{EndsAt, token_placed}
 use Rattle.values.specs.Values.{plain, minus}
 use Rattle.values.specs.Values as Values
 use Rattle.values.specs.Reading.{value_by, digits_by, minus_at, value_at}
+use Rattle.values.specs.declared.Value.TheVariants.{Number}
 use Rattle.values.specs.declared.ValueRead.{ValueRead}
 use Rattle.values.specs.declared.ValueRead.TheVariants as R
 use Rattle.values.proofs.Begins.{value_cases, digits_cases, digits-read}
@@ -81,15 +82,16 @@ module _ (s : List ℕ) (at : ℕ) where
   minus-out =
       let next = (token_at s at).next.at in
       digits-at s next
-      ∙ digits_cases (token_at s next) (λ n b. digits-read is_out false b ∙ ap (λ (r : ValueRead). out_by (item_by s at r)) (sym (digits-read _ R.Absent b)))
-      (λ h. h Bool is_out false ∙ sym (ap (λ (r : ValueRead). out_by (item_by s at r)) (h ValueRead _ R.Absent) ∙ string-at s at))
+      ∙ digits_cases (token_at s next) (λ n b. digits-read is_out false b ∙ ap (λ (r : ValueRead). out_by (item_by s at r)) (sym (digits-read (λ n. R.Found (Number n) (token_at s next).next) R.Absent b)))
+      (λ h. h Bool is_out false ∙ sym (ap (λ (r : ValueRead). out_by (item_by s at r)) (h ValueRead (λ n. R.Found (Number n) (token_at s next).next) R.Absent) ∙ string-at s at))
 
   item_out : starts_out (tokens_from s at) ≡ out_by (item_at s at)
   unfolding item_at value_at
   item_out =
       starts_at s at
       ∙ value_cases (token_at s at) (λ q. rw q) (λ v k q. rw q) (λ q. rw q (minus-out))
-      (λ h. h Bool _ _ _ false ∙ sym (ap (λ (r : ValueRead). out_by (item_by s at r)) (h ValueRead _ _ _ R.Absent) ∙ string-at s at))
+      (λ h. h Bool _ is_out (digits_out (tokens_from s (token_at s at).next.at)) false
+      ∙ sym (ap (λ (r : ValueRead). out_by (item_by s at r)) (h ValueRead _ (λ n. R.Found (Number n) (token_at s at).next) (minus_at s (token_at s at).next.at) R.Absent) ∙ string-at s at))
 
   pub found-out : {n : ℕ} {b : Bool} {c : Cursor} → measured (item_at s at) ≡ Found n b c → not b ≡ starts_out (tokens_from s at)
   found-out e = let h = found-item s at e in sym (item_out ∙ ap out_by h.is ∙ ap not (sym h.fits))

@@ -96,7 +96,7 @@ module _ (line : List ℕ) where
   step-read : (st : State) (t : Token) (cur : List Token) → Spelt line t → Read st cur → Stepped t cur (step line st t)
   step-read item t cur w h =
       rw h (value_cases t (λ q. by q tt) (λ v k q. by q (is_number (plain q))) (λ q. by q (λ u n b. is_number (minus q b)))
-      (λ z. subst (Stepped t []) (sym (z Step _ _ _ _)) (text t.kind refl)))
+      (λ z. subst (Stepped t []) (sym (z Step _ (λ n. to (done (number n))) (to digits) _)) (text t.kind refl)))
     where
       string : Kind → Step
       string k = on_text halt (to (done (string_of line t))) k

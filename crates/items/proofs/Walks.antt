@@ -77,7 +77,8 @@ module _ (s : List ℕ) (at : ℕ) where
   unfolding item_at value_at
   item-turn =
       value_cases (token_at s at) (λ q. no (rw q) (rw q)) (λ v k q. yes (number (numeral false k v)) (row_of s at q) (rw q) (rw q)) minus-turn
-      (λ h. string-turn (token_at s at).kind refl (h Step _ _ _ _) (ap (item_by s at) (h ValueRead _ _ _ R.Absent)))
+      (λ h. string-turn (token_at s at).kind refl (h Step _ (λ n. to (done (number n))) (to digits) _)
+      (ap (item_by s at) (h ValueRead _ (λ n. R.Found (Number n) (token_at s at).next) (minus_at s (token_at s at).next.at) R.Absent)))
     where
       no : step s item (token_at s at) ≡ halt → item_at s at ≡ none → walk s item (tokens_from s at) ≡ item_on s (item_at s at)
       no h e = halted s at item refl h ∙ ap (item_on s) (sym e)

@@ -218,7 +218,7 @@ module _ (line : List ℕ) where
   value_case : (k : Shape) (t : Token) (cur : List Token) → Passed (value k) cur → Stepped t cur (step line (value k) t)
   value_case k t cur h =
       value_cases t (λ q. by q (one (Label (name_at t)) (label q))) (λ v x q. by q (one (Number (numeral false x v)) (number (plain q))))
-      (λ q. by q (minus_case q)) (λ z. subst (Stepped t cur) (sym (z Step _ _ _ halt)) tt)
+      (λ q. by q (minus_case q)) (λ z. subst (Stepped t cur) (sym (z Step _ (λ x. to (put k (Number x))) (to (digits k)) halt)) tt)
     where
       goes : Kind → Step
       goes x = value_by (to (put k (Label (name_at t)))) (λ n. to (put k (Number n))) (to (digits k)) halt x

@@ -182,8 +182,8 @@ module _ (line line' : List ℕ) where
       → AlikeResult AlikeWritten (operands_of line ts) (operands_of line' ts')
   unfolding operands_of walk
   operands-alike over = reads none
-  operands-alike (next k m s r) =
-      walk-alike line line' W.operand (step line) (step line') finish Near AlikeWritten (λ k. operand) ends steps (next k m s r) W.operand W.operand operand
+  operands-alike {before = before} (next k m s r) =
+      walk-alike line line' W.operand (step line) (step line') finish Near AlikeWritten (λ k. operand) ends steps {before = before} (next k m s r) W.operand W.operand operand
 
   -- ---- what is judged of them
 

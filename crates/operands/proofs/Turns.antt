@@ -186,7 +186,8 @@ value-turn s at k =
     (λ q. rw q (one-turn s at k (value k) (Label (name_at (token_at s at))) (row_of s at q) (rw q)))
     (λ v x q. rw q (one-turn s at k (value k) (Number (numeral false x v)) (row_of s at q) (rw q)))
     (λ q. rw q (minus q))
-    (λ h. subst (Turned s at k (value k)) (sym (h ValueRead _ _ _ V'.Absent)) (no_turn s at k (value k) refl (h Step _ _ _ halt)))
+    (λ h. subst (Turned s at k (value k)) (sym (h ValueRead _ (λ n. V'.Found (Number n) (token_at s at).next) (minus_at s (token_at s at).next.at) V'.Absent))
+    (no_turn s at k (value k) refl (h Step _ (λ n. to (put k (Number n))) (to (digits k)) halt)))
   where
     minus : IsMark (code "-") (token_at s at) → Turned s at k (value k) (minus_at s (token_at s at).next.at)
     minus q =

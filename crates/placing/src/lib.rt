@@ -1,5 +1,5 @@
 // A line at its place (document 01, "Refusing a source": "label 10, 9; word 4; form 3; 5; 8; 6 or 7 ..; then the statement's result and
-// label addresses ..; 11; 12"): its label, its own refusal, its address and cells. The meaning is `lineVerdict` and `after` of sources.
+// label addresses ..; 11; 12"): its label, its own refusal, its address and cells. The meaning is `line_verdict` and `after` of sources.
 #![tactic(auto)]
 
 use isa::Address;

@@ -4,7 +4,10 @@ ghost use Rattle.run.specs.Budgets.{budget_of, budget_asked};
 
 use super::Budget;
 use codes::limits::LARGEST_BUDGET;
+use desk::arguments::{argument, count};
 use numerals::bytes::rank_of;
+use std::io::Write;
+use std::rt::Env;
 
 // The budget where none is named.
 const USUAL: u32 = 10000;
@@ -46,15 +49,12 @@ fn asked(words: usize, third: &[u8]) -> Budget
 }
 
 // The budget that this call asks for. No word that the system hands over is longer than its room; one that is missing is empty.
-pub(crate) fn budget() -> Budget {
+pub(crate) fn budget(env: &impl Env) -> Budget {
     let mut word = desk::rooms::word();
-    let n = os::arg(3, &mut word);
-    asked(os::arg_count(), &word[..n])
+    let n = argument(env, 3, &mut word);
+    asked(count(env), &word[..n])
 }
 
-pub(crate) fn usage() {
-    io::write_all(
-        2,
-        b"usage: run FILE M [BUDGET]     BUDGET: 0 to 1000000, else 10000\n",
-    );
+pub(crate) fn usage(errors: &mut impl Write) {
+    let _ = errors.write_all(b"usage: run FILE M [BUDGET]     BUDGET: 0 to 1000000, else 10000\n");
 }

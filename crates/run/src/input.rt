@@ -1,7 +1,8 @@
 // Standard input.
-ghost use Rattle.std.specs.Prelude.{◌≡◌, ◌≤◌, length};
+ghost use Rattle.std.specs.Prelude.{◌≡◌, ◌≤◌, length, IfSome};
 
-use desk::source::Loaded;
+use desk::printing::fail;
+use std::io::{Read, Write};
 
 // The largest input, and one byte more: an input that fills it is too long. The `ensures` gives the length, which lending needs.
 pub(crate) fn room() -> [u8; 65537]
@@ -10,27 +11,21 @@ pub(crate) fn room() -> [u8; 65537]
     [0; 65537]
 }
 
-fn nothing() -> Loaded
-    ensures { result.bytes ≡ 0 }
+// Reads standard input to its end, and answers how many bytes the room holds. What cannot be read, or is too long, is told.
+pub(crate) fn read(input: &mut impl Read, errors: &mut impl Write, room: &mut [u8]) -> Option<usize>
+    ensures { IfSome result (λ n. n ≤ length room.new) }
 {
-    Loaded {
-        bytes: 0,
-        failed: true,
+    match desk::source::load(input, room) {
+        Ok(n) => {
+            if 65536 < n {
+                let _ = errors.write_all(b"run: an input of more than 65536 bytes\n");
+                return None;
+            }
+            Some(n)
+        }
+        Err(error) => {
+            fail(errors, b"run: input", &error);
+            None
+        }
     }
-}
-
-// Reads standard input to its end. What cannot be read, or is too long, is told.
-pub(crate) fn read(room: &mut [u8]) -> Loaded
-    ensures { result.bytes ≤ length room.new }
-{
-    let loaded = desk::source::load(0, room);
-    if loaded.failed {
-        os::fail(b"run: input");
-        return nothing();
-    }
-    if 65536 < loaded.bytes {
-        io::write_all(2, b"run: an input of more than 65536 bytes\n");
-        return nothing();
-    }
-    loaded
 }

@@ -15,22 +15,39 @@ enum Budget {
 }
 
 use columns::Column;
+use desk::printing::fail;
 use desk::refusals::print_refusal;
 use desk::rooms;
 use sources::Line;
 
 // Assembles a source at a size, and runs it.
-fn run_at(path: &[u8], text: &[u8], memory: &mut [u16], map: &mut [u8], given: &[u8], budget: u32) {
+fn run_at(
+    rt: &HostRuntime,
+    path: &[u8],
+    text: &[u8],
+    memory: &mut [u16],
+    map: &mut [u8],
+    given: &[u8],
+    budget: u32,
+) {
     let reply = assembler::assemble::assemble(text, memory, map);
     if reply.refusal == 0 {
-        running::run(memory, given, budget);
+        running::run(&mut rt.stdout(), &mut rt.stderr(), memory, given, budget);
         return;
     }
-    print_refusal(path, text, reply.refusal, reply.line, reply.column);
+    print_refusal(
+        &mut rt.stdout(),
+        &mut rt.stderr(),
+        path,
+        text,
+        reply.refusal,
+        reply.line,
+        reply.column,
+    );
 }
 
 // Lends as many cells as M says.
-fn run_text(path: &[u8], text: &[u8], size: usize, given: &[u8], budget: u32) {
+fn run_text(rt: &HostRuntime, path: &[u8], text: &[u8], size: usize, given: &[u8], budget: u32) {
     let mut memory = rooms::memory();
     let mut map = rooms::map();
     if memory.len() < size {
@@ -40,6 +57,7 @@ fn run_text(path: &[u8], text: &[u8], size: usize, given: &[u8], budget: u32) {
         return;
     }
     run_at(
+        rt,
         path,
         text,
         &mut memory[..size],
@@ -50,45 +68,48 @@ fn run_text(path: &[u8], text: &[u8], size: usize, given: &[u8], budget: u32) {
 }
 
 // Standard input, read to its end before anything is assembled.
-fn run_source(path: &[u8], text: &[u8], size: usize, budget: u32) {
+fn run_source(rt: &HostRuntime, path: &[u8], text: &[u8], size: usize, budget: u32) {
     let mut given = input::room();
-    let held = input::read(&mut given);
-    if held.failed {
+    let Some(n) = input::read(&mut rt.stdin(), &mut rt.stderr(), &mut given) else {
         return;
-    }
-    let n = held.bytes;
-    run_text(path, text, size, &given[..n], budget);
+    };
+    run_text(rt, path, text, size, &given[..n], budget);
 }
 
-fn run_file(path: &[u8], size: usize, budget: u32) {
+fn run_file(rt: &HostRuntime, path: &[u8], size: usize, budget: u32) {
     let mut text = rooms::source();
-    let loaded = desk::source::read(path, &mut text);
-    if loaded.failed {
-        return;
+    match desk::source::read(rt, path, &mut text) {
+        Ok(n) => run_source(rt, path, &text[..n], size, budget),
+        Err(error) => fail(&mut rt.stderr(), path, &error),
     }
-    let n = loaded.bytes;
-    run_source(path, &text[..n], size, budget);
 }
 
 // FILE and M, at a budget.
-fn run_words(budget: u32) {
-    let size = desk::arguments::size();
-    let mut path = io::buffer();
-    let n = os::arg(1, &mut path);
+fn run_words(rt: &HostRuntime, budget: u32) {
+    let size = desk::arguments::size(rt);
+    let mut path = rooms::path();
     if size == 0 {
-        print_refusal(&path[..n], b"", 1, Line(0), Column(0));
+        let n = desk::arguments::argument(rt, 1, &mut path);
+        print_refusal(
+            &mut rt.stdout(),
+            &mut rt.stderr(),
+            &path[..n],
+            b"",
+            1,
+            Line(0),
+            Column(0),
+        );
         return;
     }
-    if os::errno() != 0 {
-        os::fail(b"run: FILE");
-        return;
+    match desk::arguments::file(rt, &mut path) {
+        Ok(n) => run_file(rt, &path[..n], size, budget),
+        Err(error) => fail(&mut rt.stderr(), b"run: FILE", &error),
     }
-    run_file(&path[..n], size, budget);
 }
 
-fn main() {
-    match arguments::budget() {
-        Budget::Steps(n) => run_words(n),
-        Budget::Wrong => arguments::usage(),
+fn main(rt: HostRuntime) {
+    match arguments::budget(&rt) {
+        Budget::Steps(n) => run_words(&rt, n),
+        Budget::Wrong => arguments::usage(&mut rt.stderr()),
     }
 }

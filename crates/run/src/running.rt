@@ -1,9 +1,10 @@
 // A run, its output on standard output and its record on standard error.
 ghost use Rattle.std.specs.Prelude.{◌≡◌, length};
 
-use desk::printing::write;
+use desk::printing::{write, write_error};
 use machine::{Ran, Registers};
 use record::Recorded;
+use std::io::Write;
 
 // The longest record. The `ensures` gives the length, which lending needs.
 fn record_room() -> [u8; 400]
@@ -12,20 +13,20 @@ fn record_room() -> [u8; 400]
     [0; 400]
 }
 
-fn print_record(ran: Ran) {
+fn print_record(errors: &mut impl Write, ran: Ran) {
     let mut text = record_room();
     match record::recording::write_record(ran, &mut text) {
         Recorded::Done(n) => {
-            write(2, &text, n);
+            write_error(errors, &text, n);
         }
-        Recorded::TooFar => cannot_print(),
-        Recorded::RoomShort => cannot_print(),
+        Recorded::TooFar => cannot_print(errors),
+        Recorded::RoomShort => cannot_print(errors),
     }
 }
 
 // The room has place for the longest record, and no position passes 65,536: this is said of none.
-fn cannot_print() {
-    io::write_all(2, b"run: the record cannot be printed\n");
+fn cannot_print(errors: &mut impl Write) {
+    let _ = errors.write_all(b"run: the record cannot be printed\n");
 }
 
 // "Registers and stop code start at 0."
@@ -38,12 +39,25 @@ fn start() -> Registers {
     }
 }
 
+// What a run may write. The `ensures` gives the length, which lending needs.
+fn output_room() -> [u8; 65536]
+    ensures { 65536 ≡ length result }
+{
+    [0; 65536]
+}
+
 // Runs a memory on an input. The record is printed only where the output could be.
-pub(crate) fn run(memory: &mut [u16], given: &[u8], budget: u32) {
-    let mut out = io::large_buffer();
+pub(crate) fn run(
+    output: &mut impl Write,
+    errors: &mut impl Write,
+    memory: &mut [u16],
+    given: &[u8],
+    budget: u32,
+) {
+    let mut out = output_room();
     let ran = machine::run::run(start(), memory, given, &mut out, budget);
     let after = ran.registers;
-    if write(1, &out, after.written) {
-        print_record(ran);
+    if write(output, errors, &out, after.written) {
+        print_record(errors, ran);
     }
 }

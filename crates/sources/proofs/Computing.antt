@@ -1,4 +1,4 @@
--- Sources, computed: what the assembler as a function stands on, open. A proof that computes a source names `computedSource` on its
+-- Sources, computed: what the assembler as a function stands on, open. A proof that computes a source names `computed_source` on its
 -- `unfolding` line.
 use Prim.Native.Nat.{ℕ}
 use mathlib.Core.List.{List}

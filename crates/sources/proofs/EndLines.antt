@@ -159,6 +159,7 @@ word-within n t e h = (subst (λ (k : Kind). EndsAt k n t.start t.next.at) e h).
 still-none : (w : Token) {us us' : List Token} → ((n : Name) (vs : List Token) → Label (w ∷ us) n vs → ⊥) → Grown us us' → {n : Name} {vs : List Token}
     → Label (w ∷ us') n vs
     → ⊥
+still-none w none over {n = n} {vs = vs} h = elim h [ ]
 still-none w none (next g) (label k m d) = none _ _ (label k m d)
 still-none w none (stray q f) (label {c = c} k m d) = subst (λ (x : Kind). T (not (is_mark_kind x))) m f
 

@@ -3,7 +3,7 @@
 --
 -- What "the same tokens" allows and what not is in tokens' Spacing.antt, and SpacingExamples.antt computes it for a few lines; tokens'
 -- Respacing.antt has it in bytes: a comment or blanks at a line's end, blanks at its start, and blanks between two of its tokens, give a line
--- with the same tokens. `spacing-same` is the law for whole sources, and below it stands what it says of one line of a source.
+-- with the same tokens. `spacing_same` is the law for whole sources, and below it stands what it says of one line of a source.
 --
 -- CommentLines.antt adds lines of blanks and a comment alone: the image stays, a refusal's line moves. Comments.antt asks nothing of the line
 -- that a comment is added to, where the source is accepted.

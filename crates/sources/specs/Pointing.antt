@@ -27,7 +27,7 @@ abbrev pub columns_in : List ℕ → LabelIn → List Columns
 columns_in bytes Absent = []
 columns_in bytes (Named n) = record { label_at = n.start + 1; operand_at = mark_before bytes n.start + 1 } ∷ []
 
--- those of a line's operands, then of lines: one for each label of `usesOf`, in its order
+-- those of a line's operands, then of lines: one for each label of `uses_of`, in its order
 abbrev pub columns_by : List ℕ → Statement → List Columns
 columns_by bytes Nothing = []
 columns_by bytes (Instruction op a b) = columns_in bytes a.label ++ columns_in bytes b.label
@@ -45,7 +45,7 @@ unfoldable pub columns_of : List Judged → List Columns
 columns_of [] = []
 columns_of (x ∷ xs) = columns_read x.bytes x.read.statement ++ columns_of xs
 
--- the checks of `useChecks`, each with its column
+-- the checks of `use_checks`, each with its column
 unfoldable pub column_checks : List Bound → List Use → List Columns → List (Check ℕ)
 column_checks bs [] cs = []
 column_checks bs (u ∷ us) [] = []

@@ -4,7 +4,7 @@
 ghost use Rattle.std.specs.Prelude.{[], ◌∷◌, ◌+◌};
 ghost use Rattle.uses.specs.Inner.Held.{use_held, Adds, Room};
 
-// A source of 32,768 bytes names fewer (`mostUses`).
+// A source of 32,768 bytes names fewer (`most_uses`).
 pub const MOST_USES: usize = 32770;
 
 // The cells of the first row.

@@ -66,7 +66,7 @@ module _ (s : List ℕ) (at : ℕ) where
   told =
       value_cases (token_at s at) (λ e. rw e (one (label e) (row_of s at e) (ends_of s at e)))
       (λ v k e. rw e (one (number (plain e)) (row_of s at e) (ends_of s at e))) (λ m. rw m (minus-told m))
-      (λ h. subst (Told s at) (sym (h ValueRead _ _ _ Absent)) tt)
+      (λ h. subst (Told s at) (sym (h ValueRead _ (λ (n : Numeral). Found (V'.Number n) (token_at s at).next) (minus_at s (token_at s at).next.at) Absent)) tt)
     where
       one : {v : Value} → ValueText (token_at s at ∷ []) v → tokens_from s at ≡ token_at s at ∷ tokens_from s (token_at s at).next.at
           → ((token_at s at).start < (token_at s at).next.at) × ((token_at s at).next.at ≤ length s) → StandsAt s at v (token_at s at).next

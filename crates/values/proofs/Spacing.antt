@@ -97,3 +97,9 @@ module _ {S A : Type 0} (line line' : List ℕ) (begin : S) (step step' : S → 
       go (W.to x) (W.to x') (to n) f = f x x' n
       go (W.emit a) (W.emit a') (emit s) f = cons-alike Same a a' s (f begin begin (begins k))
       go W.halt W.halt halt f = wrong
+      go (W.to x) (W.emit a') h f = elim h [ ]
+      go (W.to x) W.halt h f = elim h [ ]
+      go (W.emit a) (W.to x') h f = elim h [ ]
+      go (W.emit a) W.halt h f = elim h [ ]
+      go W.halt (W.to x') h f = elim h [ ]
+      go W.halt (W.emit a') h f = elim h [ ]

@@ -1,6 +1,5 @@
 -- The unsigned sum gives the value and C, the sum of the readings, which an `i32` holds, gives V.
 use lib.IntN.{◌+ℤ◌}
-use borrow.Author.Rules.{rules}
 use Rattle.arithmetic.specs.Operations.{ADD}
 use Rattle.arithmetic.proofs.Readings.{Computed, computed, sum-within}
 use Rattle.arithmetic.proofs.add.Goals as goal

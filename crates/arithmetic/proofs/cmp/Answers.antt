@@ -1,6 +1,5 @@
 -- The flags of SUB's outcome.
 use mathlib.Core.Path.{ap}
-use borrow.Author.Rules.{rules}
 use Rattle.arithmetic.specs.declared.Outcome.{Outcome}
 use Rattle.arithmetic.proofs.cmp.Goals as goal
 

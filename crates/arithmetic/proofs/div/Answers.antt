@@ -3,7 +3,6 @@ use Prim.Native.Nat.{ℕ}
 use mathlib.Core.Bool.{Bool, false}
 use mathlib.Core.Path.{sym, ap, ap₂, ◌∙◌}
 use lib.Signed.{quot_z}
-use borrow.Author.Rules.{rules}
 use borrow.Author.Tests.{eq-eqb, ne_eqb}
 use Rattle.arithmetic.specs.Cells.{cell, leaves16}
 use Rattle.arithmetic.specs.Operations.{outcome, DIV}

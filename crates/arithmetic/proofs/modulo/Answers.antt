@@ -1,7 +1,6 @@
 -- The remainder of the readings, with the dividend's sign, fits an `i32`, since the quotient does.
 use lib.Signed.{quot_z, rem_z}
 use native.Mathlib.Omega.{arith}
-use borrow.Author.Rules.{rules}
 use borrow.Author.Tests.{eq-eqb, ne_eqb}
 use Rattle.arithmetic.specs.Operations.{MOD}
 use Rattle.arithmetic.proofs.Readings.{Computed, computed, divides, quotient-within, remainder_small, remainder_within}

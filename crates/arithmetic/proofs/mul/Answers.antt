@@ -1,6 +1,5 @@
 -- The unsigned product, which a `u32` holds, gives the value and C, the product of the readings, which an `i32` holds, V.
 use lib.IntN.{◌*ℤ◌}
-use borrow.Author.Rules.{rules}
 use Rattle.arithmetic.specs.Operations.{MUL}
 use Rattle.arithmetic.proofs.Readings.{Computed, computed, product-within, unsigned_within}
 use Rattle.arithmetic.proofs.mul.Goals as goal

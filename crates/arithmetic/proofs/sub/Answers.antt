@@ -1,6 +1,5 @@
 -- The difference raised by 65536 gives the value, the unsigned test C, and the difference of the readings, which an `i32` holds, V.
 use lib.IntN.{◌-ℤ◌}
-use borrow.Author.Rules.{rules}
 use Rattle.arithmetic.specs.Operations.{SUB}
 use Rattle.arithmetic.proofs.Readings.{Computed, computed, difference-within}
 use Rattle.arithmetic.proofs.sub.Goals as goal

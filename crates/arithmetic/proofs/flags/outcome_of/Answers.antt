@@ -1,5 +1,4 @@
 -- Each flag is its bit times what it counts for; five bits of at most 1 leave the sum below 32.
-use borrow.Author.Rules.{rules}
 use Rattle.arithmetic.specs.Flags.{flags_of}
 use Rattle.arithmetic.specs.Operations.{outcome}
 use Rattle.arithmetic.proofs.flags.outcome_of.Goals as goal

@@ -6,5 +6,5 @@ pub returns : goal.returns
 returns c =
     let a = c.args in
     accepted_as a.memory.now a.map.now c.counted-code.result c.counted-data.result c.counted-reserved.result
-    c.copy_cells.new.1.0 c.copy_marks.new.1.0 a.cells.now a.marks.now c.counted-code.ensures
+    c.copy_cells.new.to c.copy_marks.new.map a.cells.now a.marks.now c.counted-code.ensures
     c.counted-data.ensures c.counted-reserved.ensures c.copy_cells.ensures c.copy_marks.ensures

@@ -32,5 +32,5 @@ pub returns : goal.returns
 returns c =
     let made = c.assemble_lent in
     let a = c.args in
-    replies a.source.now a.memory.now a.map.now made.result made.new.1.0 made.new.1.1.0 c.if-m-eq0.false
+    replies a.source.now a.memory.now a.map.now made.result made.new.memory made.new.map c.if-m-eq0.false
     c.if-m-gt-MOST_CELLS.false c.if-map-m.false c.if-source-gt-LONGEST_SOURCE.false made.ensures

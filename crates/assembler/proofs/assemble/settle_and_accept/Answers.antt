@@ -14,21 +14,19 @@ settle-requires c = let p = c.requires in (p.0, p.1, p.2)
 pub returns-in-Refused : goal.returns-in-Refused
 returns-in-Refused c =
     let named = c.name_in-column in
-    let found = c.f-1.given in
     let a = c.args in
     let bs = labels_in a.s.now a.starts.now a.keys.now a.values.now a.labels in
     let us = uses_held a.s.now a.row.now a.aways.now a.uses in
-    not-settled a.memory.now a.map.now a.s.now c.settle.result found.0.0 found.0.1.0 found.0.1.1.0
-    (uses_verdict bs us) (second_refused 0 bs us) (filled bs us a.cells.now) c.settle.new.1.1.1.1.1.1.1.1.0 a.marks.now
-    named.result.0 _ found.1 c.settle.ensures named.ensures c.refused.ensures
+    not-settled a.memory.now a.map.now a.s.now c.settle.result c.in-Refused.f c.in-Refused.l c.in-Refused.second
+    (uses_verdict bs us) (second_refused 0 bs us) (filled bs us a.cells.now) c.settle.new.cells a.marks.now
+    named.result.0 _ c.in-Refused.is c.settle.ensures named.ensures c.refused.ensures
 
 -- none is
--- CONV: no step: c.before.before.before.before.before.before.before.before.enum_told.given.1 ['c.enum_told-1.given.1', 'c.in-Done.is']
 pub returns-in-Done : goal.returns-in-Done
 returns-in-Done c =
     let a = c.args in
     let bs = labels_in a.s.now a.starts.now a.keys.now a.values.now a.labels in
     let us = uses_held a.s.now a.row.now a.aways.now a.uses in
     all_settled a.memory.now a.map.now c.settle.result (uses_verdict bs us) (second_refused 0 bs us) (label_point a.s.now bs us)
-    (filled bs us a.cells.now) c.settle.new.1.1.1.1.1.1.1.1.0 a.marks.now _ c.enum_told.given.1
+    (filled bs us a.cells.now) c.settle.new.cells a.marks.now _ c.in-Done.is
     c.settle.ensures c.accept.ensures

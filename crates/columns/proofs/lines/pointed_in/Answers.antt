@@ -13,9 +13,8 @@ returns c =
     let a = c.args in
     c.pointed.ensures ∙ ap (λ (l : List ℕ). pointed l a.number) (part_there a.source.now a.line c.line_start-from.ensures c.line_end-end.ensures)
 
--- MANUAL: -- no goal slice-bounds-pointed-end
--- MANUAL: part_end : tie.Need-slice-bounds-pointed-end
--- MANUAL: part_end c =
--- MANUAL:     let a = c.before.before.before.args in
--- MANUAL:     let h : c.line-end.result ≤ length a.source.now = part_within a.source.now a.line c.before.line-start.ensures c.line-end.ensures in
--- MANUAL:     search rules
+pub slice_bounds-pointed-end : goal.slice_bounds-pointed-end
+slice_bounds-pointed-end c =
+    let a = c.args in
+    let h : c.line_end-end.result ≤ length a.source.now = part_within a.source.now a.line c.line_start-from.ensures c.line_end-end.ensures in
+    search rules

@@ -4,8 +4,7 @@ use Rattle.columns.proofs.Found.{failure_at}
 use borrow.Author.Rules.{rules}
 use Rattle.columns.proofs.pointing.failure_column.Goals as goal
 
--- CONV: no step: c.before.IsPlace-in.ensures []
 pub returns : goal.returns
 returns c =
     let a = c.args in
-    c.column_at.ensures ∙ failure_at a.line.now c.label-found.result.word c.label-found.ensures.behind a.why c.IsPlace-in.ensures
+    c.column_at.ensures ∙ failure_at a.line.now c.label-found.result.word c.label-found.ensures.behind a.why c.place_in.ensures

@@ -1,6 +1,6 @@
 -- Each arm is one of the definition's tests passed, and the last all of them failed.
 use mathlib.Core.Path.{sym, ap}
-use borrow.Author.Tests.{ne_eqb}
+use Rattle.std.proofs.Common.{rules, tests}
 use Rattle.expressions.specs.Reading.{mark_symbol}
 use Rattle.expressions.proofs.symbols.mark_symbol.Goals as goal
 
@@ -34,7 +34,4 @@ returns-in-37 c = sym (ap mark_symbol c.in-37.is)
 
 pub returns-in_default : goal.returns-in_default
 unfolding mark_symbol
-returns-in_default c =
-    let b = c.args.b in
-    let r = c.in_default.in_default-own.rest in
-    rw (ne_eqb b 40 r.0.0.0.0.0.0.1, ne_eqb b 41 r.0.0.0.0.0.1, ne_eqb b 43 r.0.0.0.0.1, ne_eqb b 45 r.0.0.0.1, ne_eqb b 42 r.0.0.1, ne_eqb b 47 r.0.1, ne_eqb b 37 r.1)
+returns-in_default c = search (rules, tests)

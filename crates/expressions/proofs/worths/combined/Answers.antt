@@ -10,15 +10,7 @@ use Rattle.expressions.proofs.worths.combined.Goals as goal
 
 pub returns-in-Is-b : goal.returns-in-Is-b
 unfolding evaluate
-returns-in-Is-b c =
-    let a = c.args in
-    c.found_at.ensures
-    ∙ ap (found_at a.at)
-    (c.operation_on.ensures
-    ∙ ap₂ (operation a.o)
-    (to_z-of_z {w = w32} (record { sfits = c.known_told-1.given.0.1 }))
-    (to_z-of_z {w = w32} (record { sfits = c.known_told-in-Is-1.given.0.1 })))
-    ∙ sym (ap₂ (evaluate a.at a.o) c.in-Is.is c.in-Is-b.is)
+returns-in-Is-b c = search rules
 
 pub returns-in-OutOfRange-b : goal.returns-in-OutOfRange-b
 unfolding evaluate

@@ -7,10 +7,6 @@ use Rattle.expressions.specs.Places.{found_at}
 use Rattle.expressions.specs.declared.Found.TheVariants.{Is}
 use Rattle.expressions.proofs.worths.found_at.Goals as goal
 
-pub returns-in-Is : goal.returns-in-Is
-returns-in-Is c =
-    ap Is (to_z-of_z {w = w32} (record { sfits = c.known_told-1.given.0.1 })) ∙ sym (ap (found_at c.args.at) c.in-Is.is)
-
 pub returns-in-OutOfRange : goal.returns-in-OutOfRange
 returns-in-OutOfRange c = sym (ap (found_at c.args.at) c.in-OutOfRange.is)
 

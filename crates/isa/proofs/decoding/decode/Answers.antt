@@ -1,6 +1,5 @@
 -- Each way out is one outcome of the first word, and `operands_at` does the rest. Assumes nothing.
 use mathlib.Core.Path.{sym, ◌∙◌}
-use borrow.Author.Rules.{rules}
 use Rattle.isa.proofs.FirstWords.{when_no_opcode, when_no_mode}
 use Rattle.isa.proofs.Refusals.{past_the_end, at_a_word, no-opcode, no_mode}
 use Rattle.isa.proofs.decoding.decode.Goals as goal

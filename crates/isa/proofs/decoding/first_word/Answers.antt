@@ -1,7 +1,6 @@
 -- The opcode that the number finds, and then the two tests of its line's modes, decide as the definition does. Assumes nothing.
 use mathlib.Core.Path.{sym, ◌∙◌}
 use native.Mathlib.Omega.{arith}
-use borrow.Author.Tests.{not-true, not-false}
 use Rattle.isa.proofs.FirstWords.{opcode-unknown, found-unknown, first_mode_unknown, second_mode_unknown, modes-known}
 use Rattle.isa.proofs.decoding.first_word.Goals as goal
 

@@ -1,7 +1,6 @@
 -- The first word is allowed, so what is left is whether its words are there, and then the registers. Assumes nothing.
 use mathlib.Core.Path.{sym}
 use native.Mathlib.Omega.{arith}
-use borrow.Author.Rules.{rules}
 use Rattle.isa.proofs.FirstWords.{when_allowed}
 use Rattle.isa.proofs.Refusals.{word-missing, word-whole, instruction_by}
 use Rattle.isa.proofs.decoding.operands_at.Goals as goal

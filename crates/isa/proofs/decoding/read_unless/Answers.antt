@@ -1,5 +1,4 @@
 -- The two tests on the way are the two of the definition. Assumes nothing.
-use borrow.Author.Tests.{not-true, not-false}
 use Rattle.isa.specs.Decoding.{read_unless}
 use Rattle.isa.proofs.decoding.read_unless.Goals as goal
 

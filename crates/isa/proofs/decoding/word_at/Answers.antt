@@ -1,7 +1,6 @@
 -- Past the end the list gives 0. Assumes nothing.
 use mathlib.Core.Path.{sym}
 use lib.ListN.{get_or-eq_default}
-use borrow.Author.Rules.{rules}
 use Rattle.isa.proofs.decoding.word_at.Goals as goal
 
 pub returns-else-at-m : goal.returns-else-at-m

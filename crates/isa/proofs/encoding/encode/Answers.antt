@@ -2,7 +2,6 @@
 use mathlib.Core.Path.{sym, ap, ◌∙◌}
 use Prim.Native.Nat.{ℕ, ◌+◌, ◌*◌}
 use native.Mathlib.Omega.{arith}
-use borrow.Author.Tests.{not-true, not-false}
 use Rattle.isa.specs.declared.Row.{Row}
 use Rattle.isa.specs.Encoding.{first_word_of, encode_of, answered}
 use Rattle.isa.proofs.Words.{encoded}

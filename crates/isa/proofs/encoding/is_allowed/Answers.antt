@@ -1,5 +1,4 @@
 -- The four tests on the way are the four of the definition, in its order. Assumes nothing.
-use borrow.Author.Tests.{not-true, not-false}
 use Rattle.isa.specs.Encoding.{allowed}
 use Rattle.isa.proofs.encoding.is_allowed.Goals as goal
 

@@ -14,9 +14,6 @@ loop-i-init c =
     let a = c.args in
     (omega arith, refl, string-start a.s.now a.from a.row.now (a.at + a.k))
 
-pub overflow_cast-b : goal.overflow_cast-b
-overflow_cast-b c = omega (arith, c.known_told-1.given)
-
 pub overflow_add-n : goal.overflow_add-n
 overflow_add-n c =
     let h = character_moves c.args.s.now c.loop-i.i (sym c.character.ensures ∙ c.in-Stands.is) in

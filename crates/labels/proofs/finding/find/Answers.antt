@@ -3,11 +3,11 @@ use Prim.Native.Nat.{◌+◌, ◌-◌}
 use mathlib.Core.Path.{◌≡◌, sym, ap, ◌∙◌}
 use native.Mathlib.Omega.{arith}
 use lib.ListN.{get_or}
-use mathlib.Core.Logic.{⊎_elim}
 use Rattle.labels.specs.Inner.Labels.{window, onward, lasts_from, links_from, InCell}
 use Rattle.labels.proofs.Laws.{chain_small}
 use Rattle.labels.proofs.Walks.{Walked, onward-within, onward-below, no-word, walk-starts, walk_on, walk_ends}
 use Rattle.labels.proofs.finding.find.Goals as goal
+use Rattle.labels.proofs.finding.find.Goals.{then-is_named, else-is_named}
 
 pub overflow_add-chain : goal.overflow_add-chain
 overflow_add-chain c =
@@ -68,7 +68,10 @@ loop-named-preserved c =
     q.ensures none c.loop-named.found c.loop-named.named c.loop-named-test.true c.loop-named.invariant.0 c.onward-named-in-loop-named.result next
     c.if-is_named.found in
     let named = sym c.is_named.ensures in (
-      ⊎_elim (λ b. walk.0 (named ∙ b.0.taken) b.1) (λ b. walk.1 (named ∙ b.0.left) b.1) c.if-is_named.branch,
+      elim c.if-is_named.branch [
+        then-is_named w ↦ walk.0 (named ∙ w.if-is_named.true) w.found-is
+      | else-is_named w ↦ walk.1 (named ∙ w.if-is_named.false) w.found-is
+      ],
       omega (arith, h, c.onward-named-in-loop-named.ensures, c.loop-named.invariant.1),
     )
 

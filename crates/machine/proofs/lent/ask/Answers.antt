@@ -35,10 +35,9 @@ returns-in-PutNumber c =
     (c.printed-in-PutNumber.ensures c.args.m.now c.args.out.now _ refl
     (refused-row _ (WRINT-keeps c.args.out.now c.args.written _) c.put_number-moved.ensures))
 
--- CONV: no step: c.before.before.before.before.before.before.before.before.port6.given.1 ['c.in-PutString.is', 'c.port-in-PutString-1.given.1']
 pub returns-in-PutString : goal.returns-in-PutString
 unfolding asks
 returns-in-PutString c =
-    rw (c.port6.given.1, ← c.put_string-moved.ensures)
+    rw (c.in-PutString.is, ← c.put_string-moved.ensures)
     (c.printed-in-PutString.ensures c.args.m.now c.args.out.now _ refl
     (refused-row _ (WRSTR-keeps c.args.out.now c.args.written c.args.m.now _) c.put_string-moved.ensures))

@@ -24,7 +24,7 @@ shape_of-out-then-not-a c = omega (arith, c.inner-a.auto, c.loop-count.invariant
 pub returns-then-not-a : goal.returns-then-not-a
 returns-then-not-a c =
     rw (c.ended.ensures, c.code_after-code.ensures)
-    (turn-refused c.args.input.now c.args.budget c.loop-count.count _ _ _ _ _ c.loop-count.invariant.1 _ _ _ c.inner-a.result c.inner-a.ensures c.loop-count-test.true c.if-not-a.true
+    (turn-refused c.args.input.now c.args.budget c.loop-count.count _ _ _ _ _ c.loop-count.invariant.1 _ _ _ c.inner-a.result c.inner-a.ensures c.loop-count-test.true (not-true _ c.if-not-a.true)
     ∙ c.loop-count.invariant.0 ∙ ap (run_of c.args.budget c.args.input.now) (sym (is_running c.args.g c.args.m.now c.args.out.now c.requires.1)))
 
 pub overflow_add-count : goal.overflow_add-count
@@ -39,7 +39,7 @@ shape_of-out-then-a-ne-NONE c = omega (arith, c.inner-a.auto, c.loop-count.invar
 pub returns-then-a-ne-NONE : goal.returns-then-a-ne-NONE
 returns-then-a-ne-NONE c =
     rw c.ended-then-a-ne-NONE.ensures
-    (turn-ended c.args.input.now c.args.budget c.loop-count.count _ _ _ _ _ c.loop-count.invariant.1 _ _ _ c.inner-a.result c.inner-a.ensures c.loop-count-test.true c.if-not-a.false c.if-a-ne-NONE.true
+    (turn-ended c.args.input.now c.args.budget c.loop-count.count _ _ _ _ _ c.loop-count.invariant.1 _ _ _ c.inner-a.result c.inner-a.ensures c.loop-count-test.true (not-false _ c.if-not-a.false) c.if-a-ne-NONE.true
     ∙ c.loop-count.invariant.0 ∙ ap (run_of c.args.budget c.args.input.now) (sym (is_running c.args.g c.args.m.now c.args.out.now c.requires.1)))
 
 pub loop-count-smaller : goal.loop-count-smaller
@@ -47,9 +47,9 @@ loop-count-smaller c = omega (arith, c.loop-count-test.true)
 
 pub loop-count-preserved : goal.loop-count-preserved
 loop-count-preserved c = (
-  turn_more c.args.input.now c.args.budget c.loop-count.count _ _ _ _ _ c.loop-count.invariant.1 _ _ _ c.inner-a.result c.inner-a.ensures c.loop-count-test.true c.if-not-a.false c.if-a-ne-NONE.false
+  turn_more c.args.input.now c.args.budget c.loop-count.count _ _ _ _ _ c.loop-count.invariant.1 _ _ _ c.inner-a.result c.inner-a.ensures c.loop-count-test.true (not-false _ c.if-not-a.false) c.if-a-ne-NONE.false
       ∙ c.loop-count.invariant.0,
-  turn-good c.args.input.now c.args.budget c.loop-count.count _ _ _ _ _ c.loop-count.invariant.1 _ _ _ c.inner-a.result c.inner-a.ensures c.if-not-a.false c.if-a-ne-NONE.false,
+  turn-good c.args.input.now c.args.budget c.loop-count.count _ _ _ _ _ c.loop-count.invariant.1 _ _ _ c.inner-a.result c.inner-a.ensures (not-false _ c.if-not-a.false) c.if-a-ne-NONE.false,
   omega (arith, c.loop-count-test.true),
   omega (arith, c.inner-a.auto, c.loop-count.invariant),
   omega (arith, c.inner-a.auto, c.loop-count.invariant),

@@ -1,7 +1,6 @@
 -- Each arm's directive is the one at its place, by computing; past the list the word is unknown. Assumes nothing.
-use mathlib.Core.Path.{sym}
+use Rattle.std.proofs.Common.{◌≤◌, arith, sym}
 use lib.ListN.{get_or-eq_default}
-use Rattle.isa.proofs.Past.{past}
 use Rattle.names.specs.declared.Word.TheVariants.{Unknown}
 use Rattle.names.specs.Inner.Packing.{directives, directive_at}
 use Rattle.names.proofs.lookup.directive.Goals as goal
@@ -28,4 +27,6 @@ returns-in-4 c = rw c.in-4.is
 
 pub returns-in_default : goal.returns-in_default
 unfolding directive_at directives
-returns-in_default c = sym (get_or-eq_default directives Unknown (past 5 c.args.place c.in_default.in_default-own.rest))
+returns-in_default c =
+    let past : 5 ≤ c.args.place = omega arith in
+    sym (get_or-eq_default directives Unknown past)

@@ -3,7 +3,6 @@ use mathlib.Core.Path.{sym, ◌∙◌}
 use native.Mathlib.Omega.{arith}
 use Rattle.numerals.proofs.Radixes.{within}
 use Rattle.numerals.proofs.Readers.{number-minus, number-plain}
-use borrow.Author.Rules.{rules}
 use Rattle.numerals.proofs.Cursor.number.Goals as goal
 
 pub overflow_add-at : goal.overflow_add-at

@@ -6,7 +6,6 @@ use lib.ListN.{length, length-drop}
 use Rattle.numerals.specs.declared.Radix.TheVariants.{Hexadecimal}
 use Rattle.numerals.proofs.Radixes.{prefix-stands}
 use Rattle.numerals.proofs.Readers.{unsigned_is}
-use borrow.Author.Rules.{rules}
 use Rattle.numerals.proofs.Cursor.unsigned.Goals as goal
 
 pub overflow_add-at : goal.overflow_add-at

@@ -2,7 +2,6 @@
 use mathlib.Core.Path.{sym}
 use native.Mathlib.Omega.{arith}
 use Rattle.numerals.proofs.Ranks.{rank-low, rank-digit, rank-small, rank_other_small, rank_high}
-use borrow.Author.Rules.{rules}
 use Rattle.numerals.proofs.bytes.rank_of.Goals as goal
 
 pub returns-then-b-lt48 : goal.returns-then-b-lt48

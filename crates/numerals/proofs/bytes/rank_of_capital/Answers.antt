@@ -3,7 +3,6 @@ use mathlib.Core.Path.{sym, ap}
 use native.Mathlib.Omega.{arith}
 use Rattle.numerals.specs.Bytes.{rank}
 use Rattle.numerals.proofs.Ranks.{rank-mark, rank-capital, rank_other_capital, rank_high_mark}
-use borrow.Author.Rules.{rules}
 use Rattle.numerals.proofs.bytes.rank_of_capital.Goals as goal
 
 pub returns-then-b-lt65 : goal.returns-then-b-lt65

@@ -5,7 +5,6 @@ use lib.ListN.{drop, length-drop}
 use Rattle.numerals.proofs.Radixes.{base-small}
 use Rattle.numerals.proofs.Runs.{run_le}
 use Rattle.numerals.proofs.Readers.{digits-none, digits-joined, digits-found}
-use borrow.Author.Rules.{rules}
 use Rattle.numerals.proofs.reading.digits_at.Goals as goal
 
 pub returns-then-end-from : goal.returns-then-end-from

@@ -1,7 +1,6 @@
 -- A number is in range up to 65535, and below zero down to -32768; its cell is the law of its sign.
 use mathlib.Core.Path.{sym}
 use Rattle.numerals.proofs.Cells.{kept-plus, kept_high, kept-minus, kept_low}
-use borrow.Author.Rules.{rules}
 use Rattle.numerals.proofs.reading.kept.Goals as goal
 
 pub returns-then-m-gt32768 : goal.returns-then-m-gt32768

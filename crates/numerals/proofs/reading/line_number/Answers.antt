@@ -2,7 +2,6 @@
 use mathlib.Core.Path.{sym, ap, ◌∙◌}
 use Rattle.numerals.specs.Reading.{or_zero}
 use Rattle.numerals.proofs.Readers.{line-whole, line-rest, line-none}
-use borrow.Author.Rules.{rules}
 use Rattle.numerals.proofs.reading.line_number.Goals as goal
 
 pub returns-then-c-s : goal.returns-then-c-s

@@ -3,7 +3,6 @@ use mathlib.Core.Path.{sym, ◌∙◌}
 use Rattle.numerals.specs.Reading.{radix_at}
 use lib.ListN.{get_or-eq_default}
 use borrow.Author.Tests.{eq-eqb, ne_eqb}
-use borrow.Author.Rules.{rules}
 use Rattle.numerals.proofs.reading.radix_at.Goals as goal
 
 pub returns-then-s-at : goal.returns-then-s-at

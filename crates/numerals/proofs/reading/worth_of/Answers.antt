@@ -1,13 +1,12 @@
 -- The loop cuts after each digit, and the worth that is left stays the same; cutting on the way is cutting at the end.
-use borrow.Author.Rules.{rules}
-use Prim.Native.Nat.{◌+◌, ◌*◌, ◌-◌, ◌≤◌}
+use Prim.Native.Nat.{◌+◌, ◌*◌, ◌-◌}
 use mathlib.Core.Path.{◌≡◌, sym, ◌∙◌}
 use native.Mathlib.Nat.{mul-le-mul_right}
 use native.Mathlib.Omega.{arith}
 use lib.ListN.{get_or, take, drop}
 use Rattle.numerals.specs.Bytes.{rank}
 use Rattle.numerals.specs.Numbers.{cut}
-use Rattle.numerals.proofs.Worths.{cut_after, cut_at_end, cut_step, cut-done}
+use Rattle.numerals.proofs.Worths.{cut_at_end, cut_step, cut-done}
 use Rattle.numerals.proofs.reading.worth_of.Goals as goal
 use Rattle.numerals.proofs.reading.worth_of.Goals.{then-v-gt65536, else-v-gt65536}
 

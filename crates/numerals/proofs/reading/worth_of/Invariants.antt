@@ -1,14 +1,8 @@
 -- The loop cuts after each digit, and the worth that is left stays the same; cutting on the way is cutting at the end.
-use borrow.Author.Rules.{rules}
-use Prim.Native.Nat.{◌+◌, ◌*◌, ◌-◌, ◌≤◌}
-use mathlib.Core.Logic.{⊎_elim}
-use mathlib.Core.Path.{◌≡◌, sym, ◌∙◌}
-use native.Mathlib.Nat.{mul-le-mul_right}
-use native.Mathlib.Omega.{arith}
-use lib.ListN.{get_or, take, drop}
-use Rattle.numerals.specs.Bytes.{rank}
-use Rattle.numerals.specs.Numbers.{cut}
-use Rattle.numerals.proofs.Worths.{cut_after, cut_at_end, cut_step, cut-done}
+use Prim.Native.Nat.{◌-◌, ◌≤◌}
+use mathlib.Core.Path.{◌≡◌}
+use lib.ListN.{take, drop}
+use Rattle.numerals.proofs.Worths.{cut_after}
 use Rattle.numerals.proofs.reading.worth_of.Given as goal
 
 abbrev pub invariant-loop-i : goal.invariant-loop-i

@@ -4,7 +4,6 @@ use Prim.Native.Nat.{◌-◌}
 use borrow.Author.Tests.{lt-ltb, le-ltb}
 use Rattle.numerals.specs.Writing.{signed_decimal}
 use Rattle.numerals.proofs.Filling.{start_of, put_front}
-use borrow.Author.Rules.{rules}
 use Rattle.numerals.proofs.writing.signed_decimal.Goals as goal
 
 pub returns-then-x-lt32768 : goal.returns-then-x-lt32768

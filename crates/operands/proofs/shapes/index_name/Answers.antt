@@ -1,5 +1,6 @@
 -- Three registers index, each in a kind of its own, and no other does (Outcomes).
 use mathlib.Core.Path.{sym, ◌∙◌}
+use native.Mathlib.Omega.{arith}
 use Rattle.operands.specs.Operands.{by_IX, by_IY, by_SP}
 use Rattle.operands.proofs.Outcomes.{index_is, index_no, index_not}
 use borrow.Author.Rules.{rules}
@@ -27,7 +28,7 @@ pub returns-in_default : goal.returns-in_default
 returns-in_default c =
     let a = c.args in
     let e = sym c.register_at-read.ensures ∙ c.in-Named.is in
-    index_no a.s.now a.from.at a.v e c.in_default.rest.0.0.1 c.in_default.rest.0.1 c.in_default.rest.1
+    index_no a.s.now a.from.at a.v e (omega arith) (omega arith) (omega arith)
 
 pub returns-in-Absent : goal.returns-in-Absent
 returns-in-Absent c =

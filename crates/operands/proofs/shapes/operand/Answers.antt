@@ -1,6 +1,7 @@
 -- Five marks begin an operand (Outcomes).
 use mathlib.Core.Path.{sym, ◌∙◌}
 use borrow.Author.Tests.{ne_eqb}
+use native.Mathlib.Omega.{arith}
 use Rattle.operands.specs.Reading.{hash, slash, dollar, value, register_name, indirect_dot, starts}
 use Rattle.operands.proofs.Outcomes.{operand_is, operand_no, operand-not}
 use borrow.Author.Rules.{rules}
@@ -46,9 +47,9 @@ unfolding starts
 returns-in_default c =
     let a = c.args in
     let e = sym c.mark_at-read.ensures ∙ c.in-Is.is in
-    let r = c.in_default.rest in
+    let b = c.in-Is.b in
     operand_no a.s.now a.from.at e
-    (rw (ne_eqb _ _ r.0.0.0.0.1, ne_eqb _ _ r.0.0.0.1, ne_eqb _ _ r.0.0.1, ne_eqb _ _ r.0.1, ne_eqb _ _ r.1))
+    (rw (ne_eqb b 35 (omega arith), ne_eqb b 46 (omega arith), ne_eqb b 47 (omega arith), ne_eqb b 91 (omega arith), ne_eqb b 36 (omega arith)))
 
 pub returns-in-Absent : goal.returns-in-Absent
 returns-in-Absent c =

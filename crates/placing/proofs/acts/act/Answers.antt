@@ -15,9 +15,7 @@ returns-in-Nothing c = row_of c.moving.ensures c.in-Nothing.is refl refl
 
 pub returns-in-Instruction : goal.returns-in-Instruction
 returns-in-Instruction c =
-    let f = c.s-1.given.0 in
-    row_of c.claiming.ensures c.in-Instruction.is
-    (instruction-row f.0 f.1.0 f.1.1.0 c.operand_count-n.ensures) refl
+    row_of c.claiming.ensures c.in-Instruction.is (instruction-row c.in-Instruction.op _ _ c.operand_count-n.ensures) refl
 
 pub returns-in-Org : goal.returns-in-Org
 unfolding does

@@ -43,7 +43,7 @@ returns-then-find-count c =
 pub returns : goal.returns
 returns c =
     let h = c.hold in
-    let few = left.before.before.before.before in let a = c.args in
+    let a = c.args in
     let p = c.requires in
     let size = a.n.end - a.n.start in
     let count = a.c.bound + a.c.waiting in (
@@ -55,6 +55,6 @@ returns c =
             (le-ltb c.find.result count c.if-find-count.false),
         label-held a.s.now a.starts.now a.keys.now a.line.now vs ms a.c a.n k
             (record { fair = p.0; starts-long = p.1; keys_long = p.2; values_long = l; order = p.3; within = p.4 })
-            h.new.0 h.new.1.0 (h.ensures a.s.now (p.6 a.n.start size (omega (arith, p.3, p.4)))),
+            h.new.starts h.new.keys (h.ensures a.s.now (p.6 a.n.start size (omega (arith, p.3, p.4)))),
       ),
     )

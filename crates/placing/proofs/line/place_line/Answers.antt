@@ -19,8 +19,8 @@ returns-in-Absent c =
     let n = a.c.bound + a.c.waiting in
     let long = length-words a.s.now a.starts.now a.keys.now n in (
       e.ensures.0,
-      λ k. as_read M k place a.line.now (place_in a.s.now a.starts.now a.keys.now e.new.0 e.new.1.0) e.result p.3
+      λ k. as_read M k place a.line.now (place_in a.s.now a.starts.now a.keys.now e.new.values e.new.marks) e.result p.3
           (absent_placed M k a.s.now a.starts.now a.keys.now a.starts.now a.keys.now a.values.now a.marks.now
-          e.new.0 e.new.1.0 a.line.now a.c a.read e.result c.in-Absent.is e.ensures.1
+          e.new.values e.new.marks a.line.now a.c a.read e.result c.in-Absent.is e.ensures.1
           (e.ensures.2 k (words a.s.now a.starts.now a.keys.now n) long)),
     )

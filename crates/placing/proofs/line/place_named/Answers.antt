@@ -33,15 +33,15 @@ returns-in-No c =
     let a = c.args in
     let p = c.requires in
     let d = c.declare in
-    let starts = d.new.1.1.1.0 in
-    let keys = d.new.1.1.1.1.0 in
+    let starts = d.new.starts in
+    let keys = d.new.keys in
     let place = place_in a.s.now a.starts.now a.keys.now a.values.now a.marks.now a.c in
-    let f = c.f-1.given in (
+    let f = c.in-No in (
       tt,
-      λ k. as_read (length a.marks.now) k place a.line.now (λ z. place) (No f.0.0) p.3
+      λ k. as_read (length a.marks.now) k place a.line.now (λ z. place) (No f.f) p.3
           (label-fails (length a.marks.now) k place (record { bytes = a.line.now; read = a.read }) p.6
           (tells_by k (label_verdict k place a.line.now (Named a.n)) (labelled place a.line.now (Named a.n))
-          (place_in a.s.now starts keys a.values.now a.marks.now) f.1 (d.ensures.1 k a.values.now a.marks.now p.1.values_long))),
+          (place_in a.s.now starts keys a.values.now a.marks.now) f.is (d.ensures.1 k a.values.now a.marks.now p.1.values_long))),
     )
 
 pub returns-in-Go : goal.returns-in-Go
@@ -49,19 +49,19 @@ returns-in-Go c =
     let a = c.args in
     let p = c.requires in
     let d = c.declare in
-    let starts = d.new.1.1.1.0 in
-    let keys = d.new.1.1.1.1.0 in
+    let starts = d.new.starts in
+    let keys = d.new.keys in
     let place = place_in a.s.now a.starts.now a.keys.now a.values.now a.marks.now a.c in
-    let g = c.d-1.given in
-    let fair = subst FairDid g.1 d.ensures.0 in
-    let n = g.0.0.bound + g.0.0.waiting in
+    let g = c.in-Go in
+    let fair = subst FairDid g.is d.ensures.0 in
+    let n = g.d.bound + g.d.waiting in
     let e = c.place_statement in
     let long = length-words a.s.now starts keys n in (
       e.ensures.0,
-      λ k. as_read (length a.marks.now) k place a.line.now (place_in a.s.now starts keys e.new.0 e.new.1.0) e.result p.3
+      λ k. as_read (length a.marks.now) k place a.line.now (place_in a.s.now starts keys e.new.values e.new.marks) e.result p.3
           (named_placed (length a.marks.now) k a.s.now a.starts.now a.keys.now starts keys a.values.now a.marks.now
-          e.new.0 e.new.1.0 a.line.now a.c a.read g.0.0 e.result p.6
+          e.new.values e.new.marks a.line.now a.c a.read g.d e.result p.6
           (tells_by k (label_verdict k place a.line.now (Named a.n)) (labelled place a.line.now (Named a.n))
-          (place_in a.s.now starts keys a.values.now a.marks.now) g.1 (d.ensures.1 k a.values.now a.marks.now p.1.values_long))
+          (place_in a.s.now starts keys a.values.now a.marks.now) g.is (d.ensures.1 k a.values.now a.marks.now p.1.values_long))
           e.ensures.1 (e.ensures.2 k (words a.s.now starts keys n) long)),
     )

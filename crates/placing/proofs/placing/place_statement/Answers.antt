@@ -14,6 +14,6 @@ returns-in-Passes c =
     let e = c.place in (
       e.ensures.0,
       e.ensures.1,
-      λ k ws l. own-passes (length a.marks.now) k (state_of ws a.values.now a.marks.now a.c) (state_of ws e.new.0 e.new.1.0)
+      λ k ws l. own-passes (length a.marks.now) k (state_of ws a.values.now a.marks.now a.c) (state_of ws e.new.values e.new.marks)
           e.result c.in-Passes.is c.act-a.ensures.0 (e.ensures.2 k ws l),
     )

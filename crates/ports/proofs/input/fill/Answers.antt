@@ -11,9 +11,6 @@ use Rattle.ports.proofs.input.fill.Goals as goal
 pub loop-k-init : goal.loop-k-init
 loop-k-init c = copy_none _ _ (drop c.args.from c.args.input.now) _
 
-pub overflow_cast-m : goal.overflow_cast-m
-overflow_cast-m c = omega (arith, c.shared_slice_known-1.given (c.args.from + c.loop-k.k))
-
 pub loop-k-preserved : goal.loop-k-preserved
 loop-k-preserved c =
     let a = c.args in

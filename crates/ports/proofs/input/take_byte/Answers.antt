@@ -5,9 +5,6 @@ use borrow.Author.Rules.{rules}
 use Rattle.ports.proofs.Outcomes.{byte-none, byte-taken}
 use Rattle.ports.proofs.input.take_byte.Goals as goal
 
-pub overflow_cast-result : goal.overflow_cast-result
-overflow_cast-result c = omega (arith, c.shared_slice_known-1.given c.args.at)
-
 pub returns-then-at-input : goal.returns-then-at-input
 returns-then-at-input c = sym (byte-taken _ _ c.if-at-input.true)
 

@@ -4,4 +4,4 @@ use Rattle.ports.proofs.Searches.{search_eight}
 use Rattle.ports.proofs.output.all_full.Goals as goal
 
 pub returns : goal.returns
-returns c = search_eight 0 c.args.m.now c.args.i c.requires e
+returns c e = search_eight 0 c.args.m.now c.args.i c.requires e

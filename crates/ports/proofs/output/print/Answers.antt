@@ -15,9 +15,6 @@ use Rattle.ports.proofs.output.print.Goals as goal
 pub loop-k-init : goal.loop-k-init
 loop-k-init c = copy_none _ _ (map low_byte (drop c.args.from c.args.m.now)) _
 
-pub overflow_cast-out : goal.overflow_cast-out
-overflow_cast-out c = omega (arith, c.shared_slice_known-1.given (c.args.from + c.loop-k.k))
-
 pub loop-k-preserved : goal.loop-k-preserved
 loop-k-preserved c =
     let a = c.args in

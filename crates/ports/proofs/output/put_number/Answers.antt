@@ -5,6 +5,9 @@ use Rattle.ports.specs.Output.{number_put}
 use Rattle.ports.proofs.Outcomes.{places, places-start, places-text}
 use Rattle.ports.proofs.output.put_number.Goals as goal
 
+pub slice_bounds-put_text-start : goal.slice_bounds-put_text-start
+slice_bounds-put_text-start c = omega (arith, places-start _ c.ranges.x.fits c.signed_decimal-text.ensures)
+
 pub slice_bounds-put_text-count : goal.slice_bounds-put_text-count
 slice_bounds-put_text-count c = omega (arith, places-start _ c.ranges.x.fits c.signed_decimal-text.ensures)
 
@@ -13,11 +16,3 @@ unfolding number_put
 returns c =
     let a = c.args in
     rw (places-text a.x c.ranges.x.fits c.signed_decimal-text.ensures) at c.put_text.ensures
-
--- MANUAL: -- no goal slice-bounds-put-text-start
--- MANUAL: part-put-text-start : tie.Need-slice-bounds-put-text-start
--- MANUAL: part-put-text-start c = omega (arith, places-start _ c.before.before.before.before.before.ranges.x.fits c.before.before.before.signed_decimal.ensures)
-
--- MANUAL: -- no goal slice-bounds-put-text-end
--- MANUAL: part-put-text-end : tie.Need-slice-bounds-put-text-end
--- MANUAL: part-put-text-end c = omega (arith, (places _ c.before.before.before.before.before.ranges.x.fits c.before.before.before.signed_decimal.ensures).1)

@@ -20,7 +20,7 @@ loop-k-init c =
 pub loop-k-preserved : goal.loop-k-preserved
 loop-k-preserved c =
     let a = c.args in
-    let more = cells-more a.room.now a.at a.names.now a.t4 a.from c.loop-k.k (omega arith) c.loop-k.invariant.2 c.cell-next.ensures in
+    let more = cells-more a.room.now a.at a.names.now a.r a.from c.loop-k.k (omega arith) c.loop-k.invariant.2 c.cell-next.ensures in
     (omega arith, omega arith, more)
 
 pub returns : goal.returns

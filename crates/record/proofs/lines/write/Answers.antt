@@ -14,9 +14,9 @@ pub returns : goal.returns
 unfolding lines_from
 returns c =
     let a = c.args in
-    let first = end_lines a.stop a.steps (get_or a.t4 A 0) in
-    let numbered = low_lines a.t4 ++ high_lines a.t4 in
+    let first = end_lines a.stop a.steps (get_or a.r A 0) in
+    let numbered = low_lines a.r ++ high_lines a.r in
     let h : 0 ≤ length a.room.now = omega arith in
     let two = lines_on a.room.now 0 first numbered 60 200 h c.end-first.ensures c.cells-special.ensures in
-    let three = lines_on a.room.now 0 (first ++ numbered) (special_lines a.t4) 260 100 h two c.cells-last.ensures in
-    lines_on a.room.now 0 (first ++ numbered ++ special_lines a.t4) (position_lines a.taken a.written) 360 40 h three c.positions.ensures
+    let three = lines_on a.room.now 0 (first ++ numbered) (special_lines a.r) 260 100 h two c.cells-last.ensures in
+    lines_on a.room.now 0 (first ++ numbered ++ special_lines a.r) (position_lines a.taken a.written) 360 40 h three c.positions.ensures

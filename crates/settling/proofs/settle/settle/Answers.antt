@@ -15,30 +15,15 @@ use Rattle.settling.proofs.settle.settle.Goals as goal
 pub loop-i-init : goal.loop-i-init
 loop-i-init c = (omega arith, nothing-held _ _ _ _, sym (nothing-filled _ _ _ _ _), refl, nothing-before _ _ _ _)
 
-pub overflow_cast-start : goal.overflow_cast-start
-overflow_cast-start c = omega (arith, c.shared_slice_known-in-loop-i-1.given (4 * c.loop-i.i))
-
-pub overflow_cast-size : goal.overflow_cast-size
-overflow_cast-size c = omega (arith, c.shared_slice_known-in-loop-i-2-1.given (4 * c.loop-i.i + 1))
-
-pub overflow_cast-cell : goal.overflow_cast-cell
-overflow_cast-cell c = omega (arith, c.shared_slice_known-in-loop-i-3-1.given (4 * c.loop-i.i + 2))
-
-pub overflow_cast-line : goal.overflow_cast-line
-overflow_cast-line c = omega (arith, c.shared_slice_known-in-loop-i-4-1.given (4 * c.loop-i.i + 3))
-
-pub overflow_cast-away : goal.overflow_cast-away
-overflow_cast-away c = omega (arith, c.shared_slice_known-in-loop-i-5-1.given c.loop-i.i)
-
 pub word-requires : goal.word-requires
 word-requires c =
     let i = c.loop-i.i in
-    let known = c.shared_slice_known-in-loop-i-4-1.given in (
+    let known = c.type_inv.row in (
       omega (arith, known (4 * i)),
       omega (arith, known (4 * i + 1)),
       c.requires.0,
       omega (arith, known (4 * i + 2)),
-      omega (arith, c.shared_slice_known-in-loop-i-5-1.given i),
+      omega (arith, c.type_inv.aways i),
     )
 
 pub shape_of-cells-in-No : goal.shape_of-cells-in-No
@@ -64,7 +49,7 @@ loop-i-preserved c =
       c.put.ensures
           ∙ ap (λ (m : List ℕ). set m (get_or a.row.now (4 * i + 2) 0) x) c.loop-i.invariant.2
           ∙ one-filled bs a.s.now a.row.now a.aways.now i x w.result w.ensures c.in-Is.is a.cells.now,
-      c.put.auto.0 ∙ c.loop-i.invariant.3,
+      c.put.auto.cells ∙ c.loop-i.invariant.3,
       one-before bs a.s.now a.row.now a.aways.now i x w.result w.ensures c.in-Is.is c.loop-i.before c.loop-i.invariant.4,
     )
 

@@ -1,6 +1,7 @@
 -- The arms are the definition's clauses.
 use borrow.Author.Rules.{rules}
 use mathlib.Core.Path.{sym, ap, ap₂, ◌∙◌}
+use native.Mathlib.Omega.{arith}
 use mir.Syntax.{w32}
 use mir.Facts.{to_z-of_z}
 use Rattle.statements.specs.Inner.Parts.{cell_in, worth_outcome, outcome_of}
@@ -10,7 +11,7 @@ pub returns-in-Is : goal.returns-in-Is
 returns-in-Is c =
     let l = c.args.least in
     c.in_range.ensures
-    ∙ ap₂ cell_in (to_z-of_z {w = w32} c.ranges.least) (to_z-of_z {w = w32} (record { sfits = c.known_told-in-Read-1.given.0.1 }))
+    ∙ ap₂ cell_in (to_z-of_z {w = w32} c.ranges.least) (to_z-of_z {w = w32} {z = c.in-Is.z} (record { sfits = omega arith }))
     ∙ sym (ap (outcome_of l) c.in-Read.is ∙ ap (worth_outcome l) c.in-Is.is)
 
 pub returns-in-OutOfRange : goal.returns-in-OutOfRange

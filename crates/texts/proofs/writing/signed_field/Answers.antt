@@ -6,6 +6,9 @@ use Rattle.texts.proofs.Rooms.{signed-places, signed-start, wrote_signed}
 use borrow.Author.Rules.{rules}
 use Rattle.texts.proofs.writing.signed_field.Goals as goal
 
+pub slice_bounds-put_text-start : goal.slice_bounds-put_text-start
+slice_bounds-put_text-start c = omega (arith, signed-start _ (omega arith) c.signed_decimal-written.ensures)
+
 pub slice_bounds-put_text-count : goal.slice_bounds-put_text-count
 slice_bounds-put_text-count c = omega (arith, signed-start _ (omega arith) c.signed_decimal-written.ensures)
 
@@ -27,11 +30,3 @@ returns c =
     wrote_signed a.x (omega arith) c.signed_decimal-written.ensures a.room.now a.at
     a.text.now c.requires
     c.put_text.ensures c.put_text-2.ensures
-
--- MANUAL: -- no goal slice-bounds-put-text-start
--- MANUAL: part-put-text-start : tie.Need-slice-bounds-put-text-start
--- MANUAL: part-put-text-start c = omega (arith, signed-start _ (omega arith) c.before.before.before.signed_decimal.ensures)
-
--- MANUAL: -- no goal slice-bounds-put-text-end
--- MANUAL: part-put-text-end : tie.Need-slice-bounds-put-text-end
--- MANUAL: part-put-text-end c = omega (arith, (signed-places _ (omega arith) c.before.before.before.signed_decimal.ensures).1)

@@ -2,17 +2,16 @@
 use mathlib.Core.Path.{sym, ◌∙◌}
 use native.Mathlib.Omega.{arith}
 use Rattle.values.proofs.Displaced.{displaced-minus, displaced-plus, displaced_high, displaced-hexadecimal}
-use borrow.Author.Rules.{rules}
 use Rattle.values.proofs.ranges.displacement.Goals as goal
 
 pub returns-then-n : goal.returns-then-n
-returns-then-n c = c.kept.ensures ∙ sym (displaced-minus c.args.n c.in-Decimal.is c.if-n.taken)
+returns-then-n c = c.kept.ensures ∙ sym (displaced-minus c.args.n c.in-Decimal.is c.if-n.true)
 
 pub returns-then-n-gt32767 : goal.returns-then-n-gt32767
-returns-then-n-gt32767 c = sym (displaced_high c.args.n c.in-Decimal.is c.if-n.left (omega arith))
+returns-then-n-gt32767 c = sym (displaced_high c.args.n c.in-Decimal.is c.if-n.false (omega arith))
 
 pub returns-else-n-gt32767 : goal.returns-else-n-gt32767
-returns-else-n-gt32767 c = c.kept-in-Decimal.ensures ∙ sym (displaced-plus c.args.n c.in-Decimal.is c.if-n.left (omega arith))
+returns-else-n-gt32767 c = c.kept-in-Decimal.ensures ∙ sym (displaced-plus c.args.n c.in-Decimal.is c.if-n.false (omega arith))
 
 pub returns-in-Hexadecimal : goal.returns-in-Hexadecimal
 returns-in-Hexadecimal c = c.kept-in-Hexadecimal.ensures ∙ sym (displaced-hexadecimal c.args.n c.in-Hexadecimal.is)

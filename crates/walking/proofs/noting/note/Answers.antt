@@ -51,7 +51,7 @@ returns-in-Named c =
     let a = c.args in
     let h = placeable a.from a.cell a.next c.in-Named.is c.requires.2 in (
       λ s. noted_one s a.from a.number a.cell a.next a.g
-          (uses_held s a.row.now a.aways.now a.count) {vs = uses_held s c.keep.new.0 c.keep.new.1.0 (a.count + 1)}
+          (uses_held s a.row.now a.aways.now a.count) {vs = uses_held s c.keep.new.row c.keep.new.aways (a.count + 1)}
           c.in-Named.is h.2 c.away-far.ensures (c.keep.ensures s),
       omega arith,
       omega arith,

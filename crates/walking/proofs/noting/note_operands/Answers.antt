@@ -17,8 +17,8 @@ pub note-requires : goal.note-requires
 note-requires c =
     let a = c.args in (
       record {
-        cells = omega (arith, c.requires.0.cells, c.note-n.ensures.2, c.note-n.auto.0);
-        distances = omega (arith, c.requires.0.distances, c.note-n.ensures.2, c.note-n.auto.1.0);
+        cells = omega (arith, c.requires.0.cells, c.note-n.ensures.2, c.note-n.auto.row);
+        distances = omega (arith, c.requires.0.distances, c.note-n.ensures.2, c.note-n.auto.aways);
       },
       c.requires.1,
       subst (λ (i : ℕ). Placeable a.from i a.next a.b.label) (second-cell a.at a.a c.width.ensures) c.requires.4,

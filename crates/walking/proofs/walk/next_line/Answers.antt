@@ -1,4 +1,5 @@
 -- By what the line comes to; END's arm is said, so that another answer there fails by what it is.
+use Rattle.statements.specs.declared.Statement.{Statement}
 use mathlib.Core.Bool.{cond}
 use mathlib.Core.Path.{sym, ap, ◌∙◌}
 use borrow.Author.Rules.{rules}

@@ -10,54 +10,53 @@ use Rattle.walking.proofs.walk.walk.Goals as goal
 pub returns-then-is_late : goal.returns-then-is_late
 returns-then-is_late c =
     let l = c.walk_lines in
-    let starts = l.new.1.0 in
-    let keys = l.new.1.1.0 in
-    let values = l.new.1.1.1.0 in
-    let marks = l.new.1.1.1.1.0 in
-    let cells = l.new.1.1.1.1.1.0 in
-    let row = l.new.1.1.1.1.1.1.0 in
-    let aways = l.new.1.1.1.1.1.1.1.0 in
+    let starts = l.new.starts in
+    let keys = l.new.keys in
+    let values = l.new.values in
+    let marks = l.new.marks in
+    let cells = l.new.cells in
+    let row = l.new.row in
+    let aways = l.new.aways in
     let s = c.args.s.now in
     let m = length c.args.marks.now in
     let v = lines_verdict m s in
     let w = work_of m s in
     let n = last_line s in
-    let d = c.c-1.given in
-    refused-late s starts keys values marks cells row aways v w n d.1 l.ensures c.is_late.ensures
+    refused-late s starts keys values marks cells row aways v w n c.in-Passes.is l.ensures c.is_late.ensures
     c.if-is_late.true
 
 pub bind_here-d-requires : goal.bind_here-d-requires
 bind_here-d-requires c =
     let l = c.walk_lines in
-    let starts = l.new.1.0 in
-    let keys = l.new.1.1.0 in
-    let values = l.new.1.1.1.0 in
-    let marks = l.new.1.1.1.1.0 in
-    let cells = l.new.1.1.1.1.1.0 in
-    let row = l.new.1.1.1.1.1.1.0 in
-    let aways = l.new.1.1.1.1.1.1.1.0 in
+    let starts = l.new.starts in
+    let keys = l.new.keys in
+    let values = l.new.values in
+    let marks = l.new.marks in
+    let cells = l.new.cells in
+    let row = l.new.row in
+    let aways = l.new.aways in
     let s = c.args.s.now in
     let m = length c.args.marks.now in
     let v = lines_verdict m s in
     let w = work_of m s in
     let n = last_line s in
-    let d = c.c-1.given in (
-      still-fair s starts keys values marks cells row aways v w n d.1 l.ensures,
-      l.auto.1.1.1.0 ∙ c.requires.rows.values_long,
-      binds_at_end s starts keys values marks cells row aways v w n d.1 l.ensures c.is_late.ensures
+    (
+      still-fair s starts keys values marks cells row aways v w n c.in-Passes.is l.ensures,
+      l.auto.values ∙ c.requires.rows.values_long,
+      binds_at_end s starts keys values marks cells row aways v w n c.in-Passes.is l.ensures c.is_late.ensures
           c.if-is_late.false,
     )
 
 pub returns-in-Refused : goal.returns-in-Refused
 returns-in-Refused c =
     let l = c.walk_lines in
-    let starts = l.new.1.0 in
-    let keys = l.new.1.1.0 in
-    let values = l.new.1.1.1.0 in
-    let marks = l.new.1.1.1.1.0 in
-    let cells = l.new.1.1.1.1.1.0 in
-    let row = l.new.1.1.1.1.1.1.0 in
-    let aways = l.new.1.1.1.1.1.1.1.0 in
+    let starts = l.new.starts in
+    let keys = l.new.keys in
+    let values = l.new.values in
+    let marks = l.new.marks in
+    let cells = l.new.cells in
+    let row = l.new.row in
+    let aways = l.new.aways in
     let s = c.args.s.now in
     let m = length c.args.marks.now in
     let v = lines_verdict m s in
@@ -69,21 +68,21 @@ pub returns-else-is_late : goal.returns-else-is_late
 returns-else-is_late c =
     let q = c.bind_here-d in
     let l = c.walk_lines in
-    let starts = l.new.1.0 in
-    let keys = l.new.1.1.0 in
-    let values = l.new.1.1.1.0 in
-    let marks = l.new.1.1.1.1.0 in
-    let cells = l.new.1.1.1.1.1.0 in
-    let row = l.new.1.1.1.1.1.1.0 in
-    let aways = l.new.1.1.1.1.1.1.1.0 in
+    let starts = l.new.starts in
+    let keys = l.new.keys in
+    let values = l.new.values in
+    let marks = l.new.marks in
+    let cells = l.new.cells in
+    let row = l.new.row in
+    let aways = l.new.aways in
     let s = c.args.s.now in
     let m = length c.args.marks.now in
     let v = lines_verdict m s in
     let w = work_of m s in
     let n = last_line s in
-    let d = c.c-1.given in (
-      passes-end s starts keys values marks cells row aways v w n d.1 l.ensures c.is_late.ensures
+    (
+      passes-end s starts keys values marks cells row aways v w n c.in-Passes.is l.ensures c.is_late.ensures
           c.if-is_late.false,
-      all_held s starts keys values marks cells row aways v w n d.1 l.ensures q.new.0 q.result q.ensures.2
+      all_held s starts keys values marks cells row aways v w n c.in-Passes.is l.ensures q.new.values q.result q.ensures.2
           q.ensures.3,
     )

@@ -41,19 +41,19 @@ place_line-requires c =
 
 pub shape_of-starts-in-No : goal.shape_of-starts-in-No
 shape_of-starts-in-No c =
-    c.place_line.auto.1.1.1.1.0 ∙ c.loop-from.invariant.starts-long ∙ sym c.requires.rows.starts-long
+    c.place_line.auto.starts ∙ c.loop-from.invariant.starts-long ∙ sym c.requires.rows.starts-long
 
 pub shape_of-keys-in-No : goal.shape_of-keys-in-No
 shape_of-keys-in-No c =
-    c.place_line.auto.1.1.1.1.1.0 ∙ c.loop-from.invariant.keys_long ∙ sym c.requires.rows.keys_long
+    c.place_line.auto.keys ∙ c.loop-from.invariant.keys_long ∙ sym c.requires.rows.keys_long
 
 pub shape_of-values-in-No : goal.shape_of-values-in-No
 shape_of-values-in-No c =
-    c.place_line.auto.1.1.1.1.1.1.0 ∙ c.loop-from.invariant.values_long ∙ sym c.requires.rows.values_long
+    c.place_line.auto.values ∙ c.loop-from.invariant.values_long ∙ sym c.requires.rows.values_long
 
 pub shape_of-marks-in-No : goal.shape_of-marks-in-No
 shape_of-marks-in-No c =
-    c.place_line.auto.1.1.1.1.1.1.1.0 ∙ c.loop-from.invariant.marks-long
+    c.place_line.auto.marks ∙ c.loop-from.invariant.marks-long
 
 pub shape_of-cells-in-No : goal.shape_of-cells-in-No
 shape_of-cells-in-No c =
@@ -76,13 +76,12 @@ returns-in-No c =
     let s = a.s.now in
     let m = length a.marks.now in
     let l = c.place_line in
-    let starts = l.new.1.1.1.1.0 in
-    let keys = l.new.1.1.1.1.1.0 in
-    let values = l.new.1.1.1.1.1.1.0 in
-    let marks = l.new.1.1.1.1.1.1.1.0 in
-    let f = c.f-1.given in
+    let starts = l.new.starts in
+    let keys = l.new.keys in
+    let values = l.new.values in
+    let marks = l.new.marks in
     turn-stops m s p.starts p.keys p.values p.marks p.cells p.row p.aways (length a.cells.now) (length a.row.now)
-    (length a.aways.now) p.c p.from p.number p.uses p.invariant test e (place_in s starts keys values marks) f.1 (l.ensures.1 (p.number + 1))
+    (length a.aways.now) p.c p.from p.number p.uses p.invariant test e (place_in s starts keys values marks) c.in-No.is (l.ensures.1 (p.number + 1))
 
 pub keep_line-uses-requires : goal.keep_line-uses-requires
 keep_line-uses-requires c =
@@ -95,10 +94,10 @@ keep_line-uses-requires c =
     let pre = c.requires in
     let i = p.invariant in
     let l = c.place_line in
-    let starts = l.new.1.1.1.1.0 in
-    let keys = l.new.1.1.1.1.1.0 in
-    let values = l.new.1.1.1.1.1.1.0 in
-    let marks = l.new.1.1.1.1.1.1.1.0 in
+    let starts = l.new.starts in
+    let keys = l.new.keys in
+    let values = l.new.values in
+    let marks = l.new.marks in
     let r = c.read_line-read.ensures in
     let u = i.few-uses test in (
       ap (λ (x : LineRead). x.statement) (sym r),
@@ -137,16 +136,16 @@ loop-from-preserved c =
     let s = a.s.now in
     let m = length a.marks.now in
     let l = c.place_line in
-    let starts = l.new.1.1.1.1.0 in
-    let keys = l.new.1.1.1.1.1.0 in
-    let values = l.new.1.1.1.1.1.1.0 in
-    let marks = l.new.1.1.1.1.1.1.1.0 in
+    let starts = l.new.starts in
+    let keys = l.new.keys in
+    let values = l.new.values in
+    let marks = l.new.marks in
     let k = c.keep_line-uses in
     turn-goes m s p.starts p.keys p.values p.marks p.cells p.row p.aways (length a.cells.now) (length a.row.now)
     (length a.aways.now) p.c p.from p.number p.uses p.invariant test e (place_in s starts keys values marks) c.in-Go.is
-    (l.ensures.1 (p.number + 1)) starts keys values marks k.new.1.1.1.1.1.0 k.new.1.1.1.1.1.1.0 k.new.1.1.1.1.1.1.1.0
-    c.read_line-read.ensures (λ x. refl) l.ensures.0 l.auto.1.1.1.1.0 l.auto.1.1.1.1.1.0 l.auto.1.1.1.1.1.1.0
-    l.auto.1.1.1.1.1.1.1.0 k.auto.1.1.1.1.1.0 k.auto.1.1.1.1.1.1.0 k.auto.1.1.1.1.1.1.1.0 c.requires.short
+    (l.ensures.1 (p.number + 1)) starts keys values marks k.new.cells k.new.row k.new.aways
+    c.read_line-read.ensures (λ x. refl) l.ensures.0 l.auto.starts l.auto.keys l.auto.values
+    l.auto.marks k.auto.cells k.auto.row k.auto.aways c.requires.short
     k.ensures.0 (k.ensures.1 s (line_part s p.from c.line_end-end.result)) k.ensures.3 c.next_line-from.ensures
 
 pub shape_of-starts : goal.shape_of-starts
@@ -190,10 +189,8 @@ returns c =
 pub slice_bounds-line-count : goal.slice_bounds-line-count
 slice_bounds-line-count c = omega arith
 
--- MANUAL: -- no goal slice-bounds-line-end
--- MANUAL: part-line-end : tie.Need-slice-bounds-line-end invariant-loop decreases-loop
--- MANUAL: part-line-end c =
--- MANUAL:     let looped = c.before.before in
--- MANUAL:     let s = looped.before.before.before.before.before.before.before.before.before.args.s.now in
--- MANUAL:     let h : c.line-end.result ≤ length s = end-within s looped.loop.from c.line-end.ensures c.before.loop-test.true in
--- MANUAL:     search rules
+pub slice_bounds-line-end : goal.slice_bounds-line-end
+slice_bounds-line-end c =
+    let s = c.args.s.now in
+    let h : c.line_end-end.result ≤ length s = end-within s c.loop-from.from c.line_end-end.ensures c.loop-from-test.true in
+    search rules
