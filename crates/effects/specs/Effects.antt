@@ -22,7 +22,6 @@ use Rattle.effects.specs.declared.Place.TheVariants.{Nowhere, Constant, InRegist
 use Rattle.effects.specs.declared.Flags.{Flags}
 use Rattle.effects.specs.declared.Flags.TheVariants.{Unchanged, Become}
 use Rattle.effects.specs.declared.Effect.{Effect}
-use Rattle.effects.specs.declared.Port.{Port}
 use Rattle.effects.specs.declared.Port.TheVariants.{TakeByte, TakeNumber, TakeString, PutByte, PutNumber, PutString}
 use Rattle.effects.specs.declared.Performed.{Performed}
 use Rattle.effects.specs.declared.Performed.TheVariants.{Does, Halts, Asks, Stops}
