@@ -69,8 +69,8 @@ loop-named-preserved c =
     c.if-is_named.found in
     let named = sym c.is_named.ensures in (
       elim c.if-is_named.branch [
-        then-is_named w ↦ walk.0 (named ∙ w.if-is_named.true) w.found-is
-      | else-is_named w ↦ walk.1 (named ∙ w.if-is_named.false) w.found-is
+        | then-is_named w ↦ walk.0 (named ∙ w.if-is_named.true) w.found-is
+        | else-is_named w ↦ walk.1 (named ∙ w.if-is_named.false) w.found-is
       ],
       omega (arith, h, c.onward-named-in-loop-named.ensures, c.loop-named.invariant.1),
     )
