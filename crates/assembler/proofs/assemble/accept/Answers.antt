@@ -1,5 +1,4 @@
 use Rattle.assembler.proofs.Outcomes.{accepted_as}
-use borrow.Author.Rules.{rules}
 use Rattle.assembler.proofs.assemble.accept.Goals as goal
 
 pub returns : goal.returns

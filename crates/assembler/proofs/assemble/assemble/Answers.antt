@@ -1,7 +1,6 @@
 -- What is lent is wrong, or the source is too long, or all is by the source (Promised).
 use mathlib.Core.Logic.{inl, inr}
 use Rattle.assembler.proofs.Promised.{bad-loan, too_long, replies}
-use borrow.Author.Rules.{rules}
 use Rattle.assembler.proofs.assemble.assemble.Goals as goal
 
 -- no memory

@@ -5,7 +5,6 @@ use mathlib.Core.Path.{refl, sym, ap, ◌∙◌}
 use lib.ListN.{length, length-replicate}
 use Rattle.assembler.specs.Inner.Parts.{outcome_of}
 use Rattle.assembler.proofs.Rows.{zeros-count, zeros-alone}
-use borrow.Author.Rules.{rules}
 use Rattle.assembler.proofs.assemble.assemble_lent.Goals as goal
 
 pub slice_bounds-assemble_over-end-4 : goal.slice_bounds-assemble_over-end-4

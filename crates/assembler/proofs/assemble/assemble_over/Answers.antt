@@ -6,7 +6,6 @@ use lib.ListN.{length, length-replicate}
 use Rattle.sources.specs.Inner.Assembling.{work_of, memory_of}
 use Rattle.walking.specs.Inner.Walking.{Holds}
 use Rattle.assembler.proofs.Walks.{not-walked, late_at_end, all-walked, walk-passed}
-use borrow.Author.Rules.{rules}
 use Rattle.assembler.proofs.assemble.assemble_over.Goals as goal
 
 -- a line is refused

@@ -3,7 +3,6 @@ use mathlib.Core.Path.{ap, ◌∙◌}
 use Rattle.columns.specs.declared.Pointed.{Pointed}
 use Rattle.sources.specs.Order.{◌on◌}
 use Rattle.assembler.specs.Inner.Parts.{refusal_at}
-use borrow.Author.Rules.{rules}
 use Rattle.assembler.proofs.assemble.refused_line.Goals as goal
 
 pub returns : goal.returns

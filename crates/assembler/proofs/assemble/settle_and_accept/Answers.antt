@@ -4,7 +4,6 @@ use Rattle.uses.specs.Inner.Held.{uses_held}
 use Rattle.sources.specs.Inner.Assembling.{uses_verdict, second_refused, filled}
 use Rattle.sources.specs.Inner.Pointing.{label_point}
 use Rattle.assembler.proofs.Outcomes.{not-settled, all_settled}
-use borrow.Author.Rules.{rules}
 use Rattle.assembler.proofs.assemble.settle_and_accept.Goals as goal
 
 pub settle-requires : goal.settle-requires

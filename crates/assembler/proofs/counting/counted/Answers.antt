@@ -10,7 +10,7 @@ loop-i-init c = (omega arith, omega arith, omega arith)
 pub loop-i-preserved : goal.loop-i-preserved
 loop-i-preserved c =
     elim c.if-marks-i.branch [
-      then-marks-i w ↦ omega (arith, count-one c.args.mark c.args.marks.now c.loop-i.i (omega arith) w.if-marks-i.true)
+      | then-marks-i w ↦ omega (arith, count-one c.args.mark c.args.marks.now c.loop-i.i (omega arith) w.if-marks-i.true)
       | else-marks-i w ↦ omega (arith, count-other c.args.mark c.args.marks.now c.loop-i.i (omega arith) w.if-marks-i.false)
     ]
 

@@ -1,15 +1,13 @@
 -- All labels before the i-th pass, their words are in their cells, and the last of them is on the line kept.
-use borrow.Author.Rules.{rules}
 use native.Mathlib.Omega.{arith}
 use mathlib.Core.List.{List}
 use mathlib.Core.Path.{◌≡◌, refl, sym, ap, ◌∙◌}
-use Prim.Native.Nat.{ℕ, ◌+◌, ◌*◌, ◌-◌, ◌≤◌}
-use lib.ListN.{length, get_or, set}
-use Rattle.sources.specs.Order.{◌on◌}
-use Rattle.sources.specs.Inner.Assembling.{passes, uses_verdict, filled}
+use Prim.Native.Nat.{ℕ, ◌+◌, ◌*◌}
+use lib.ListN.{get_or, set}
+use Rattle.sources.specs.Inner.Assembling.{uses_verdict, filled}
 use Rattle.labels.specs.Inner.Labels.{labels_in}
 use Rattle.uses.specs.Inner.Held.{uses_held}
-use Rattle.settling.proofs.Laws.{Second, nothing-held, nothing-before, nothing-filled, one_passes, one-before, all-refused, one-filled}
+use Rattle.settling.proofs.Laws.{nothing-held, nothing-before, nothing-filled, one_passes, one-before, all-refused, one-filled}
 use Rattle.settling.proofs.settle.settle.Goals as goal
 
 pub loop-i-init : goal.loop-i-init

@@ -1,5 +1,4 @@
 -- The two bounds, tested one after the other.
-use borrow.Author.Rules.{rules}
 use mathlib.Core.Path.{refl}
 use Rattle.settling.proofs.Laws.{too_low, too_high, in_reach}
 use Rattle.settling.proofs.words.distance.Goals as goal

@@ -1,5 +1,4 @@
 -- A name at its place among the labels, or at none.
-use borrow.Author.Rules.{rules}
 use mathlib.Core.Path.{refl}
 use Rattle.labels.specs.Inner.Labels.{window}
 use Rattle.settling.proofs.Laws.{value_is, value_no}

@@ -1,5 +1,4 @@
 -- A value that is found, counted as the operand asks.
-use borrow.Author.Rules.{rules}
 use mathlib.Core.Path.{subst}
 use Rattle.sources.specs.Uses.{value_of}
 use Rattle.labels.specs.Inner.Labels.{window, labels_in}

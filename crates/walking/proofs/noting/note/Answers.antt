@@ -1,5 +1,4 @@
 -- A label that is named is kept behind those that are, by its place in the source.
-use borrow.Author.Rules.{rules}
 use Prim.Native.Nat.{◌+◌}
 use native.Mathlib.Omega.{arith}
 use Rattle.uses.specs.Inner.Held.{uses_held}

@@ -1,5 +1,4 @@
 -- The first operand, then the second, whose cell is behind the first one's word.
-use borrow.Author.Rules.{rules}
 use native.Mathlib.Omega.{arith}
 use Prim.Native.Nat.{ℕ}
 use mathlib.Core.Path.{subst}

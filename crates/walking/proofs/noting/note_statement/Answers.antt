@@ -1,6 +1,5 @@
 -- An instruction that a line says: its labels lie within the line, and each operand that names one has a word.
 use Rattle.statements.specs.declared.Statement.{Statement}
-use borrow.Author.Rules.{rules}
 use native.Mathlib.Omega.{arith}
 use Prim.Native.Nat.{◌+◌, ◌≤◌, ◌<◌}
 use mathlib.Core.List.{◌++◌}

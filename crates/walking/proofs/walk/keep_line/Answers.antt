@@ -1,5 +1,4 @@
 -- By what the statement comes to.
-use borrow.Author.Rules.{rules}
 use native.Mathlib.Omega.{arith}
 use mathlib.Core.List.{append-nil}
 use mathlib.Core.Path.{refl, sym, ◌∙◌}
@@ -22,15 +21,14 @@ write_statement-requires c =
     (c.requires.0 ∙ c.in-Passes.is, c.requires.3)
 
 pub note_statement-requires : goal.note_statement-requires
-note_statement-requires c =
-    (
-      c.requires.0 ∙ c.in-Passes.is,
-      c.requires.1,
-      c.requires.2,
-      c.requires.3,
-      room-said c.args.at c.in-Passes.says c.in-Passes.is c.requires.4,
-      c.requires.5,
-    )
+note_statement-requires c = (
+  c.requires.0 ∙ c.in-Passes.is,
+  c.requires.1,
+  c.requires.2,
+  c.requires.3,
+  room-said c.args.at c.in-Passes.says c.in-Passes.is c.requires.4,
+  c.requires.5,
+)
 
 pub returns-in-Passes : goal.returns-in-Passes
 returns-in-Passes c =

@@ -2,7 +2,6 @@
 use Rattle.statements.specs.declared.Statement.{Statement}
 use mathlib.Core.Bool.{cond}
 use mathlib.Core.Path.{sym, ap, ◌∙◌}
-use borrow.Author.Rules.{rules}
 use Rattle.statements.specs.declared.StatementRead.{StatementRead}
 use Rattle.sources.specs.Inner.Assembling.{is_end, ends_it}
 use Rattle.walking.proofs.walk.next_line.Goals as goal

@@ -1,5 +1,4 @@
 -- A refusal of a line, then that of the source's end; else every label is bound.
-use borrow.Author.Rules.{rules}
 use mathlib.Core.Path.{◌∙◌}
 use lib.ListN.{length}
 use Rattle.sources.specs.Inner.Assembling.{work_of, lines_verdict, last_line}
@@ -39,8 +38,7 @@ bind_here-d-requires c =
     let m = length c.args.marks.now in
     let v = lines_verdict m s in
     let w = work_of m s in
-    let n = last_line s in
-    (
+    let n = last_line s in (
       still-fair s starts keys values marks cells row aways v w n c.in-Passes.is l.ensures,
       l.auto.values ∙ c.requires.rows.values_long,
       binds_at_end s starts keys values marks cells row aways v w n c.in-Passes.is l.ensures c.is_late.ensures
@@ -79,8 +77,7 @@ returns-else-is_late c =
     let m = length c.args.marks.now in
     let v = lines_verdict m s in
     let w = work_of m s in
-    let n = last_line s in
-    (
+    let n = last_line s in (
       passes-end s starts keys values marks cells row aways v w n c.in-Passes.is l.ensures c.is_late.ensures
           c.if-is_late.false,
       all_held s starts keys values marks cells row aways v w n c.in-Passes.is l.ensures q.new.values q.result q.ensures.2

@@ -1,12 +1,12 @@
 -- The loop over the lines: `Left` holds at each turn, and each turn is a law of Walks.antt.
 use borrow.Author.Rules.{rules}
 use native.Mathlib.Omega.{arith}
-use Prim.Native.Nat.{◌+◌, ◌-◌, ◌≤◌}
+use Prim.Native.Nat.{◌+◌, ◌≤◌}
 use mathlib.Core.Path.{refl, sym, ap, ◌∙◌}
 use lib.ListN.{length}
 use Rattle.statements.specs.declared.LineRead.{LineRead}
 use Rattle.placing.specs.Inner.State.{place_in}
-use Rattle.walking.proofs.Walks.{Left, left_at_start, end-within, line_part, further, line-fits, turns_over, turn-stops, turn-room, turn-goes}
+use Rattle.walking.proofs.Walks.{left_at_start, end-within, line_part, further, line-fits, turns_over, turn-stops, turn-room, turn-goes}
 use Rattle.walking.proofs.walk.walk_lines.Goals as goal
 
 pub loop-from-init : goal.loop-from-init

@@ -1,5 +1,4 @@
 -- An instruction that a line says is allowed as it stands.
-use borrow.Author.Rules.{rules}
 use mathlib.Core.Path.{ap, ◌∙◌}
 use Rattle.statements.specs.declared.StatementRead.TheVariants.{Passes}
 use Rattle.walking.proofs.Said.{allowed-said}

@@ -1,5 +1,4 @@
 -- Word after word, as the encoder hands them back.
-use borrow.Author.Rules.{rules}
 use Rattle.walking.proofs.Words.{as_encoded, one_written, two-written, three-written}
 use Rattle.walking.proofs.writing.write_words.Goals as goal
 
