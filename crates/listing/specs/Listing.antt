@@ -1,5 +1,5 @@
 -- The lines of a memory and its map, and what `list` replies and leaves in the room, without a walk (02, K1 and K2).
-use Rattle.std.specs.Prelude.{ℕ, ◌+◌, ◌-◌, ◌≤◌, ◌<◌, Bool, true, false, cond, List, [], ◌∷◌, ◌++◌, map, ◌⊎◌, ◌≡◌, eqb, leb, length, drop}
+use Rattle.std.specs.Prelude.{ℕ, ◌+◌, ◌-◌, ◌≤◌, ◌<◌, true, false, cond, List, [], ◌∷◌, ◌++◌, map, ◌⊎◌, ◌≡◌, eqb, leb, length, drop}
 use Rattle.codes.specs.Limits.{longest_source}
 use Rattle.codes.specs.Marks.{code_mark, reserved_mark}
 use Rattle.isa.specs.declared.Instruction.{Instruction}

@@ -1,5 +1,5 @@
 -- The runs, the lines and the reply as functions.
-use Rattle.std.specs.Prelude.{ℕ, zero, suc, ◌+◌, ◌-◌, Bool, cond, ◌&&◌, ◌||◌, not, List, [], ◌∷◌, ◌++◌, map, eqb, ltb, length}
+use Rattle.std.specs.Prelude.{ℕ, zero, suc, ◌+◌, ◌-◌, cond, ◌&&◌, ◌||◌, not, List, [], ◌∷◌, ◌++◌, map, eqb, ltb, length}
 use Rattle.codes.specs.Limits.{longest_source}
 use Rattle.codes.specs.Marks.{free, code_mark, reserved_mark}
 use Rattle.isa.specs.Decoding.{decode_of}

@@ -4,7 +4,6 @@ use mathlib.Core.Path.{sym, ap}
 use lib.ListN.{length}
 use Rattle.numerals.proofs.Filling.{length-decimal}
 use Rattle.image.proofs.Texts.{piece-free, piece-length, reserved-length, kind_and_value_length}
-use borrow.Author.Rules.{rules}
 use Rattle.image.proofs.lengths.cell_length.Goals as goal
 
 pub returns-then-mark-eq-FREE : goal.returns-then-mark-eq-FREE

@@ -1,11 +1,8 @@
 -- What is measured and what is left to measure are the whole (`left-length`).
-use borrow.Author.Rules.{rules}
 use native.Mathlib.Omega.{arith}
-use mathlib.Core.Path.{◌≡◌, ap}
-use Prim.Native.Nat.{◌+◌, ◌-◌}
+use mathlib.Core.Path.{ap}
 use lib.ListN.{length}
-use Rattle.image.specs.Inner.Pieces.{cells_text}
-use Rattle.image.proofs.Texts.{left, left-length, left-none, cells-bound}
+use Rattle.image.proofs.Texts.{left-length, left-none, cells-bound}
 use Rattle.image.proofs.lengths.cells_length.Goals as goal
 
 pub overflow_add-n : goal.overflow_add-n

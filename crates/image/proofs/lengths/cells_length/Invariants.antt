@@ -1,11 +1,9 @@
 -- What is measured and what is left to measure are the whole (`left-length`).
-use borrow.Author.Rules.{rules}
-use native.Mathlib.Omega.{arith}
-use mathlib.Core.Path.{◌≡◌, ap}
+use mathlib.Core.Path.{◌≡◌}
 use Prim.Native.Nat.{◌+◌, ◌-◌}
 use lib.ListN.{length}
 use Rattle.image.specs.Inner.Pieces.{cells_text}
-use Rattle.image.proofs.Texts.{left, left-length, left-none, cells-bound}
+use Rattle.image.proofs.Texts.{left}
 use Rattle.image.proofs.lengths.cells_length.Given as goal
 
 abbrev pub invariant-loop-i : goal.invariant-loop-i

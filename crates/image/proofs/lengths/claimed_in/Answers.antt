@@ -1,10 +1,5 @@
 -- What is counted and what is left to count are the whole count.
-use borrow.Author.Rules.{rules}
 use native.Mathlib.Omega.{arith}
-use mathlib.Core.Path.{◌≡◌}
-use Prim.Native.Nat.{◌+◌, ◌-◌}
-use lib.ListN.{length, drop}
-use Rattle.image.specs.Image.{claimed}
 use Rattle.image.proofs.Texts.{claimed-free, claimed-more, claimed-none, claimed-within}
 use Rattle.image.proofs.lengths.claimed_in.Goals as goal
 use Rattle.image.proofs.lengths.claimed_in.Goals.{then-map-i-ne-FREE, else-map-i-ne-FREE}

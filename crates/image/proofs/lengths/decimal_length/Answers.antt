@@ -1,7 +1,6 @@
 -- The places of a decimal, from its start on, are its text (`places-start`).
 use native.Mathlib.Omega.{arith}
 use Rattle.texts.proofs.Rooms.{places-start}
-use borrow.Author.Rules.{rules}
 use Rattle.image.proofs.lengths.decimal_length.Goals as goal
 
 pub overflow_sub-result : goal.overflow_sub-result

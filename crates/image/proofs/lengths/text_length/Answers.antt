@@ -4,7 +4,6 @@ use Rattle.image.specs.Image.{claimed}
 use lib.ListN.{length}
 use Rattle.numerals.proofs.Filling.{length-decimal}
 use Rattle.image.proofs.Texts.{claimed-within, cells-bound, image-length}
-use borrow.Author.Rules.{rules}
 use Rattle.image.proofs.lengths.text_length.Goals as goal
 
 pub overflow_cast-claimed_in : goal.overflow_cast-claimed_in

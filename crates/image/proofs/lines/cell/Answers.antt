@@ -3,7 +3,6 @@ use native.Mathlib.Omega.{arith}
 use lib.ListN.{length-append}
 use Rattle.image.proofs.Texts.{piece-free, piece-claimed, piece-length}
 use Rattle.texts.proofs.Rooms.{wrote_none, wrote_on, wrote_byte, wrote_length}
-use borrow.Author.Rules.{rules}
 use Rattle.image.proofs.lines.cell.Goals as goal
 
 pub returns-then-mark-eq-FREE : goal.returns-then-mark-eq-FREE

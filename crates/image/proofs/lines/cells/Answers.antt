@@ -1,11 +1,8 @@
 -- Writing what is left behind what is written is writing all of it (`writing_more`).
-use borrow.Author.Rules.{rules}
 use native.Mathlib.Omega.{arith}
 use mathlib.Core.Path.{refl}
-use Prim.Native.Nat.{◌-◌}
-use lib.ListN.{length}
-use Rattle.image.proofs.Texts.{left, left-length}
-use Rattle.image.proofs.Rooms.{Writing, writing_more, writing-end}
+use Rattle.image.proofs.Texts.{left-length}
+use Rattle.image.proofs.Rooms.{writing_more, writing-end}
 use Rattle.image.proofs.lines.cells.Goals as goal
 
 pub loop-i-init : goal.loop-i-init

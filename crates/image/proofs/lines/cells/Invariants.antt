@@ -1,11 +1,7 @@
 -- Writing what is left behind what is written is writing all of it (`writing_more`).
-use borrow.Author.Rules.{rules}
-use native.Mathlib.Omega.{arith}
-use mathlib.Core.Path.{refl}
 use Prim.Native.Nat.{◌-◌}
 use lib.ListN.{length}
-use Rattle.image.proofs.Texts.{left, left-length}
-use Rattle.image.proofs.Rooms.{Writing, writing_more, writing-end}
+use Rattle.image.proofs.Rooms.{Writing}
 use Rattle.image.proofs.lines.cells.Given as goal
 
 abbrev pub invariant-loop-i : goal.invariant-loop-i

@@ -3,7 +3,6 @@ use native.Mathlib.Omega.{arith}
 use lib.ListN.{length-append}
 use Rattle.image.proofs.Texts.{head-length, head-text}
 use Rattle.texts.proofs.Rooms.{wrote_on, wrote_byte, wrote_length}
-use borrow.Author.Rules.{rules}
 use Rattle.image.proofs.lines.head.Goals as goal
 
 pub field-line-requires : goal.field-line-requires

@@ -3,7 +3,6 @@ use mathlib.Core.Path.{sym}
 use Rattle.texts.proofs.Rooms.{wrote_as}
 use native.Mathlib.Omega.{arith}
 use Rattle.image.proofs.Texts.{kind-reserved, kind-code, kind_data, reserved-length, kind_and_value_length}
-use borrow.Author.Rules.{rules}
 use Rattle.image.proofs.lines.kind_and_value.Goals as goal
 
 pub piece-requires : goal.piece-requires

@@ -4,7 +4,6 @@ use Rattle.image.specs.Image.{claimed}
 use lib.ListN.{length}
 use Rattle.image.proofs.Texts.{claimed-within, head-length, image-length}
 use Rattle.image.proofs.Rooms.{wrote_image}
-use borrow.Author.Rules.{rules}
 use Rattle.image.proofs.lines.write.Goals as goal
 
 pub overflow_cast-number : goal.overflow_cast-number

@@ -2,7 +2,6 @@
 use native.Mathlib.Omega.{arith}
 use mathlib.Core.Path.{◌∙◌}
 use Rattle.image.proofs.Outcomes.{loan-none, loan_large, loan_uneven, loan-marks}
-use borrow.Author.Rules.{rules}
 use Rattle.image.proofs.printing.good_loan.Goals as goal
 
 pub returns-then-memory-lt1 : goal.returns-then-memory-lt1

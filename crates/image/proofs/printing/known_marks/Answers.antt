@@ -1,10 +1,6 @@
 -- What is left is known exactly when all is, as long as no mark above the largest was met.
-use borrow.Author.Rules.{rules}
 use native.Mathlib.Omega.{arith}
-use mathlib.Core.Path.{◌≡◌, sym, ◌∙◌}
-use Prim.Native.Nat.{◌-◌}
-use lib.ListN.{length, drop}
-use Rattle.image.specs.Printing.{known_marks}
+use mathlib.Core.Path.{sym, ◌∙◌}
 use Rattle.image.proofs.Texts.{known_more, known-stop, known-none}
 use Rattle.image.proofs.printing.known_marks.Goals as goal
 

@@ -1,11 +1,8 @@
 -- What is left is known exactly when all is, as long as no mark above the largest was met.
-use borrow.Author.Rules.{rules}
-use native.Mathlib.Omega.{arith}
-use mathlib.Core.Path.{◌≡◌, sym, ◌∙◌}
+use mathlib.Core.Path.{◌≡◌}
 use Prim.Native.Nat.{◌-◌}
 use lib.ListN.{length, drop}
 use Rattle.image.specs.Printing.{known_marks}
-use Rattle.image.proofs.Texts.{known_more, known-stop, known-none}
 use Rattle.image.proofs.printing.known_marks.Given as goal
 
 abbrev pub invariant-loop-i : goal.invariant-loop-i

@@ -1,9 +1,7 @@
 -- One law for each way out; a good loan gives what measuring and writing ask (`loan-good`).
 use native.Mathlib.Omega.{arith}
 use mathlib.Core.Path.{sym, ◌∙◌}
-use borrow.Author.Tests.{not-true, not-false}
 use Rattle.image.proofs.Outcomes.{loan-good, printed-bad, printed-short, printed-done}
-use borrow.Author.Rules.{rules}
 use Rattle.image.proofs.printing.print.Goals as goal
 
 pub returns-then-not-good_loan : goal.returns-then-not-good_loan

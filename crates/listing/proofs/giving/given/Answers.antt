@@ -2,7 +2,6 @@
 use native.Mathlib.Omega.{arith}
 use Rattle.listing.specs.Inner.Walk.{lines_of}
 use Rattle.listing.proofs.Outcomes.{measured-long, given-short, given_above, given-done}
-use borrow.Author.Rules.{rules}
 use Rattle.listing.proofs.giving.given.Goals as goal
 
 pub returns-then-room-length : goal.returns-then-room-length

@@ -1,8 +1,6 @@
 -- One law for each way out; `exactly` leads from the listing as a function to its meaning.
 use mathlib.Core.Path.{sym, ◌∙◌}
-use borrow.Author.Tests.{not-true, not-false}
 use Rattle.listing.proofs.Outcomes.{lists-bad, lists-good, lists-undecoded}
-use borrow.Author.Rules.{rules}
 use Rattle.listing.proofs.giving.list.Goals as goal
 
 pub returns-then-not-good_loan : goal.returns-then-not-good_loan

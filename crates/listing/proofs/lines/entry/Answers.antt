@@ -7,7 +7,6 @@ use Rattle.texts.proofs.Rooms.{wrote_as}
 use Rattle.listing.specs.Lines.{line_of}
 use Rattle.listing.specs.Inner.Begins.{Addressed}
 use Rattle.listing.proofs.Texts.{origin-text, holds_text, reserves_text, finish-text}
-use borrow.Author.Rules.{rules}
 use Rattle.listing.proofs.lines.entry.Goals as goal
 
 pub overflow_cast-n : goal.overflow_cast-n

@@ -6,7 +6,6 @@ use lib.ListN.{length}
 use Rattle.texts.proofs.Rooms.{wrote_on, wrote_as}
 use Rattle.listing.proofs.Letters.{opcode-letters}
 use Rattle.listing.proofs.Texts.{instruction-text, instruction-length}
-use borrow.Author.Rules.{rules}
 use Rattle.listing.proofs.lines.instruction.Goals as goal
 
 pub letters-behind-requires : goal.letters-behind-requires

@@ -3,7 +3,6 @@
 use native.Mathlib.Omega.{arith}
 use Rattle.texts.proofs.Rooms.{wrote_byte}
 use Rattle.listing.proofs.Texts.{ended-length}
-use borrow.Author.Rules.{rules}
 use Rattle.listing.proofs.lines.line.Goals as goal
 
 pub entry-end-requires : goal.entry-end-requires

@@ -5,7 +5,6 @@ use mathlib.Core.Path.{ap}
 use lib.ListN.{length}
 use Rattle.texts.proofs.Rooms.{wrote_on, wrote_as}
 use Rattle.listing.proofs.Texts.{line_on, line-apart, line_apart_length}
-use borrow.Author.Rules.{rules}
 use Rattle.listing.proofs.lines.line_from.Goals as goal
 
 pub line-requires : goal.line-requires

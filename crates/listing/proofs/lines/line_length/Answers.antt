@@ -2,7 +2,6 @@
 -- Assumes nothing.
 use native.Mathlib.Omega.{arith}
 use Rattle.listing.proofs.Texts.{lines-short}
-use borrow.Author.Rules.{rules}
 use Rattle.listing.proofs.lines.line_length.Goals as goal
 
 pub line_from-requires : goal.line_from-requires

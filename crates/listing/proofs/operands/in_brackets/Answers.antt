@@ -7,7 +7,6 @@ use lib.ListN.{length}
 use Rattle.texts.proofs.Rooms.{wrote_on, wrote_as}
 use Rattle.listing.proofs.Letters.{register-letters}
 use Rattle.listing.proofs.Texts.{brackets_text, brackets_length}
-use borrow.Author.Rules.{rules}
 use Rattle.listing.proofs.operands.in_brackets.Goals as goal
 
 pub piece-name-requires : goal.piece-name-requires

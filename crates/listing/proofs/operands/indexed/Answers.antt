@@ -3,7 +3,6 @@
 use native.Mathlib.Omega.{arith}
 use Rattle.texts.proofs.Rooms.{wrote_on, wrote_as}
 use Rattle.listing.proofs.Texts.{indexed-text, indexed-length}
-use borrow.Author.Rules.{rules}
 use Rattle.listing.proofs.operands.indexed.Goals as goal
 
 pub signed_field-bracket-requires : goal.signed_field-bracket-requires

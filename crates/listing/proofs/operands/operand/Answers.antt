@@ -6,7 +6,6 @@ use lib.ListN.{length}
 use Rattle.texts.proofs.Rooms.{wrote_none, wrote_as}
 use Rattle.listing.specs.Pieces.{text_of}
 use Rattle.listing.proofs.Texts.{operand_text, immediate-text, memory-text, relative-text}
-use borrow.Author.Rules.{rules}
 use Rattle.listing.proofs.operands.operand.Goals as goal
 
 pub field-requires : goal.field-requires

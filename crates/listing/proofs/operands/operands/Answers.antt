@@ -2,12 +2,10 @@
 -- Assumes nothing.
 use native.Mathlib.Omega.{arith}
 use mathlib.Core.Path.{sym, ◌∙◌}
-use borrow.Author.Tests.{not-true, not-false}
 use Rattle.texts.proofs.Rooms.{wrote_none, wrote_on, wrote_as}
 use Rattle.listing.proofs.Texts.{field_none, field_one, field_two, field_first, field_second}
 use Prim.Native.Nat.{◌≤◌}
 use lib.ListN.{length}
-use borrow.Author.Rules.{rules}
 use Rattle.listing.proofs.operands.operands.Goals as goal
 
 pub returns-then-not-is_present : goal.returns-then-not-is_present

@@ -6,7 +6,6 @@ use lib.ListN.{length}
 use Rattle.texts.proofs.Rooms.{wrote_on, wrote_as}
 use Rattle.listing.proofs.Letters.{register-letters}
 use Rattle.listing.proofs.Texts.{register-text}
-use borrow.Author.Rules.{rules}
 use Rattle.listing.proofs.operands.register.Goals as goal
 
 pub piece-name-requires : goal.piece-name-requires

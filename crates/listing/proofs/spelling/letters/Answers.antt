@@ -1,9 +1,8 @@
 -- Each letter leaves those of the number that is left (`spelling_more`).
 -- Assumes nothing.
-use borrow.Author.Rules.{rules}
 use native.Mathlib.Omega.{arith}
 use mathlib.Core.Path.{refl}
-use Rattle.listing.proofs.Letters.{Spelling, spelling_length, spelling_more, spelling_end}
+use Rattle.listing.proofs.Letters.{spelling_length, spelling_more, spelling_end}
 use Rattle.listing.proofs.spelling.letters.Goals as goal
 
 pub loop-left-init : goal.loop-left-init

@@ -1,9 +1,6 @@
 -- Each letter leaves those of the number that is left (`spelling_more`).
 -- Assumes nothing.
-use borrow.Author.Rules.{rules}
-use native.Mathlib.Omega.{arith}
-use mathlib.Core.Path.{refl}
-use Rattle.listing.proofs.Letters.{Spelling, spelling_length, spelling_more, spelling_end}
+use Rattle.listing.proofs.Letters.{Spelling}
 use Rattle.listing.proofs.spelling.letters.Given as goal
 
 abbrev pub invariant-loop-left : goal.invariant-loop-left

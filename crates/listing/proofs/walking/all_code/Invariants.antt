@@ -1,11 +1,8 @@
 -- What is left is all code exactly when all is, as long as no other mark was met.
-use native.Mathlib.Omega.{arith}
-use mathlib.Core.Path.{◌≡◌, refl, sym, ◌∙◌}
+use mathlib.Core.Path.{◌≡◌}
 use Prim.Native.Nat.{◌-◌}
 use lib.Seq.{slice}
-use borrow.Author.Rules.{rules}
 use Rattle.listing.specs.Inner.Begins.{every_code}
-use Rattle.listing.proofs.Walks.{every-none, every_more, every-stop}
 use Rattle.listing.proofs.walking.all_code.Given as goal
 
 abbrev pub invariant-loop-i : goal.invariant-loop-i

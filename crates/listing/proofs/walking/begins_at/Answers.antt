@@ -1,6 +1,5 @@
 -- The mark decides: one law for each way out.
 use Rattle.listing.proofs.Walks.{begins-free, begins-code, begins-reserved, begins_data}
-use borrow.Author.Rules.{rules}
 use Rattle.listing.proofs.walking.begins_at.Goals as goal
 
 pub returns-then-mark-eq-FREE : goal.returns-then-mark-eq-FREE

@@ -2,7 +2,6 @@
 use native.Mathlib.Omega.{arith}
 use mathlib.Core.Path.{sym, ◌∙◌}
 use Rattle.isa.proofs.RoundTrip.{encode_decode}
-use borrow.Author.Rules.{rules}
 use Rattle.listing.proofs.walking.code_at.Goals as goal
 
 pub all_code-requires : goal.all_code-requires

@@ -1,10 +1,7 @@
 -- What is measured, and the measure of what is left, is the measure of all (`Measuring`).
 use native.Mathlib.Omega.{arith}
-use Prim.Native.Nat.{◌-◌}
-use lib.ListN as list
-use borrow.Author.Rules.{rules}
 use Rattle.image.proofs.Outcomes.{loan-good}
-use Rattle.listing.proofs.Loops.{Measuring, measuring_start, measuring_skip, measuring_line, measuring_fails, measuring_end, onward, line-good, most}
+use Rattle.listing.proofs.Loops.{measuring_start, measuring_skip, measuring_line, measuring_fails, measuring_end, onward, line-good, most}
 use Rattle.listing.proofs.walking.measured.Goals as goal
 
 pub loop-at-init : goal.loop-at-init

@@ -1,5 +1,4 @@
 -- The run's length decides: one RES, or as far as one goes.
-use borrow.Author.Rules.{rules}
 use borrow.Author.Tests.{le-leb, lt-leb}
 use Rattle.listing.proofs.walking.reserved_at.Goals as goal
 

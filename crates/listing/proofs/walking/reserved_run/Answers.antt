@@ -1,10 +1,5 @@
 -- What is counted, and the run that is left, is the whole run, as long as no other mark was met.
 use native.Mathlib.Omega.{arith}
-use mathlib.Core.Path.{◌≡◌}
-use Prim.Native.Nat.{◌+◌, ◌-◌, ◌≤◌}
-use lib.ListN.{length, drop}
-use borrow.Author.Rules.{rules}
-use Rattle.listing.specs.Inner.Begins.{reserved_run}
 use Rattle.listing.proofs.Walks.{reserved-more, reserved-stop, reserved-end}
 use Rattle.listing.proofs.walking.reserved_run.Goals as goal
 

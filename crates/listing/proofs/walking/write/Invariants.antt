@@ -1,10 +1,7 @@
 -- Writing what is left behind what is written is writing all of it (`Writing`); no instruction fails, for all lines were found.
-use native.Mathlib.Omega.{arith}
 use Prim.Native.Nat.{◌-◌}
 use lib.ListN.{length}
-use borrow.Author.Rules.{rules}
-use Rattle.image.proofs.Outcomes.{loan-good}
-use Rattle.listing.proofs.Loops.{Writing, writing_start, writing-skip, writing-fits, writing-line, writing-fails, end_fits, writing-end, onward, line-good, most}
+use Rattle.listing.proofs.Loops.{Writing}
 use Rattle.listing.proofs.walking.write.Given as goal
 
 abbrev pub invariant-loop-at : goal.invariant-loop-at
