@@ -3,7 +3,7 @@
  * what the rule writes, the stop, and how many steps it took.
  *
  *     rt staticlib host
- *     cc -std=c99 -Iinclude examples/host.c target/staticlib/libhost.a -o target/host
+ *     cc -std=c99 -Iinclude examples/host.c crates/host/out/libhost.a -o target/host
  *     target/host examples/pump.image < levels
  *
  * `examples/host` does all of it. Exit status: 0; 1 where a call does not do what ens2025.h says; 2 without an image, where the input

@@ -7,8 +7,8 @@
  *
  * To link, on x86-64 Linux:
  *
- *     rt staticlib host                                   writes target/staticlib/libhost.a
- *     cc -Iinclude your.c target/staticlib/libhost.a      it needs only memcpy of the C library
+ *     (cd crates/host && rt lib)                          writes crates/host/out/libhost.a
+ *     cc -Iinclude your.c crates/host/out/libhost.a       it needs only memcpy of the C library
  *
  * The archive is x86-64 on every machine that writes it: a compiler for Arm cannot link it, one for x86-64 can.
  *

@@ -1,10 +1,9 @@
 # What the commands at the root share: a program of crates/, proved, built and run. A command sets `here`, the clone's folder, and reads
 # this file; `name` is the command's and the program's.
 #
-# The program is proved and built on the first call, and again once a file of crates/ is newer or the kit is another. On Arm it runs under
-# rt's emulator.
+# The program is proved and built on the first call, and again once a file of crates/ is newer or the kit is another.
 name=$(basename "$0")
-program=$here/target/bin/$name
+program=$here/crates/$name/out/$name
 kit=$(rt version)
 
 # What the program printed, and what it told on standard error. A program of the kit always exits 0: these two, and whether they are
@@ -21,10 +20,10 @@ told=$new/told
 
 stale() {
     [ ! -x "$program" ] || [ "$(cat "$program.kit" 2> /dev/null)" != "$kit" ] ||
-        [ -n "$(find "$here/crates" "$here/crates.txt" -newer "$program" -type f | head -n 1)" ]
+        [ -n "$(find "$here/crates" "$here/crates.txt" -name out -prune -o -newer "$program" -type f -print | head -n 1)" ]
 }
 
-# One call builds at a time: rt has one target/. The lock is a link, made in one go with the process that it names; where that is gone, or
+# One call builds at a time. The lock is a link, made in one go with the process that it names; where that is gone, or
 # its number is another's by now, the lock is nobody's.
 lives() { tr '\0' '\n' 2> /dev/null < "/proc/$1/cmdline" | grep -qxE '(.*/)?(assemble|run)'; }
 lock_target() {
@@ -45,7 +44,7 @@ lock_target() {
 # The program is as old as the build's start: an edit made meanwhile is newer.
 built() {
     : > "$here/target/$name.began"
-    (cd "$here" && rt check "$name") > "$here/target/$name.log" 2>&1 &&
+    "$here/lib/built" "$name" 2> /dev/null &&
         touch -r "$here/target/$name.began" "$program" && echo "$kit" > "$program.kit"
 }
 
@@ -61,12 +60,8 @@ fi
 
 # Nothing of the environment may add to what the program says.
 unset LD_PRELOAD LD_AUDIT LD_DEBUG
-for word in $(env | sed -n 's/^\(QEMU_[A-Za-z0-9_]*\)=.*/\1/p'); do unset "$word"; done
 
-tools=$(dirname "$(dirname "$(rt doc)")")/on/$(uname -m)/toolchain
-emulator=$tools/bin/qemu-x86_64
-[ "$(uname -m)" != x86_64 ] || emulator=
-ran() { $emulator "$tools/lib/ld-linux-x86-64.so.2" --library-path "$tools/lib" "$program" "$@"; }
+ran() { "$program" "$@"; }
 
 # Whether a refusal was printed, whole.
 is_refused() {

@@ -49,7 +49,7 @@ use Rattle.statements.specs.Checks.{least_unsigned, least_signed, result_in}
 use Rattle.statements.specs.Judging.{result_of, instruction_result}
 use Rattle.statements.specs.Reading.{is_word, after_label, by_word, statement_read, line_read, expression_result, items_result}
 use Rattle.statements.specs.declared.Failure.{Failure}
-use Rattle.statements.specs.declared.Failure.TheVariants.{WrongForm, WrongCount, WrongKind, TooDeep, OutOfRange, ByZero, ResultOut}
+use Rattle.statements.specs.declared.Failure.TheVariants.{WrongForm, WrongKind, TooDeep, OutOfRange, ByZero, ResultOut}
 use Rattle.statements.specs.declared.Statement.{Statement as Said}
 use Rattle.statements.specs.declared.Statement.TheVariants.{Org, Equ, Res}
 use Rattle.statements.specs.declared.StatementRead.{StatementRead}

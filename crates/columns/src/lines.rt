@@ -1,4 +1,4 @@
-// The line of a number, found in its source once more (specs/Columns.antt, `lineNumbered`), and where its refusal points.
+// The line of a number, found in its source once more (specs/Columns.antt, `line_numbered`), and where its refusal points.
 ghost use Rattle.std.specs.Prelude.{◌≡◌};
 ghost use Rattle.columns.specs.Columns.{next_start, line_start, line_numbered, pointed, name_column};
 

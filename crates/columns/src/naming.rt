@@ -1,4 +1,4 @@
-// The label that an operand names, or the operand, in a line that passes (specs/Columns.antt, `nameColumn`).
+// The label that an operand names, or the operand, in a line that passes (specs/Columns.antt, `name_column`).
 ghost use Rattle.std.specs.Prelude.{◌≡◌};
 ghost use Rattle.columns.specs.Columns.{name_by, name_column_at, name_column_in, name_column};
 

@@ -79,7 +79,7 @@ module _ (r m : List ℕ) (next : ℕ) where
   unfolding perform_of addresses_there table place_of there_in by_opcode pops pop_cell popped_sp
   pop a t h = rw (t, lt-ltb ((get_or r SP 0 + 1) % 65536) (length m) h)
 
-  -- "`POP.SP` ends with the popped number"
+  -- "`POP .SP` ends with the popped number"
   pub pop_SP : length r ≡ 16 → (get_or r SP 0 + 1) % 65536 < length m →
       get_or (registers_by r (perform_of r m next (one O.POP (Register SP)))) SP 0 ≡ get_or m ((get_or r SP 0 + 1) % 65536) 0
   unfolding perform_of addresses_there table place_of there_in by_opcode pops pop_cell popped_sp writes
@@ -88,7 +88,7 @@ module _ (r m : List ℕ) (next : ℕ) where
       let e : Effect = record { next = next; sp = sp; to = InRegister SP; value = get_or m sp 0; flags = Unchanged } in
       rw (lt-ltb sp (length m) h) (register-written r e SP l refl (omega arith) (λ q. omega arith) (λ q. omega arith))
 
-  -- "PUSH stores at SP, then SP falls": `PUSH.SP` stores the SP of before
+  -- "PUSH stores at SP, then SP falls": `PUSH .SP` stores the SP of before
   pub push_SP : get_or r SP 0 < length m →
       perform_of r m next (one O.PUSH (Register SP)) ≡
       effect next ((get_or r SP 0 + 65535) % 65536) (InCell (get_or r SP 0)) (get_or r SP 0) Unchanged
@@ -136,7 +136,7 @@ module _ (r m : List ℕ) (next : ℕ) where
   unfolding perform_of addresses_there table place_of there_in value_at by_opcode writes
   move_to_PC v = refl
 
-  -- "set Z, S, P .. after storing it; H stays": `INC.SR` ends with the flags of the whole result, and H
+  -- "set Z, S, P .. after storing it; H stays": `INC .SR` ends with the flags of the whole result, and H
   pub inc_SR : length r ≡ 16 →
       get_or (registers_by r (perform_of r m next (one O.INC (Register SR)))) SR 0 ≡ (Op.INC (get_or r SR 0)).flags + get_or r SR 0 / 32 * 32
   unfolding perform_of addresses_there table place_of there_in value_at see by_opcode writes

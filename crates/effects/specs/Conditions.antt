@@ -1,6 +1,6 @@
 -- When a branch is taken, one line for each (manual 5.6; 01: "Branch conditions are the manual's, BP being S=0 and BNN S=0
 -- or Z=1").
-use Rattle.std.specs.Prelude.{ℕ, Bool, true, not, ◌||◌}
+use Rattle.std.specs.Prelude.{ℕ, Bool, not, ◌||◌}
 use Rattle.codes.specs.Flags.{for_z, for_c, for_v, for_p, for_s, is_on}
 
 -- the flags of SR

@@ -22,7 +22,6 @@ use Rattle.effects.specs.declared.Place.TheVariants.{Nowhere, Constant, InRegist
 use Rattle.effects.specs.declared.Flags.{Flags}
 use Rattle.effects.specs.declared.Flags.TheVariants.{Unchanged, Become}
 use Rattle.effects.specs.declared.Effect.{Effect}
-use Rattle.effects.specs.declared.Port.{Port}
 use Rattle.effects.specs.declared.Port.TheVariants.{TakeByte, TakeNumber, TakeString, PutByte, PutNumber, PutString}
 use Rattle.effects.specs.declared.Performed.{Performed}
 use Rattle.effects.specs.declared.Performed.TheVariants.{Does, Halts, Asks, Stops}
@@ -83,7 +82,7 @@ unfoldable pub pushes : List ℕ → ℕ → ℕ → ℕ → Performed
 pushes m sp v next =
     cond (ltb (push_cell sp) (length m)) (Does (writes next (pushed_sp sp) (InCell (push_cell sp)) v Unchanged)) (Stops memory_end)
 
--- what is popped, written to a place: `POP.SP` ends with the popped number
+-- what is popped, written to a place: `POP .SP` ends with the popped number
 unfoldable pub pops : List ℕ → ℕ → ℕ → Place → Performed
 pops m sp next place =
     cond (ltb (pop_cell sp) (length m)) (Does (writes next (popped_sp sp) place (get_or m (pop_cell sp) 0) Unchanged)) (Stops memory_end)

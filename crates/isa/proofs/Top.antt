@@ -99,7 +99,7 @@ pub record RefusedExamples : Type 0 where
   -- "Testing mode 7 by code lets `INC $3` pass as SP-indexed"
   pub relative : (encode_of (instruction INC (Relative 3) Absent)).refusal ≡ 5
   pub indexed : (encode_of (instruction BR (IndexedSp 3) Absent)).refusal ≡ 5
-  -- "Its `BZ.R3` is refused: the opcode's own list decides"
+  -- "Its `BZ .R3` is refused: the opcode's own list decides"
   pub branch : (encode_of (instruction BZ (Register 3) Absent)).refusal ≡ 5
   -- a register code of 16
   pub code : (encode_of (instruction MOVE (Register 16) (Register 0))).refusal ≡ 5

@@ -10,7 +10,6 @@ use Rattle.ports.proofs.Laws.{Keeps}
 use Rattle.machine.specs.States.{state, machine, with_stop}
 use Rattle.machine.specs.Stops.{answer, is_stored, refuses}
 use Rattle.machine.specs.Inner.Lent.{running, left}
-use Rattle.machine.specs.declared.Inner.{Inner}
 
 -- a refusal: 2 to 6 are left as the stop code
 module _ (r m out : List ℕ) (taken written k : ℕ) where

@@ -162,7 +162,7 @@ module _ (input : List ℕ) (s : State) (good : good_loan input s ≡ true) (run
         ∙ ap (λ (e : Effect). does s e taken written) (writes-register next above k popped pc)
         ∙ does-register s next above popped taken written k sr
 
-    -- "`POP.SP` ends with the popped number"
+    -- "`POP .SP` ends with the popped number"
     pub POP_to_SP : Reads s (one O.POP (Register SP)) next → step_of input s ≡ completes s (set r SP popped) m next
     POP_to_SP read =
         POP_to_register SP (λ q. omega arith) (λ q. omega arith) read

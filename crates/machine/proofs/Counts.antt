@@ -2,7 +2,6 @@
 -- (01). Assumes nothing.
 use mathlib.Core.Path.{◌≡◌, refl, ap, ap₂, ◌∙◌}
 use mathlib.Core.Bool.{Bool, true, false, cond}
-use mathlib.Core.Logic.{inl, inr}
 use mathlib.Core.List.{List}
 use Prim.Native.Nat.{ℕ, zero, suc, ◌+◌, ◌≤◌, ◌<◌}
 use native.Mathlib.Nat.{zero-add, suc-add}
@@ -10,10 +9,10 @@ use native.Mathlib.Omega.{arith}
 use borrow.Author.Tests.{eqb-true, eqb-false, eq-eqb, ne_eqb}
 use lib.Dec.{eqb}
 use Rattle.machine.specs.States.{State}
-use Rattle.machine.specs.Stops.{Answer, answer, good_loan}
+use Rattle.machine.specs.Stops.{Answer, answer}
 use Rattle.machine.specs.Steps.{step_of}
 use Rattle.machine.specs.Runs.{Ending, ending, one_more, follows, run_of}
-use Rattle.machine.proofs.Standings.{Standing, bad, stopped, runs, standing, step-bad, step-stopped, step-completes, step_never_seven}
+use Rattle.machine.proofs.Standings.{Standing, bad, stopped, runs, standing, step-bad, step-stopped, step_never_seven}
 use Rattle.machine.proofs.Runs.{run_more, run-bad, run-stopped, run_none}
 
 -- the state after n steps

@@ -13,11 +13,9 @@ use Rattle.isa.specs.declared.Opcode.{Opcode}
 use Rattle.isa.proofs.Refusals.{instruction_by}
 use Rattle.effects.specs.Effects.{perform_of}
 use Rattle.effects.specs.Inner.Located.{locate, performs_on, perform_unless}
-use Rattle.effects.specs.declared.Performed.{Performed}
 use Rattle.effects.specs.declared.Performed.TheVariants.{Stops}
 use Rattle.effects.proofs.Performing.{performs}
 use Rattle.machine.specs.States.{State}
-use Rattle.machine.specs.Stops.{Answer, refuses}
 use Rattle.machine.specs.Steps.{performed, decoded}
 
 -- the operands of a first word's opcode, found, and what comes of them

@@ -1,5 +1,5 @@
 -- What a step of a machine that runs comes to: it completes, or it is a refusal. Assumes nothing.
-use mathlib.Core.Path.{◌≡◌, refl, sym, ap, subst, ◌∙◌}
+use mathlib.Core.Path.{◌≡◌, refl}
 use mathlib.Core.Bool.{Bool, true, false, cond}
 use mathlib.Core.Logic.{◌⊎◌, inl, inr}
 use mathlib.Core.List.{List}
@@ -7,16 +7,14 @@ use Prim.Native.Nat.{ℕ, ◌+◌, ◌%◌, ◌≤◌, ◌<◌}
 use native.Mathlib.Decide.{dec_le}
 use native.Mathlib.Omega.{arith}
 use borrow.Author.Tests.{ltb-true}
-use lib.Dec.{ltb, eqb}
+use lib.Dec.{ltb}
 use lib.ListN.{length, get_or, set, length-set}
 use lib.Seq.{get_or-set_same, get_or-set_other, set_out}
 use Rattle.codes.specs.Registers.{SR, SP, PC}
-use Rattle.codes.specs.Stops.{input_end, memory_end, output_short}
 use Rattle.isa.specs.Decoding.{decode_of}
 use Rattle.isa.specs.declared.Decoded.{Decoded}
 use Rattle.isa.specs.declared.Decoded.TheVariants.{Read, NoOpcode, NoMode, NoRegister, PastMemory}
 use Rattle.effects.specs.Effects.{writes, perform_of}
-use Rattle.effects.specs.Applied.{registers_after, memory_after}
 use Rattle.effects.specs.declared.Effect.{Effect}
 use Rattle.effects.specs.declared.Flags.TheVariants.{Unchanged}
 use Rattle.effects.specs.declared.Place.{Place}
@@ -33,8 +31,8 @@ use Rattle.ports.specs.declared.Taken.TheVariants.{Value, NoValue}
 use Rattle.ports.specs.declared.Moved.{Moved}
 use Rattle.ports.specs.declared.Moved.TheVariants.{To, Short}
 use Rattle.ports.proofs.Laws.{Keeps, Within, Past, Only, Either, WRCHAR-keeps, WRINT-keeps, WRSTR-keeps, INSTR-keeps, ININT-takes}
-use Rattle.machine.specs.States.{State, register, with_stop}
-use Rattle.machine.specs.Stops.{Answer, is_stored, refuses}
+use Rattle.machine.specs.States.{State, register}
+use Rattle.machine.specs.Stops.{Answer, refuses}
 use Rattle.machine.specs.Steps.{stop_at, does, halts, takes, goes_on, fills, prints, asks, performed, decoded, runs_on}
 use Rattle.machine.proofs.GoodLoans.{Good}
 

@@ -1,7 +1,6 @@
 -- A run after a run, and a run as so many steps. Assumes nothing.
 use mathlib.Core.Path.{◌≡◌, refl, sym, ap, ap₂, ◌∙◌}
 use mathlib.Core.Bool.{Bool, true, false, cond}
-use mathlib.Core.Logic.{inl, inr}
 use mathlib.Core.List.{List}
 use Prim.Native.Nat.{ℕ, zero, suc, ◌+◌, ◌≤◌, ◌<◌}
 use native.Mathlib.Nat.{add-zero, zero-add, suc-add}
@@ -9,11 +8,11 @@ use native.Mathlib.Omega.{arith}
 use borrow.Author.Tests.{eqb-false, eq-eqb, ne_eqb, leb-true, le-leb, lt-leb}
 use lib.Dec.{eqb, leb}
 use Rattle.machine.specs.States.{State, with_stop}
-use Rattle.machine.specs.Stops.{Answer, answer, good_loan, is_stored, refuses}
+use Rattle.machine.specs.Stops.{Answer, good_loan, is_stored, refuses}
 use Rattle.machine.specs.Steps.{step_of}
 use Rattle.machine.specs.Runs.{Ending, ending, one_more, spent, follows, run_of, limited_run}
 use Rattle.machine.proofs.GoodLoans.{parts-good, and_parts}
-use Rattle.machine.proofs.Standings.{Standing, bad, stopped, runs, standing, step-bad, step-stopped, step-runs, step-completes, step-refuses, step_keeps_good, step_never_seven}
+use Rattle.machine.proofs.Standings.{Standing, bad, stopped, runs, standing, step-bad, step-stopped, step-completes, step-refuses, step_keeps_good}
 
 -- ---- machines that do not run
 

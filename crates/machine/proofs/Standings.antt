@@ -3,7 +3,7 @@ use mathlib.Core.Path.{◌≡◌, refl, sym, ap, ◌∙◌}
 use mathlib.Core.Bool.{Bool, true, false, cond, true≢false}
 use mathlib.Core.Logic.{inl, inr}
 use mathlib.Core.List.{List}
-use Prim.Native.Nat.{ℕ, ◌≤◌}
+use Prim.Native.Nat.{ℕ}
 use native.Mathlib.Omega.{arith}
 use borrow.Author.Tests.{eqb-true, eqb-false, eq-eqb, ne_eqb, leb-true}
 use lib.Dec.{eqb, leb}
@@ -11,7 +11,7 @@ use Rattle.machine.specs.States.{State, with_stop}
 use Rattle.machine.specs.Stops.{Answer, answer, good_loan, is_stored, refuses}
 use Rattle.machine.specs.Steps.{runs_on, step_of}
 use Rattle.machine.proofs.GoodLoans.{Good, good-parts, parts-good, and_parts}
-use Rattle.machine.proofs.Outcomes.{Completes, Refuses, Stop, outcome}
+use Rattle.machine.proofs.Outcomes.{Completes, outcome}
 
 -- "Order: 10, stopped already", and then the machine runs
 pub data Standing (input : List ℕ) (s : State) : Type 0 where

@@ -348,7 +348,7 @@ module _ (input : List ℕ) (s : State) (good : good_loan input s ≡ true) (run
         step_of input s ≡ completes s (set (set s.registers.r SP above) k popped) s.memory next
     POP_to_register = completed.POP_to_register input s good runs next h
 
-    -- "`POP.SP` ends with the popped number"
+    -- "`POP .SP` ends with the popped number"
     pub POP_to_SP : Reads s (one O.POP (Register SP)) next → step_of input s ≡ completes s (set s.registers.r SP popped) s.memory next
     POP_to_SP = completed.POP_to_SP input s good runs next h
 

@@ -9,7 +9,7 @@ use borrow.Author.Tests.{ne_eqb, eqb-true}
 use lib.Dec.{eqb}
 use Rattle.machine.specs.States.{State, state, machine}
 use Rattle.machine.specs.Stops.{Answer, answer, good_loan}
-use Rattle.machine.specs.Steps.{runs_on, step_of, Reply, reply, reply_of}
+use Rattle.machine.specs.Steps.{runs_on, step_of, reply, reply_of}
 use Rattle.machine.specs.Inner.Lent.{running, code_after, left, of_one_step}
 use Rattle.machine.specs.Runs.{Ending, ending, one_more, follows, run_of, limited_run}
 use Rattle.machine.specs.declared.Inner.{Inner}

@@ -1,10 +1,10 @@
 -- A run (01: "A run takes a budget of 0..1,000,000 and counts steps that complete; HALT counts. A larger budget is 10 with
 -- count 0. Before each step the order is 10, stopped already, 7. 7, 8, 9 can be resumed.").
-use Rattle.std.specs.Prelude.{ℕ, zero, suc, ◌+◌, Bool, true, false, cond, List, leb, eqb}
+use Rattle.std.specs.Prelude.{ℕ, zero, suc, cond, List, leb, eqb}
 use Rattle.machine.specs.States.{State}
 use Rattle.codes.specs.Limits.{largest_budget}
 use Rattle.codes.specs.Stops.{none, budget_spent, bad_loan}
-use Rattle.machine.specs.Stops.{good_loan, Answer, answer}
+use Rattle.machine.specs.Stops.{good_loan, Answer}
 use Rattle.machine.specs.Steps.{step_of}
 
 -- how a run ends: the state, the stop, and how many steps completed

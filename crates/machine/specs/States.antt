@@ -1,6 +1,5 @@
 -- What a step changes: the machine's record, memory and output. The input is lent, and stays as it is.
 use Rattle.std.specs.Prelude.{ℕ, List, get_or, replicate}
-use Rattle.codes.specs.Registers.{SR, SP, PC}
 use Rattle.codes.specs.Stops.{none}
 use Rattle.machine.specs.declared.Registers.{Registers}
 

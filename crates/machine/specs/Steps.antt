@@ -1,5 +1,5 @@
 -- One step (01, "What a step does"). What each opcode does is `byOpcode` of `effects`, one line for each.
-use Rattle.std.specs.Prelude.{ℕ, ◌+◌, ◌%◌, Bool, true, false, cond, List, ltb, leb, eqb, length, get_or, set}
+use Rattle.std.specs.Prelude.{ℕ, ◌+◌, ◌%◌, true, false, cond, List, ltb, eqb, length, set}
 use Rattle.codes.specs.Flags.{for_h}
 use Rattle.codes.specs.Registers.{SR, SP, PC}
 use Rattle.codes.specs.Stops.{none, halted, memory_end, bad_loan}

@@ -1,5 +1,5 @@
 -- What a good loan is, and what a refused step changes (01: "10 bad loan (M, a position past its end, SR above 63, stop code above 6)").
-use Rattle.std.specs.Prelude.{ℕ, Bool, true, false, cond, ◌&&◌, ◌||◌, List, ltb, leb, length}
+use Rattle.std.specs.Prelude.{ℕ, Bool, false, cond, ◌&&◌, List, ltb, leb, length}
 use Rattle.codes.specs.Limits.{most_cells, largest_sr, largest_stop_code}
 use Rattle.codes.specs.Registers.{SR}
 use Rattle.codes.specs.Stops.{no_opcode, zero_divisor}

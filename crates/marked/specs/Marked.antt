@@ -44,7 +44,7 @@ pub record MarkedTable : Type 0 where
   pub expression : "x: EQU (3+7*(16-1)/(4-1))%27\nPUSH #x" leaves 200 ∷ 11 ∷ [] marked code_mark
   -- "`/-30` is 65506": as an operand, behind the first word of PUSH
   pub memory-operand : "PUSH /-30" leaves 216 ∷ 65506 ∷ [] marked code_mark
-  -- "`ADD.R3,#0xFF` is 337,3,255"
+  -- "`ADD .R3,#0xFF` is 337,3,255"
   pub add : "ADD .R3,#0xFF" leaves 337 ∷ 3 ∷ 255 ∷ [] marked code_mark
   -- "`MOVE #6[.IX],.R1` is 170,6,1"
   pub move : "MOVE #6[.IX],.R1" leaves 170 ∷ 6 ∷ 1 ∷ [] marked code_mark

@@ -109,7 +109,7 @@ pub record Examples : Type 0 where
   pub relative : Says INC "$3" (WrongKind 1)
   pub indexed : Says BR "#3[.SP]" (WrongKind 1)
   pub indexed-there : Says INC "#3[.SP]" (Read (plain (IndexedSp 3)) (plain Absent))
-  -- "Its `BZ.R3` is refused: the opcode's own list decides"
+  -- "Its `BZ .R3` is refused: the opcode's own list decides"
   pub branch : Says BZ ".R3" (WrongKind 1)
   pub three : Says MOVE ".A,.A,.A" WrongCount
   pub none-given : Says PUSH "" WrongCount

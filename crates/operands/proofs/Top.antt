@@ -23,7 +23,7 @@ use Rattle.operands.specs.Checks.{operand_with, operand_at, word_of, label_in, g
 use Rattle.operands.specs.Settling.{settled_operand, settled_instruction}
 use Rattle.operands.specs.Places.{OperandStart, NumberOut, operand_start_in, number_out_in}
 use Rattle.operands.specs.declared.Given.{Given}
-use Rattle.operands.specs.declared.InstructionRead.TheVariants.{Read, WrongCount, WrongKind}
+use Rattle.operands.specs.declared.InstructionRead.TheVariants.{Read, WrongKind}
 use Rattle.operands.specs.declared.Written.{Written}
 use Rattle.operands.proofs.Readings as Readings
 use Rattle.operands.proofs.Exactly as Exactly

@@ -1,7 +1,7 @@
 -- What the crate promises, for a reader. `write_record` answers and leaves in the room exactly what `recorded` of specs/Recording.antt
 -- says; here stands what that says of positions and room, and that a record tells what it was made of.
 use mathlib.Core.Path.{◌≡◌, refl, sym, ap, ◌∙◌}
-use mathlib.Core.List.{List, [], ◌∷◌, ◌++◌}
+use mathlib.Core.List.{List, ◌++◌}
 use Prim.Native.Nat.{ℕ, ◌≤◌, ◌<◌}
 use native.Mathlib.Omega.{arith}
 use borrow.Author.Tests.{le-leb, lt-leb}

@@ -39,7 +39,7 @@ use Rattle.sources.proofs.Small.{settled-allowed}
 use Rattle.listing.specs.Decodes.{FirstUndecoded, here, further}
 use Rattle.listing.specs.Listing.{FirstBadRun}
 use Rattle.listing.specs.Listing as L
-use Rattle.listing.specs.Runs.{Run, HoldCells, FirstRun, Runs, next}
+use Rattle.listing.specs.Runs.{Run, HoldCells, FirstRun, Runs, over, next}
 use Rattle.recovered.proofs.Listed.{second_part}
 
 -- ---- blocks of code are instructions

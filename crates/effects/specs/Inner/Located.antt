@@ -1,5 +1,5 @@
 -- An operand as the code finds it: its place and value at once, and the stop of one that is not there.
-use Rattle.std.specs.Prelude.{ℕ, Bool, cond, ◌&&◌, ◌||◌, List, eqb, length, get_or}
+use Rattle.std.specs.Prelude.{ℕ, cond, ◌&&◌, ◌||◌, List, eqb, length, get_or}
 use Rattle.codes.specs.Registers.{SR, SP}
 use Rattle.codes.specs.Stops.{none, no_register, memory_end}
 use Rattle.isa.specs.Opcodes.{table}

@@ -1,7 +1,6 @@
 -- The loop's invariant: the line looked for is so many lines behind the one that the loop has come to (LineStarts).
-use borrow.Author.Rules.{rules}
 use Prim.Native.Nat.{◌-◌}
-use mathlib.Core.Path.{◌≡◌, refl, sym, ap, ◌∙◌}
+use mathlib.Core.Path.{refl, sym, ap, ◌∙◌}
 use native.Mathlib.Omega.{arith}
 use Rattle.columns.specs.Columns.{start_after}
 use Rattle.columns.proofs.LineStarts.{start-more, start-there}

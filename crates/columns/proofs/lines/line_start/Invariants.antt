@@ -1,10 +1,7 @@
 -- The loop's invariant: the line looked for is so many lines behind the one that the loop has come to (LineStarts).
-use borrow.Author.Rules.{rules}
 use Prim.Native.Nat.{◌-◌}
-use mathlib.Core.Path.{◌≡◌, refl, sym, ap, ◌∙◌}
-use native.Mathlib.Omega.{arith}
+use mathlib.Core.Path.{◌≡◌}
 use Rattle.columns.specs.Columns.{start_after}
-use Rattle.columns.proofs.LineStarts.{start-more, start-there}
 use Rattle.columns.proofs.lines.line_start.Given as goal
 
 abbrev pub invariant-loop-left : goal.invariant-loop-left

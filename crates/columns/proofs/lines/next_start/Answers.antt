@@ -1,7 +1,6 @@
 -- The line has its LF, or is the source's last (LineStarts).
 use native.Mathlib.Omega.{arith}
 use Rattle.columns.proofs.LineStarts.{next_on, next-over}
-use borrow.Author.Rules.{rules}
 use Rattle.columns.proofs.lines.next_start.Goals as goal
 
 pub returns-then-end-source : goal.returns-then-end-source

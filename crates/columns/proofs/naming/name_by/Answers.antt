@@ -1,6 +1,5 @@
 -- By the first operand's label: none, or its own unless the second's is asked for (NameColumns).
 use Rattle.columns.proofs.NameColumns.{first-named}
-use borrow.Author.Rules.{rules}
 use Rattle.columns.proofs.naming.name_by.Goals as goal
 
 pub returns-else-second : goal.returns-else-second

@@ -1,6 +1,5 @@
 -- By the line's reading (NameColumns).
 use Rattle.columns.proofs.NameColumns.{failing, passing}
-use borrow.Author.Rules.{rules}
 use Rattle.columns.proofs.naming.name_column.Goals as goal
 
 pub returns-in-Fails : goal.returns-in-Fails

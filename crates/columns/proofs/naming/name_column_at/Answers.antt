@@ -1,6 +1,5 @@
 -- At a name, 14 apart from any other number (NameColumns).
 use Rattle.columns.proofs.NameColumns.{mark-column, start-column}
-use borrow.Author.Rules.{rules}
 use Rattle.columns.proofs.naming.name_column_at.Goals as goal
 
 pub returns-then-number-eq14 : goal.returns-then-number-eq14

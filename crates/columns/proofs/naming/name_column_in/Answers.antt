@@ -1,6 +1,5 @@
 -- The arms are the definition's clauses; an instruction's names are its operands' (NameColumns).
 use Rattle.columns.proofs.NameColumns.{instructed}
-use borrow.Author.Rules.{rules}
 use Rattle.columns.proofs.naming.name_column_in.Goals as goal
 
 pub returns-in-Instruction : goal.returns-in-Instruction

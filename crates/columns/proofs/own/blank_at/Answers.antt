@@ -2,7 +2,6 @@
 use mathlib.Core.Path.{sym, ap}
 use lib.ListN.{get_or-eq_default}
 use Rattle.tokens.specs.Bytes.{is_blank}
-use borrow.Author.Rules.{rules}
 use Rattle.columns.proofs.own.blank_at.Goals as goal
 
 pub returns-else-at-line : goal.returns-else-at-line

@@ -2,7 +2,6 @@
 use mathlib.Core.Path.{sym}
 use native.Mathlib.Omega.{arith}
 use Rattle.columns.proofs.Found.{in_line, past-line}
-use borrow.Author.Rules.{rules}
 use Rattle.columns.proofs.own.column_at.Goals as goal
 
 pub returns-then-line-place : goal.returns-then-line-place

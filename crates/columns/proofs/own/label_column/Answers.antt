@@ -1,7 +1,6 @@
 -- By the label that was read (Found).
 use mathlib.Core.Path.{sym, ◌∙◌}
 use Rattle.columns.proofs.Found.{no_label, label-there}
-use borrow.Author.Rules.{rules}
 use Rattle.columns.proofs.own.label_column.Goals as goal
 
 pub returns-in-Absent : goal.returns-in-Absent

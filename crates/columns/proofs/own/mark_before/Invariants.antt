@@ -1,10 +1,6 @@
 -- The loop's invariant: what stands before the name stands before the place that the loop has come to (Found).
-use mathlib.Core.Path.{◌≡◌, refl, sym, ◌∙◌}
-use native.Mathlib.Omega.{arith}
-use borrow.Author.Tests.{not-true, not-false}
-use borrow.Author.Rules.{rules}
+use mathlib.Core.Path.{◌≡◌}
 use Rattle.columns.specs.Columns.{mark_before}
-use Rattle.columns.proofs.Found.{blank-before, mark-stands, none_before}
 use Rattle.columns.proofs.own.mark_before.Given as goal
 
 abbrev pub invariant-loop-at : goal.invariant-loop-at

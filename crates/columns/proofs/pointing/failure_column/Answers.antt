@@ -1,7 +1,6 @@
 -- The tokens behind the label are what `label` found, and the failure's place is found from there.
 use mathlib.Core.Path.{◌∙◌}
 use Rattle.columns.proofs.Found.{failure_at}
-use borrow.Author.Rules.{rules}
 use Rattle.columns.proofs.pointing.failure_column.Goals as goal
 
 pub returns : goal.returns

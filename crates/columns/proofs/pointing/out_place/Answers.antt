@@ -1,7 +1,6 @@
 -- The arms are the definition's clauses.
 use Rattle.tokens.specs.Reading.{tokens_from}
 use Rattle.columns.proofs.Found.{out-by}
-use borrow.Author.Rules.{rules}
 use Rattle.columns.proofs.pointing.out_place.Goals as goal
 
 pub returns-in-Instructs : goal.returns-in-Instructs

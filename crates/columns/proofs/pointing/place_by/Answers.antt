@@ -2,7 +2,6 @@
 use mathlib.Core.Path.{refl}
 use Rattle.tokens.specs.Reading.{tokens_from}
 use Rattle.columns.proofs.Found.{place-by}
-use borrow.Author.Rules.{rules}
 use Rattle.columns.proofs.pointing.place_by.Goals as goal
 
 pub returns-in-UnknownWord : goal.returns-in-UnknownWord

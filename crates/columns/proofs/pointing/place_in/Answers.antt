@@ -1,8 +1,6 @@
 -- By the token after any label: no word, or the statement's (Found).
 use mathlib.Core.Path.{sym, ◌∙◌}
-use borrow.Author.Tests.{not-true, not-false}
 use Rattle.columns.proofs.Found.{no_word_place, by_its_word}
-use borrow.Author.Rules.{rules}
 use Rattle.columns.proofs.pointing.place_in.Goals as goal
 
 pub returns-then-not-is_word : goal.returns-then-not-is_word

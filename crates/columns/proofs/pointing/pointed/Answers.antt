@@ -1,10 +1,10 @@
 -- By the number (Found).
 use Prim.Native.Nat.{ℕ}
 use mathlib.Core.Logic.{inl, inr}
+use native.Mathlib.Omega.{arith}
 use mathlib.Core.Path.{sym, ap, ◌∙◌}
 use Rattle.columns.specs.Columns.{pointed_at}
 use Rattle.columns.proofs.Found.{of_label, of_word, of_checks}
-use borrow.Author.Rules.{rules}
 use Rattle.columns.proofs.pointing.pointed.Goals as goal
 
 pub returns-in-9 : goal.returns-in-9
@@ -26,5 +26,4 @@ returns-in-12 c =
 pub returns-in_default : goal.returns-in_default
 returns-in_default c =
     let a = c.args in
-    let r = c.in_default.in_default-own.rest in
-    c.read_again.ensures ∙ sym (of_checks a.line.now a.number r.0.0.0.1 r.0.0.1 r.0.1 r.1)
+    c.read_again.ensures ∙ sym (of_checks a.line.now a.number (omega arith) (omega arith) (omega arith) (omega arith))

@@ -1,6 +1,5 @@
 -- A line that passes points at its word, one that fails at what its check says (Found).
 use Rattle.columns.proofs.Found.{passes-again, fails-again}
-use borrow.Author.Rules.{rules}
 use Rattle.columns.proofs.pointing.read_again.Goals as goal
 
 pub returns-in-Passes : goal.returns-in-Passes

@@ -27,9 +27,5 @@ put_caret-requires c =
 
 pub returns : goal.returns
 returns c =
-    let at-put-part = c.before.before.before.before.before.before in
-    let at-shown-end = at-put-part.before.before.before in
-    let at-shown-from = at-shown-end.before in
-    let start = at-shown-from.before.before.before.before.before in
-    line-shown start.args.room.now start.args.line.now start.args.column (omega arith) (omega arith)
-    at-shown-from.shown-from.ensures at-shown-end.shown-end.ensures at-put-part.put-part.ensures c.put_caret.ensures
+    line-shown c.args.room.now c.args.line.now c.args.column (omega arith) (omega arith)
+    c.shown_from-from.ensures c.shown_end-end.ensures c.put_part-next.ensures c.put_caret.ensures

@@ -15,15 +15,7 @@ piece-requires c =
 
 pub returns : goal.returns
 returns c =
-    let at-piece2 = c.before.before.before.before.before.before.before in
-    let at_piece = at-piece2.before.before.before.before.before in
-    let start = at_piece.before.before.before.before in
-    caret_put start.args.room.now start.args.at start.args.n (omega arith) at_piece.piece.ensures
-    (rw (blanks-taken start.args.n 80 (omega arith)) at at-piece2.piece2.ensures)
+    let n = c.args.n in
+    caret_put c.args.room.now c.args.at n (omega arith) c.piece-first.ensures
+    (rw (blanks-taken n 80 (omega arith)) at c.piece-caret.ensures)
     c.piece.ensures
-
--- MANUAL: -- no goal slice-aggregate-piece-2
--- MANUAL: slice-aggregate-piece-2 : tie.Need-slice-aggregate-piece-2
--- MANUAL: slice-aggregate-piece-2 c =
--- MANUAL:     let start = c.before.before.before.before.before.before.before.before in
--- MANUAL:     sym (blanks-length start.args.n 80 (omega arith))

@@ -12,8 +12,4 @@ piece-requires c =
 
 pub returns : goal.returns
 returns c =
-    let at-put-shown = c.before.before.before.before.before.before.before in
-    let at_piece = at-put-shown.before.before.before.before in
-    let start = at_piece.before.before.before.before.before in
-    part_put start.args.room.now start.args.part.now (omega arith) at_piece.piece.ensures at-put-shown.put-shown.ensures
-    c.piece.ensures
+    part_put c.args.room.now c.args.part.now (omega arith) c.piece-first.ensures c.put_shown-last.ensures c.piece.ensures

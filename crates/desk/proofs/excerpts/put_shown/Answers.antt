@@ -3,11 +3,10 @@ use borrow.Author.Rules.{rules}
 use mathlib.Core.Path.{ap, ◌∙◌}
 use mathlib.Core.List.{map}
 use native.Mathlib.Omega.{arith}
-use Prim.Native.Nat.{◌-◌}
 use lib.ListN.{length, length-map}
 use lib.Seq.{take_all}
 use Rattle.ports.specs.Overwriting.{overwrite}
-use Rattle.ports.proofs.Overwrites.{Copied, copy_none, copy_more, copy_end}
+use Rattle.ports.proofs.Overwrites.{copy_none, copy_more, copy_end}
 use Rattle.desk.specs.Excerpts.{shown_byte}
 use Rattle.desk.proofs.Shown.{shown_at}
 use Rattle.desk.proofs.excerpts.put_shown.Goals as goal
@@ -17,11 +16,9 @@ loop-k-init c = copy_none _ _ (map shown_byte c.args.part.now) _
 
 pub loop-k-preserved : goal.loop-k-preserved
 loop-k-preserved c =
-    let at-loop = c.before.before.before in
-    let start = at-loop.before.before.before in
-    let part = start.args.part.now in
-    copy_more _ _ (map shown_byte part) _ _ _ _ at-loop.loop.invariant (omega arith) (omega arith) (omega (arith, length-map part shown_byte))
-    (c.shown_byte.ensures ∙ shown_at part at-loop.loop.k (omega arith))
+    let part = c.args.part.now in
+    copy_more _ _ (map shown_byte part) _ _ _ _ c.loop-k.invariant (omega arith) (omega arith) (omega (arith, length-map part shown_byte))
+    (c.shown_byte.ensures ∙ shown_at part c.loop-k.k (omega arith))
 
 pub returns : goal.returns
 returns c =

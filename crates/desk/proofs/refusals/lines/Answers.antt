@@ -11,9 +11,7 @@ field-second-requires c =
 
 pub field-third-requires : goal.field-third-requires
 field-third-requires c =
-    let at-narrow = c.before.before.before.before.before.before.before.before in
-    let start = at-narrow.before.before in
-    omega (arith, field_length (bytes "refused=") start.args.refusal, field_length (bytes "\nline=") at-narrow.narrow.result)
+    omega (arith, field_length (bytes "refused=") c.args.refusal, field_length (bytes "\nline=") c.narrow-at.result)
 
 pub field-last-requires : goal.field-last-requires
 field-last-requires c =
@@ -26,11 +24,5 @@ field-last-requires c =
 
 pub returns : goal.returns
 returns c =
-    let at-field3 = c.before.before.before.before.before.before.before in
-    let at-field2 = at-field3.before.before.before.before.before in
-    let at_field = at-field2.before.before.before.before.before in
-    let at-narrow2 = at_field.before.before.before in
-    let at-narrow = at-narrow2.before in
-    let start = at-narrow.before.before in
-    lines-told start.args.room.now start.args.refusal start.requires at-narrow.narrow.ensures at-narrow2.narrow2.ensures
-    at_field.field.ensures at-field2.field2.ensures at-field3.field3.ensures c.put.ensures
+    lines-told c.args.room.now c.args.refusal c.requires c.narrow-at.ensures c.narrow-place.ensures
+    c.field-second.ensures c.field-third.ensures c.field-last.ensures c.put.ensures

@@ -7,14 +7,11 @@ use Rattle.desk.proofs.refusals.sentence.Goals as goal
 
 pub field-second-requires : goal.field-second-requires
 field-second-requires c =
-    let at-narrow = c.before.before.before.before.before.before.before in
-    omega (arith, field_length (bytes ":") at-narrow.narrow.result)
+    omega (arith, field_length (bytes ":") c.narrow-at.result)
 
 pub field-refused-requires : goal.field-refused-requires
 field-refused-requires c =
-    let at-narrow2 = c.before.before.before.before.before.before.before.before.before.before.before in
-    let at-narrow = at-narrow2.before in
-    omega (arith, field_length (bytes ":") at-narrow.narrow.result, field_length (bytes ":") at-narrow2.narrow2.result)
+    omega (arith, field_length (bytes ":") c.narrow-at.result, field_length (bytes ":") c.narrow-place.result)
 
 pub field-told-requires : goal.field-told-requires
 field-told-requires c =
@@ -27,15 +24,6 @@ field-told-requires c =
 
 pub returns : goal.returns
 returns c =
-    let at-why = c.before.before.before.before.before.before.before in
-    let at-put = at-why.before.before.before.before in
-    let at-field3 = at-put.before.before.before.before.before in
-    let at-field2 = at-field3.before.before.before.before.before in
-    let at_field = at-field2.before.before.before.before.before in
-    let at_name = at_field.before.before.before.before.before in
-    let at-narrow2 = at_name.before.before in
-    let at-narrow = at-narrow2.before in
-    let start = at-narrow.before.before.before in
-    sentence_told start.args.room.now start.args.path.now start.args.refusal start.requires at-narrow.narrow.ensures
-    at-narrow2.narrow2.ensures at_name.name.ensures at_field.field.ensures at-field2.field2.ensures at-field3.field3.ensures
-    at-put.put.ensures at-why.why.ensures c.put.ensures
+    sentence_told c.args.room.now c.args.path.now c.args.refusal c.requires c.narrow-at.ensures c.narrow-place.ensures
+    c.name-colon.ensures c.field-second.ensures c.field-refused.ensures c.field-told.ensures c.put-reason.ensures
+    c.why-last.ensures c.put.ensures

@@ -1,6 +1,5 @@
 -- `set` past the end changes nothing.
 use mathlib.Core.Path.{sym}
-use borrow.Author.Rules.{rules}
 use lib.Seq.{set_out}
 use Rattle.effects.proofs.apply.put.Goals as goal
 

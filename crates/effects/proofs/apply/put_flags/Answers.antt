@@ -1,5 +1,4 @@
 -- Flags that become something go to SR through `kept_h`.
-use borrow.Author.Rules.{rules}
 use Rattle.effects.proofs.apply.put_flags.Goals as goal
 
 pub returns-in-Become : goal.returns-in-Become

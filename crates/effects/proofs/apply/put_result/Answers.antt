@@ -1,5 +1,4 @@
 -- Only a place that is a register is written, by `put_register`.
-use borrow.Author.Rules.{rules}
 use Rattle.effects.proofs.apply.put_result.Goals as goal
 
 pub returns-in-InRegister : goal.returns-in-InRegister

@@ -1,5 +1,5 @@
 -- From the opcode's row.
-use mathlib.Core.Path.{◌≡◌, ap, ◌∙◌}
+use mathlib.Core.Path.{ap, ◌∙◌}
 use Rattle.isa.specs.Operands.{is_target}
 use Rattle.isa.specs.declared.Row.{Row}
 use Rattle.effects.proofs.perform.has_target.Goals as goal

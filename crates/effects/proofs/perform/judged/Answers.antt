@@ -1,7 +1,5 @@
 -- By the faults of both.
-use mathlib.Core.Bool.{Bool, true, false, ◌&&◌, ◌||◌}
-use mathlib.Core.Path.{◌≡◌, refl}
-use borrow.Author.Tests.{eq-eqb, ne_eqb}
+use borrow.Author.Tests.{ne_eqb}
 use Rattle.effects.specs.Inner.Located.{stop_of_faults}
 use Rattle.effects.proofs.perform.judged.Goals as goal
 
@@ -19,4 +17,4 @@ returns-then-b-eq-NO_REGISTER c = rw (ne_eqb _ _ c.if-a-eq-NONE.false, ne_eqb _ 
 
 pub returns : goal.returns
 unfolding stop_of_faults
-returns c = rw ( ne_eqb _ _ c.if-a-eq-NONE.false, ne_eqb _ _ c.if-a-eq-NO_REGISTER.false, ne_eqb _ _ c.if-b-eq-NO_REGISTER.false, ) c.outside.ensures
+returns c = rw (ne_eqb _ _ c.if-a-eq-NONE.false, ne_eqb _ _ c.if-a-eq-NO_REGISTER.false, ne_eqb _ _ c.if-b-eq-NO_REGISTER.false) c.outside.ensures

@@ -1,7 +1,5 @@
 -- By the second operand's fault, the first having none.
-use mathlib.Core.Path.{sym, ◌∙◌}
-use borrow.Author.Tests.{eq-eqb, ne_eqb}
-use Rattle.codes.specs.Stops.{none, no_register}
+use borrow.Author.Tests.{ne_eqb}
 use Rattle.effects.specs.Inner.Located.{stop_of_faults}
 use Rattle.effects.proofs.perform.of_second.Goals as goal
 

@@ -1,6 +1,5 @@
 -- A cell of memory, or the stop of an address past it.
 use mathlib.Core.Path.{sym, ◌∙◌}
-use borrow.Author.Rules.{rules}
 use Rattle.effects.proofs.Locating.{cell-inside, cell-outside}
 use Rattle.effects.proofs.places.at_cell.Goals as goal
 

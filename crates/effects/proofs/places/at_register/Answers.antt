@@ -1,7 +1,6 @@
 -- By the code: the 15 registers before PC, PC, and none.
 use mathlib.Core.Path.{sym, ◌∙◌}
 use native.Mathlib.Omega.{arith}
-use borrow.Author.Rules.{rules}
 use Rattle.effects.proofs.Locating.{register-below, register-last, register-past}
 use Rattle.effects.proofs.places.at_register.Goals as goal
 

@@ -1,7 +1,6 @@
 -- By the code, as `at_register`: the cell that the register names.
 use mathlib.Core.Path.{sym, ◌∙◌}
 use native.Mathlib.Omega.{arith}
-use borrow.Author.Rules.{rules}
 use Rattle.effects.proofs.Locating.{behind-below, behind-last, behind-past}
 use Rattle.effects.proofs.places.behind.Goals as goal
 

@@ -1,6 +1,5 @@
 -- Past the end a list reads 0.
 use mathlib.Core.Path.{sym}
-use borrow.Author.Rules.{rules}
 use lib.ListN.{get_or-eq_default}
 use Rattle.effects.proofs.places.cell.Goals as goal
 

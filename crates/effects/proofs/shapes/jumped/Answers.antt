@@ -1,5 +1,4 @@
 -- By the test: the target, or the next address.
-use borrow.Author.Rules.{rules}
 use Rattle.effects.proofs.shapes.jumped.Goals as goal
 
 pub returns-then-taken : goal.returns-then-taken

@@ -1,5 +1,4 @@
 -- The arms are the definition's clauses, and the test is on the token that follows.
-use borrow.Author.Rules.{rules}
 use mathlib.Core.Path.{sym, ap, ◌∙◌}
 use Rattle.expressions.specs.Inner.Parts.{is_shut}
 use Rattle.expressions.proofs.Operands.{closed_is}

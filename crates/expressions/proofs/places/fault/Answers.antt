@@ -1,5 +1,4 @@
 -- A whole sum has its fault where the reader of sums found it; anything else is refused before 6 and 7.
-use borrow.Author.Rules.{rules}
 use Rattle.expressions.proofs.Verdicts.{fault_whole, fault_more, fault_wrong, fault_deep}
 use Rattle.expressions.proofs.places.fault.Goals as goal
 

@@ -1,13 +1,6 @@
 -- The level of the row from the cursor on stays that of the rest, with what is next and the height; a token more takes a byte at least.
-use borrow.Author.Rules.{rules}
-use Prim.Native.Nat.{◌-◌, ◌≤◌}
-use mathlib.Core.Bool.{true}
-use mathlib.Core.Path.{◌≡◌, refl, sym, ◌∙◌}
+use mathlib.Core.Path.{refl, sym, ◌∙◌}
 use native.Mathlib.Omega.{arith}
-use lib.ListN.{length}
-use Rattle.codes.specs.Limits.{deepest}
-use Rattle.tokens.specs.Reading.{tokens_from}
-use Rattle.expressions.specs.Inner.Scanning.{level_at}
 use Rattle.expressions.proofs.Scans.{scan_moves}
 use Rattle.expressions.proofs.Levels.{level_ended, level_wrong, level-on, level_past}
 use Rattle.expressions.proofs.places.level_past.Goals as goal
@@ -44,10 +37,9 @@ loop-kind-smaller c =
     omega arith
 
 pub loop-kind-preserved : goal.loop-kind-preserved
-loop-kind-preserved c =
-    (
-      c.if-h.false,
-      c.loop-kind.invariant.1
-          ∙ level-on c.args.s.now c.loop-kind.at c.loop-kind.operand c.loop-kind.height c.next_token-t.ensures c.is_end.ensures
-          c.symbol_of.ensures c.scan_step.ensures c.in-On.is c.if-h.false,
-    )
+loop-kind-preserved c = (
+  c.if-h.false,
+  c.loop-kind.invariant.1
+      ∙ level-on c.args.s.now c.loop-kind.at c.loop-kind.operand c.loop-kind.height c.next_token-t.ensures c.is_end.ensures
+      c.symbol_of.ensures c.scan_step.ensures c.in-On.is c.if-h.false,
+)

@@ -1,15 +1,11 @@
 -- The level of the row from the cursor on stays that of the rest, with what is next and the height; a token more takes a byte at least.
-use borrow.Author.Rules.{rules}
 use Prim.Native.Nat.{◌-◌, ◌≤◌}
 use mathlib.Core.Bool.{true}
-use mathlib.Core.Path.{◌≡◌, refl, sym, ◌∙◌}
-use native.Mathlib.Omega.{arith}
+use mathlib.Core.Path.{◌≡◌}
 use lib.ListN.{length}
 use Rattle.codes.specs.Limits.{deepest}
 use Rattle.tokens.specs.Reading.{tokens_from}
 use Rattle.expressions.specs.Inner.Scanning.{level_at}
-use Rattle.expressions.proofs.Scans.{scan_moves}
-use Rattle.expressions.proofs.Levels.{level_ended, level_wrong, level-on, level_past}
 use Rattle.expressions.proofs.places.level_past.Given as goal
 
 abbrev pub invariant-loop-kind : goal.invariant-loop-kind

@@ -1,5 +1,4 @@
 -- A row of right form has the place that the scan finds, and one of wrong form has none.
-use borrow.Author.Rules.{rules}
 use Rattle.tokens.specs.Reading.{tokens_from}
 use Rattle.expressions.proofs.Levels.{deep-right, deep-wrong}
 use Rattle.expressions.proofs.places.too_deep.Goals as goal

@@ -1,5 +1,4 @@
 -- A whole sum is read, anything after it or inside it is of wrong form, and where the reader of sums met too many parentheses the scan tells.
-use borrow.Author.Rules.{rules}
 use Rattle.expressions.proofs.Verdicts.{found-whole, found-more, found-wrong, found-deep}
 use Rattle.expressions.proofs.reading.expression.Goals as goal
 

@@ -1,13 +1,10 @@
 -- The form of the row from the cursor on stays that of the rest, with what is next and the height; a token more takes a byte at least.
-use borrow.Author.Rules.{rules}
 use Prim.Native.Nat.{◌-◌, ◌≤◌}
 use mathlib.Core.Bool.{true}
-use mathlib.Core.Path.{◌≡◌, refl, sym, ◌∙◌}
-use native.Mathlib.Omega.{arith}
+use mathlib.Core.Path.{◌≡◌}
 use lib.ListN.{length}
 use Rattle.tokens.specs.Reading.{tokens_from}
 use Rattle.expressions.specs.Inner.Scanning.{right_form}
-use Rattle.expressions.proofs.Scans.{scan_ended, scan_wrong, scan-on, scan_moves}
 use Rattle.expressions.proofs.scanning.right_form.Given as goal
 
 abbrev pub invariant-loop-kind : goal.invariant-loop-kind

@@ -1,5 +1,4 @@
 -- The arms are the definition's clauses.
-use borrow.Author.Rules.{rules}
 use mathlib.Core.Bool.{Bool}
 use mathlib.Core.Path.{sym, ap₂, ◌∙◌}
 use Rattle.expressions.specs.Inner.Scanning.{scan_step}

@@ -1,5 +1,4 @@
 -- The arms are the definition's clauses.
-use borrow.Author.Rules.{rules}
 use mathlib.Core.Path.{sym, ap}
 use Rattle.expressions.specs.Inner.Parts.{start_of}
 use Rattle.expressions.proofs.symbols.start_of.Goals as goal

@@ -1,5 +1,4 @@
 -- The arms are the definition's clauses.
-use borrow.Author.Rules.{rules}
 use mathlib.Core.Path.{sym, ap}
 use Rattle.expressions.specs.Inner.Parts.{sum_mark}
 use Rattle.expressions.proofs.symbols.sum_mark.Goals as goal

@@ -1,5 +1,4 @@
 -- The arms are the definition's clauses.
-use borrow.Author.Rules.{rules}
 use mathlib.Core.Path.{sym, ap, ◌∙◌}
 use Rattle.expressions.specs.Reading.{kind_symbol}
 use Rattle.expressions.proofs.symbols.symbol_of.Goals as goal

@@ -1,10 +1,7 @@
 -- The arms are the definition's clauses: a fault of the left side, then one of the right, then the operation.
 use borrow.Author.Rules.{rules}
-use mathlib.Core.Path.{sym, ap, ap₂, ◌∙◌}
-use mir.Syntax.{w32}
-use mir.Facts.{to_z-of_z}
-use Rattle.expressions.specs.Worths.{operation}
-use Rattle.expressions.specs.Places.{found_at, evaluate}
+use mathlib.Core.Path.{sym, ap, ap₂}
+use Rattle.expressions.specs.Places.{evaluate}
 use Rattle.expressions.specs.declared.Found.{Found}
 use Rattle.expressions.proofs.worths.combined.Goals as goal
 

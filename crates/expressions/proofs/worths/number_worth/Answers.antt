@@ -1,5 +1,4 @@
 -- The test is the definition's, and a number up to 65535 is the same at 32 bits with a sign.
-use borrow.Author.Rules.{rules}
 use mathlib.Core.Path.{ap}
 use native.Mathlib.Omega.{arith}
 use borrow.Author.Tests.{le-leb, lt-leb}

@@ -1,5 +1,4 @@
 -- At 64 bits every operation on numbers of 32 bits is exact; the range is tested after it.
-use borrow.Author.Rules.{rules}
 use mathlib.Core.Path.{sym, ap, ◌∙◌}
 use mathlib.Core.Bool.{Bool, cond}
 use lib.IntN.{◌+ℤ◌, ◌-ℤ◌, ◌*ℤ◌}

@@ -2,7 +2,6 @@
 use mathlib.Core.Path.{sym, ap}
 use Rattle.numerals.specs.declared.Radix.{Radix}
 use Rattle.faults.specs.Forms.{decimal}
-use borrow.Author.Rules.{rules}
 use Rattle.faults.proofs.moves.behind_decimal.Goals as goal
 
 pub returns-in-Decimal : goal.returns-in-Decimal

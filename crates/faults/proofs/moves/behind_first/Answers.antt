@@ -1,4 +1,5 @@
 -- Five marks begin an operand.
+use native.Mathlib.Omega.{arith}
 use mathlib.Core.Path.{sym, ap}
 use Rattle.faults.specs.Forms.{starts}
 use Rattle.faults.proofs.Tests.{starts_none}
@@ -26,5 +27,4 @@ returns-in-36 c = sym (ap starts c.in-36.is)
 
 pub returns-in_default : goal.returns-in_default
 returns-in_default c =
-    let r = c.in_default.in_default-own.rest in
-    sym (starts_none c.args.b r.0.0.0.0.1 r.0.0.0.1 r.0.0.1 r.0.1 r.1)
+    sym (starts_none c.args.b (omega arith) (omega arith) (omega arith) (omega arith) (omega arith))

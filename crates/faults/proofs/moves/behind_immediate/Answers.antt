@@ -2,7 +2,6 @@
 use mathlib.Core.Path.{sym, ◌∙◌}
 use borrow.Author.Tests.{eq-eqb, ne_eqb}
 use Rattle.faults.proofs.Tests.{cond_is, cond-not}
-use borrow.Author.Rules.{rules}
 use Rattle.faults.proofs.moves.behind_immediate.Goals as goal
 
 pub returns-then-b-eq91 : goal.returns-then-b-eq91

@@ -1,4 +1,5 @@
 -- Three registers index.
+use native.Mathlib.Omega.{arith}
 use mathlib.Core.Path.{sym, ap}
 use Rattle.faults.specs.Forms.{indexes}
 use Rattle.faults.proofs.Tests.{indexes-none}
@@ -17,6 +18,4 @@ unfolding indexes
 returns-in-14 c = sym (ap indexes c.in-14.is)
 
 pub returns-in_default : goal.returns-in_default
-returns-in_default c =
-    let r = c.in_default.in_default-own.rest in
-    sym (indexes-none c.args.code r.0.0.1 r.0.1 r.1)
+returns-in_default c = sym (indexes-none c.args.code (omega arith) (omega arith) (omega arith))

@@ -1,7 +1,6 @@
 -- The test is the definition's.
 use mathlib.Core.Path.{sym}
 use Rattle.faults.proofs.Tests.{cond_is}
-use borrow.Author.Rules.{rules}
 use Rattle.faults.proofs.moves.behind_operand.Goals as goal
 
 pub returns-then-operand : goal.returns-then-operand

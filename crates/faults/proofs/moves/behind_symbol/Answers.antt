@@ -3,7 +3,6 @@ use mathlib.Core.Path.{sym, ap, ◌∙◌}
 use Rattle.expressions.specs.Inner.Scanning.{scan_step}
 use Rattle.expressions.specs.declared.Symbol.{Symbol}
 use Rattle.faults.specs.Forms.{scanned}
-use borrow.Author.Rules.{rules}
 use Rattle.faults.proofs.moves.behind_symbol.Goals as goal
 
 pub returns-in-On : goal.returns-in-On

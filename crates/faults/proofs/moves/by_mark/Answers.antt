@@ -4,7 +4,6 @@ use mathlib.Core.Path.{sym, ap, subst, ◌∙◌}
 use Rattle.faults.specs.Forms.{mark_step}
 use Rattle.faults.specs.Inner.Stages.{opens}
 use Rattle.faults.specs.declared.State.{State}
-use borrow.Author.Rules.{rules}
 use Rattle.faults.proofs.moves.by_mark.Goals as goal
 
 pub behind_symbol-requires : goal.behind_symbol-requires

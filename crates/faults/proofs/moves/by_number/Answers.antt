@@ -2,7 +2,6 @@
 use mathlib.Core.Path.{sym, ap, ◌∙◌}
 use Rattle.faults.specs.Forms.{decimal, number_step}
 use Rattle.faults.specs.declared.State.{State}
-use borrow.Author.Rules.{rules}
 use Rattle.faults.proofs.moves.by_number.Goals as goal
 
 pub returns-in-Start : goal.returns-in-Start

@@ -7,7 +7,6 @@ use Rattle.codes.specs.Registers.{is_register}
 use Rattle.faults.specs.Forms.{enter, indexes, word_step}
 use Rattle.faults.specs.declared.State.{State}
 use Rattle.faults.specs.declared.State.TheVariants.{Done, Closing, Dead}
-use borrow.Author.Rules.{rules}
 use Rattle.faults.proofs.moves.by_word.Goals as goal
 
 pub returns-in-Start : goal.returns-in-Start

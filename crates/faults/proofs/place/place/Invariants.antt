@@ -1,15 +1,10 @@
 -- The fault's place stays that from here on; a byte opens one parenthesis at most.
 use Prim.Native.Nat.{◌-◌, ◌≤◌}
-use mathlib.Core.Path.{◌≡◌, sym, subst, ◌∙◌}
-use native.Mathlib.Omega.{arith}
+use mathlib.Core.Path.{◌≡◌}
 use lib.ListN.{length}
-use borrow.Author.Tests.{not-true, not-false}
 use Rattle.faults.specs.Walk.{place}
 use Rattle.faults.specs.Inner.Stages.{opens_in}
-use Rattle.faults.specs.Inner.Turns.{lex_at, place_at, Turned}
-use Rattle.faults.proofs.Tests.{cond_is, cond-not}
-use Rattle.faults.proofs.Turns.{from_start, at-end}
-use borrow.Author.Rules.{rules}
+use Rattle.faults.specs.Inner.Turns.{lex_at, place_at}
 use Rattle.faults.proofs.place.place.Given as goal
 
 abbrev pub invariant-loop-at : goal.invariant-loop-at

@@ -3,7 +3,6 @@ use mathlib.Core.Path.{sym, ◌∙◌}
 use Rattle.faults.specs.Inner.Turns.{lex_at}
 use Rattle.faults.proofs.Tests.{stops-other, stops-comment}
 use Rattle.faults.proofs.Turns.{blank-parts, blank-live}
-use borrow.Author.Rules.{rules}
 use Rattle.faults.proofs.place.stopped.Goals as goal
 
 pub returns-then-b-ne59 : goal.returns-then-b-ne59

@@ -1,9 +1,7 @@
 -- Each way of the turn is one of the definition's (Turns).
 use mathlib.Core.Path.{sym, ◌∙◌}
 use native.Mathlib.Omega.{arith}
-use borrow.Author.Tests.{not-true, not-false}
 use Rattle.faults.proofs.Turns.{turn-grows, turn_dead, turn_on, turn-ends, grows-here}
-use borrow.Author.Rules.{rules}
 use Rattle.faults.proofs.place.turn.Goals as goal
 
 pub returns-then-grows : goal.returns-then-grows

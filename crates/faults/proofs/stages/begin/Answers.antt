@@ -4,7 +4,6 @@ use native.Mathlib.Omega.{arith}
 use Rattle.faults.specs.Walk.{between}
 use Rattle.faults.proofs.Lexing.{begin-blank, begin-mark}
 use Rattle.faults.proofs.Tests.{begin-ended, begin-first, begin-letter, begin-quote, begin-comment, begin-none}
-use borrow.Author.Rules.{rules}
 use Rattle.faults.proofs.stages.begin.Goals as goal
 
 pub returns-then-is_ended : goal.returns-then-is_ended

@@ -1,7 +1,6 @@
 -- The test is the definition's.
 use mathlib.Core.Path.{sym, ◌∙◌}
 use Rattle.faults.proofs.Tests.{cond_is, cond-not}
-use borrow.Author.Rules.{rules}
 use Rattle.faults.proofs.stages.comment.Goals as goal
 
 pub returns-then-is_final : goal.returns-then-is_final

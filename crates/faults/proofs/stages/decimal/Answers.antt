@@ -2,7 +2,6 @@
 use mathlib.Core.Path.{sym, ◌∙◌}
 use native.Mathlib.Omega.{arith}
 use Rattle.faults.proofs.Tests.{decimal_digit, decimal-ends}
-use borrow.Author.Rules.{rules}
 use Rattle.faults.proofs.stages.decimal.Goals as goal
 
 pub returns-then-rank_of-lt10 : goal.returns-then-rank_of-lt10

@@ -6,7 +6,6 @@ use mathlib.Core.Path.{sym, ap, ◌∙◌}
 use lib.Seq.{slice_empty}
 use Rattle.faults.specs.Walk.{live}
 use Rattle.faults.specs.Inner.Stages.{spelt}
-use borrow.Author.Rules.{rules}
 use Rattle.faults.proofs.stages.goes.Goals as goal
 
 pub returns : goal.returns

@@ -4,7 +4,6 @@ use mathlib.Core.Bool.{Bool, ◌&&◌}
 use mathlib.Core.Path.{sym, ap, ◌∙◌}
 use lib.Dec.{ltb}
 use Rattle.numerals.specs.Bytes.{rank}
-use borrow.Author.Rules.{rules}
 use Rattle.faults.proofs.stages.grows.Goals as goal
 
 pub returns-then-in_word : goal.returns-then-in_word

@@ -2,7 +2,6 @@
 use mathlib.Core.Path.{sym, ◌∙◌}
 use native.Mathlib.Omega.{arith}
 use Rattle.faults.proofs.Tests.{hexadecimal-digit, hexadecimal-ends}
-use borrow.Author.Rules.{rules}
 use Rattle.faults.proofs.stages.hexadecimal.Goals as goal
 
 pub returns-then-rank_of-lt16 : goal.returns-then-rank_of-lt16

@@ -5,7 +5,6 @@ use Rattle.faults.specs.Forms.{lives}
 use Rattle.faults.specs.Walk.{live}
 use Rattle.faults.specs.Inner.Stages.{spelt}
 use Rattle.faults.specs.declared.Stage.{Stage}
-use borrow.Author.Rules.{rules}
 use Rattle.faults.proofs.stages.live.Goals as goal
 
 pub returns-in-Between : goal.returns-in-Between

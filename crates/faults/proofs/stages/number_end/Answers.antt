@@ -2,7 +2,6 @@
 use mathlib.Core.Path.{sym, ◌∙◌}
 use native.Mathlib.Omega.{arith}
 use Rattle.faults.proofs.Tests.{number-letter, number_open, number-after}
-use borrow.Author.Rules.{rules}
 use Rattle.faults.proofs.stages.number_end.Goals as goal
 
 pub returns-then-rank_of-lt17 : goal.returns-then-rank_of-lt17

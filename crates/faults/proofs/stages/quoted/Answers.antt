@@ -2,7 +2,6 @@
 use mathlib.Core.Path.{sym, ap, ◌∙◌}
 use Rattle.faults.specs.Walk.{between}
 use Rattle.faults.proofs.Tests.{quoted-closes, quoted_escapes, quoted-low, quoted_high, quoted-plain}
-use borrow.Author.Rules.{rules}
 use Rattle.faults.proofs.stages.quoted.Goals as goal
 
 pub returns-then-b-eq34 : goal.returns-then-b-eq34

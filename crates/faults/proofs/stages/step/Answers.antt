@@ -6,7 +6,6 @@ use Rattle.faults.specs.Walk.{grows, step}
 use Rattle.faults.specs.Inner.Stages.{spelt, opens_in}
 use Rattle.faults.specs.declared.Stage.{Stage}
 use Rattle.faults.proofs.Tests.{cond-not}
-use borrow.Author.Rules.{rules}
 use Rattle.faults.proofs.stages.step.Goals as goal
 
 pub begin-requires : goal.begin-requires

@@ -2,7 +2,6 @@
 use mathlib.Core.Path.{sym, ◌∙◌}
 use lib.Seq.{slice}
 use Rattle.faults.proofs.Tests.{word-label, word_open, word-other, word-inner}
-use borrow.Author.Rules.{rules}
 use Rattle.faults.proofs.stages.word_end.Goals as goal
 
 pub begin-requires : goal.begin-requires

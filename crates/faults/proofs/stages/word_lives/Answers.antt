@@ -3,7 +3,6 @@ use mathlib.Core.Bool.{Bool, ◌||◌}
 use mathlib.Core.Path.{sym, ap, ◌∙◌}
 use lib.Seq.{slice}
 use Rattle.faults.specs.Forms.{word_step, lives}
-use borrow.Author.Rules.{rules}
 use Rattle.faults.proofs.stages.word_lives.Goals as goal
 
 pub returns-then-is_start : goal.returns-then-is_start

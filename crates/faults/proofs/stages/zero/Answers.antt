@@ -2,7 +2,6 @@
 use mathlib.Core.Path.{sym, ◌∙◌}
 use native.Mathlib.Omega.{arith}
 use Rattle.faults.proofs.Tests.{zero-digit, zero_x, zero-ends}
-use borrow.Author.Rules.{rules}
 use Rattle.faults.proofs.stages.zero.Goals as goal
 
 pub returns-then-rank_of-lt10 : goal.returns-then-rank_of-lt10

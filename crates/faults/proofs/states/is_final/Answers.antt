@@ -1,7 +1,6 @@
 -- The arms are the definition's clauses.
 use mathlib.Core.Path.{sym, ap, ◌∙◌}
 use Rattle.faults.specs.Forms.{final}
-use borrow.Author.Rules.{rules}
 use Rattle.faults.proofs.states.is_final.Goals as goal
 
 pub returns-in-Start : goal.returns-in-Start

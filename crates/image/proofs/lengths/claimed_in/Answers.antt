@@ -18,7 +18,7 @@ pub loop-i-preserved : goal.loop-i-preserved
 loop-i-preserved c =
     let marks = c.args.map.now in
     elim c.if-map-i-ne-FREE.branch [
-      then-map-i-ne-FREE w ↦ omega (arith, claimed-more marks c.loop-i.i (omega arith) w.if-map-i-ne-FREE.true)
+      | then-map-i-ne-FREE w ↦ omega (arith, claimed-more marks c.loop-i.i (omega arith) w.if-map-i-ne-FREE.true)
       | else-map-i-ne-FREE w ↦ omega (arith, claimed-free marks c.loop-i.i (omega arith) w.if-map-i-ne-FREE.false)
     ]
 

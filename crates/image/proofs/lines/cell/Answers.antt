@@ -1,4 +1,4 @@
--- Three texts, one behind the other (`wrote_on`, `wrote-byte`); a free cell writes none.
+-- Three texts, one behind the other (`wrote_on`, `wrote_byte`); a free cell writes none.
 use native.Mathlib.Omega.{arith}
 use lib.ListN.{length-append}
 use Rattle.image.proofs.Texts.{piece-free, piece-claimed, piece-length}

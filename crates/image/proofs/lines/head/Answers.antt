@@ -1,4 +1,4 @@
--- Three texts, one behind the other (`wrote_on`, `wrote-byte`).
+-- Three texts, one behind the other (`wrote_on`, `wrote_byte`).
 use native.Mathlib.Omega.{arith}
 use lib.ListN.{length-append}
 use Rattle.image.proofs.Texts.{head-length, head-text}

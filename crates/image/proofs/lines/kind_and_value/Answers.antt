@@ -1,4 +1,4 @@
--- The three texts of the three kinds (`kind-reserved`, `kind-code`, `kind-data`).
+-- The three texts of the three kinds (`kind-reserved`, `kind-code`, `kind_data`).
 use mathlib.Core.Path.{sym}
 use Rattle.texts.proofs.Rooms.{wrote_as}
 use native.Mathlib.Omega.{arith}

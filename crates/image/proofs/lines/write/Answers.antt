@@ -1,4 +1,4 @@
--- The lines before the cells, then the cells behind them (`wrote-image`).
+-- The lines before the cells, then the cells behind them (`wrote_image`).
 use native.Mathlib.Omega.{arith}
 use Rattle.image.specs.Image.{claimed}
 use lib.ListN.{length}

@@ -1,12 +1,9 @@
 -- One turn of the loop passes one token; what is left to search has the same place (Located).
-use borrow.Author.Rules.{rules}
 use Prim.Native.Nat.{◌-◌}
-use mathlib.Core.Path.{◌≡◌, refl, sym, ◌∙◌}
-use native.Mathlib.Omega.{arith}
+use mathlib.Core.Path.{◌≡◌}
 use lib.ListN.{length}
 use Rattle.tokens.specs.Reading.{tokens_from}
 use Rattle.items.specs.Places.{out_from, number_out_in}
-use Rattle.items.proofs.Located.{is-out, passed, moves}
 use Rattle.items.proofs.places.number_out.Given as goal
 
 abbrev pub invariant-loop-kind : goal.invariant-loop-kind

@@ -1,5 +1,4 @@
 -- The item there, where one begins (Located).
-use borrow.Author.Rules.{rules}
 use mathlib.Core.Path.{sym, ◌∙◌}
 use Rattle.tokens.specs.Reading.{tokens_from}
 use Rattle.items.proofs.Located.{found-out, absent-out, begun, not-begun}

@@ -1,16 +1,11 @@
 -- The loop's invariant: the verdict on the whole row is the verdict on what is left, with the cells and the ranges of what is read; and
 -- no more cells are counted than bytes passed. Each turn is a law of Walks.antt. The measure is what is left of the line.
 use Prim.Native.Nat.{◌-◌, ◌≤◌}
-use borrow.Author.Rules.{rules}
-use mathlib.Core.Path.{◌≡◌, sym, ◌∙◌}
-use native.Mathlib.Omega.{arith}
+use mathlib.Core.Path.{◌≡◌}
 use lib.ListN.{length}
 use Rattle.tokens.specs.Reading.{tokens_from}
-use Rattle.tokens.proofs.Parted.{comma-moves}
 use Rattle.items.specs.Reading.{item, walk, items_read}
 use Rattle.items.specs.Inner.Turns.{verdict}
-use Rattle.items.proofs.Measures.{found-item}
-use Rattle.items.proofs.Walks.{verdict-start, turn-absent, turn-over, turn-neither, turn-comma}
 use Rattle.items.proofs.reading.items.Given as goal
 
 abbrev pub invariant-loop-n : goal.invariant-loop-n

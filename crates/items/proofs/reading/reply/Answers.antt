@@ -1,5 +1,4 @@
 -- By the flag.
-use borrow.Author.Rules.{rules}
 use Rattle.items.proofs.reading.reply.Goals as goal
 
 pub returns-then-fit : goal.returns-then-fit

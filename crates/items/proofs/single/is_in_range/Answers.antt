@@ -1,7 +1,6 @@
 -- A number is in range exactly where a cell keeps it.
 use mathlib.Core.Path.{sym, ◌∙◌}
 use Rattle.items.proofs.Measures.{kept_in, kept_out}
-use borrow.Author.Rules.{rules}
 use Rattle.items.proofs.single.is_in_range.Goals as goal
 
 pub returns-in-Cell : goal.returns-in-Cell

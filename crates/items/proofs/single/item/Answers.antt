@@ -3,7 +3,6 @@ use mathlib.Core.Path.{sym, ap, ◌∙◌}
 use Rattle.values.specs.declared.Value.{Value}
 use Rattle.values.specs.declared.ValueRead.TheVariants as R
 use Rattle.items.proofs.Measures.{number-measured, label-measured, other-measured}
-use borrow.Author.Rules.{rules}
 use Rattle.items.proofs.single.item.Goals as goal
 
 pub returns-in-Number : goal.returns-in-Number

@@ -1,7 +1,6 @@
 -- By the kind of the token: a string has the characters that are counted, and there are fewer of them than bytes (Measures.antt).
 use native.Mathlib.Omega.{arith}
 use Rattle.items.proofs.Measures.{string-begins, string-short, string-measured}
-use borrow.Author.Rules.{rules}
 use Rattle.items.proofs.single.string_item.Goals as goal
 
 pub overflow_add-start : goal.overflow_add-start

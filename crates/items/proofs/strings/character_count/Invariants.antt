@@ -1,11 +1,8 @@
 -- The loop's invariant: what is left of the string at `i` has all but `count` of its characters (Counts.antt), each of a byte at least.
 -- The measure is what is left of the line.
-use borrow.Author.Rules.{rules}
 use Prim.Native.Nat.{◌+◌, ◌-◌, ◌≤◌}
-use mathlib.Core.Path.{sym, ◌∙◌}
-use native.Mathlib.Omega.{arith}
 use lib.ListN.{length}
-use Rattle.items.proofs.Counts.{Left, character_moves, count-start, count_on, count-closed, count-broken, count-over}
+use Rattle.items.proofs.Counts.{Left}
 use Rattle.items.proofs.strings.character_count.Given as goal
 
 abbrev pub invariant-loop-i : goal.invariant-loop-i

@@ -2,7 +2,6 @@
 use mathlib.Core.Path.{sym}
 use native.Mathlib.Omega.{arith}
 use lib.Seq.{set_out}
-use borrow.Author.Rules.{rules}
 use Rattle.items.proofs.writing.put.Goals as goal
 
 pub returns-then-row-at : goal.returns-then-row-at

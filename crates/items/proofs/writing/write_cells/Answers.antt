@@ -3,7 +3,6 @@ use mathlib.Core.Path.{sym, ◌∙◌}
 use Rattle.tokens.specs.Reading.{tokens_from}
 use Rattle.items.specs.Writing.{cells_from}
 use Rattle.items.proofs.Writes.{given, cells-accepted}
-use borrow.Author.Rules.{rules}
 use Rattle.items.proofs.writing.write_cells.Goals as goal
 
 pub write_items-requires : goal.write_items-requires

@@ -4,7 +4,6 @@ use mathlib.Core.Path.{sym, ap, ◌∙◌}
 use Rattle.values.specs.declared.Value.{Value}
 use Rattle.values.specs.declared.ValueRead.TheVariants as R
 use Rattle.items.proofs.Writes.{number-written, number-out, label-written, other-written}
-use borrow.Author.Rules.{rules}
 use Rattle.items.proofs.writing.write_item.Goals as goal
 
 pub returns-in-Cell : goal.returns-in-Cell

@@ -1,17 +1,9 @@
 -- The loop's invariant: the items that are left are accepted, and their cells, written from `at + k` on, give what all of them give; and no
 -- more cells are written than bytes passed. Each turn is a law of Writes.antt. The measure is what is left of the line.
-use Prim.Native.Nat.{◌+◌, ◌-◌, ◌≤◌}
-use borrow.Author.Rules.{rules}
-use mathlib.Core.Bool.{true}
-use mathlib.Core.Path.{◌≡◌, refl, sym, ◌∙◌}
+use Prim.Native.Nat.{◌+◌}
+use mathlib.Core.Path.{refl, sym, ◌∙◌}
 use native.Mathlib.Nat.{add-zero}
 use native.Mathlib.Omega.{arith}
-use lib.ListN.{length}
-use lib.Seq.{sets}
-use Rattle.tokens.specs.Reading.{tokens_from}
-use Rattle.items.specs.Reading.{item, walk}
-use Rattle.items.specs.Inner.Turns.{accepted}
-use Rattle.items.specs.Writing.{cells_from}
 use Rattle.items.proofs.Measures.{found-item}
 use Rattle.tokens.proofs.Parted.{comma-moves}
 use Rattle.items.proofs.Writes.{some_item, some_end, last_written, next-accepted, next-written}

@@ -1,12 +1,10 @@
 -- The loop's invariant: what is left of the string at `i`, written from `at + n` on, gives what the whole string gives (Writes.antt); and
 -- no more cells are written than bytes passed. The measure is what is left of the line.
-use borrow.Author.Rules.{rules}
-use Prim.Native.Nat.{◌+◌, ◌-◌, ◌≤◌}
-use mathlib.Core.Path.{◌≡◌, refl, sym, ◌∙◌}
+use Prim.Native.Nat.{◌+◌}
+use mathlib.Core.Path.{refl, sym, ◌∙◌}
 use native.Mathlib.Omega.{arith}
-use lib.ListN.{length}
 use Rattle.items.proofs.Counts.{character_moves}
-use Rattle.items.proofs.Writes.{Left, string-start, string_on, string-closed, string-broken, string-over}
+use Rattle.items.proofs.Writes.{string-start, string_on, string-closed, string-broken, string-over}
 use Rattle.items.proofs.writing.write_string.Goals as goal
 
 pub loop-i-init : goal.loop-i-init

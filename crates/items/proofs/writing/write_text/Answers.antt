@@ -3,7 +3,6 @@ use Prim.Native.Nat.{◌+◌}
 use native.Mathlib.Omega.{arith}
 use Rattle.items.proofs.Measures.{quote_at, string-begins}
 use Rattle.items.proofs.Writes.{text-written}
-use borrow.Author.Rules.{rules}
 use Rattle.items.proofs.writing.write_text.Goals as goal
 
 pub overflow_add-start : goal.overflow_add-start

@@ -1,13 +1,7 @@
-use borrow.Author.Rules.{rules}
-use mathlib.Core.Path.{◌≡◌, refl, sym, ◌∙◌}
+use mathlib.Core.Path.{◌≡◌}
 use mathlib.Core.List.{◌++◌}
-use native.Mathlib.Omega.{arith}
-use Prim.Native.Nat.{ℕ, ◌+◌, ◌-◌, ◌≤◌}
+use Prim.Native.Nat.{◌-◌, ◌≤◌}
 use lib.ListN.{length, take, replicate}
-use native.Mathlib.Nat.{sub_self}
-use lib.ListN.{length-set}
-use mathlib.Core.List.{append-nil}
-use Rattle.labels.proofs.Laws.{filled_more}
 use Rattle.labels.proofs.bound.fill.Given as goal
 
 abbrev pub invariant-loop-i : goal.invariant-loop-i

@@ -1,7 +1,5 @@
 use mathlib.Core.Path.{sym}
-use Prim.Native.Nat.{◌-◌}
 use lib.ListN.{get_or-eq_default}
-use borrow.Author.Rules.{rules}
 use Rattle.labels.proofs.chains.byte.Goals as goal
 
 pub returns : goal.returns

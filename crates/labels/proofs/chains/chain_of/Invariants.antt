@@ -1,9 +1,6 @@
-use borrow.Author.Rules.{rules}
-use Prim.Native.Nat.{ℕ, ◌+◌, ◌*◌, ◌-◌, ◌%◌, ◌≤◌, ◌<◌}
-use mathlib.Core.Path.{◌≡◌, refl, ap₂, ◌∙◌}
-use native.Mathlib.Omega.{arith}
+use Prim.Native.Nat.{◌+◌, ◌-◌, ◌≤◌, ◌<◌}
+use mathlib.Core.Path.{◌≡◌}
 use Rattle.labels.specs.Inner.Labels.{window, chain_of, chains}
-use Rattle.labels.proofs.Laws.{chain_none, chain_more}
 use Rattle.labels.proofs.chains.chain_of.Given as goal
 
 abbrev pub invariant-loop-i : goal.invariant-loop-i

@@ -2,7 +2,6 @@ use Prim.Native.Nat.{ℕ, ◌+◌, ◌*◌, ◌-◌}
 use mathlib.Core.Path.{◌≡◌, sym, ap, ◌∙◌}
 use Rattle.labels.proofs.Laws.{key-none, key-some}
 use lib.ListN.{get_or}
-use borrow.Author.Rules.{rules}
 use Rattle.labels.proofs.chains.key.Goals as goal
 
 pub returns-then-n-eq0 : goal.returns-then-n-eq0

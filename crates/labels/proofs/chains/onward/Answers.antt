@@ -1,6 +1,5 @@
 use mathlib.Core.Path.{◌∙◌, sym}
 use Rattle.labels.proofs.Laws.{onward-none, onward-out, onward-other, onward-here}
-use borrow.Author.Rules.{rules}
 use Rattle.labels.proofs.chains.onward.Goals as goal
 
 pub returns-then-named-eq0 : goal.returns-then-named-eq0

@@ -1,11 +1,10 @@
-use borrow.Author.Rules.{rules}
 use Prim.Native.Nat.{◌+◌, ◌-◌}
 use mathlib.Core.Path.{◌≡◌, sym, ap, ◌∙◌}
 use native.Mathlib.Omega.{arith}
 use lib.ListN.{get_or}
-use Rattle.labels.specs.Inner.Labels.{window, onward, lasts_from, links_from, InCell}
+use Rattle.labels.specs.Inner.Labels.{window, onward, lasts_from, links_from}
 use Rattle.labels.proofs.Laws.{chain_small}
-use Rattle.labels.proofs.Walks.{Walked, onward-within, onward-below, no-word, walk-starts, walk_on, walk_ends}
+use Rattle.labels.proofs.Walks.{onward-within, onward-below, no-word, walk-starts, walk_on, walk_ends}
 use Rattle.labels.proofs.finding.find.Goals as goal
 use Rattle.labels.proofs.finding.find.Goals.{then-is_named, else-is_named}
 
@@ -69,8 +68,8 @@ loop-named-preserved c =
     c.if-is_named.found in
     let named = sym c.is_named.ensures in (
       elim c.if-is_named.branch [
-        then-is_named w ↦ walk.0 (named ∙ w.if-is_named.true) w.found-is
-      | else-is_named w ↦ walk.1 (named ∙ w.if-is_named.false) w.found-is
+        | then-is_named w ↦ walk.0 (named ∙ w.if-is_named.true) w.found-is
+        | else-is_named w ↦ walk.1 (named ∙ w.if-is_named.false) w.found-is
       ],
       omega (arith, h, c.onward-named-in-loop-named.ensures, c.loop-named.invariant.1),
     )

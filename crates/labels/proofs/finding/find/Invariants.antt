@@ -1,12 +1,5 @@
-use borrow.Author.Rules.{rules}
-use Prim.Native.Nat.{◌+◌, ◌-◌}
-use mathlib.Core.Path.{◌≡◌, sym, ap, ◌∙◌}
-use native.Mathlib.Omega.{arith}
-use lib.ListN.{get_or}
-use mathlib.Core.Logic.{⊎_elim}
-use Rattle.labels.specs.Inner.Labels.{window, onward, lasts_from, links_from, InCell}
-use Rattle.labels.proofs.Laws.{chain_small}
-use Rattle.labels.proofs.Walks.{Walked, onward-within, onward-below, no-word, walk-starts, walk_on, walk_ends}
+use Rattle.labels.specs.Inner.Labels.{window, InCell}
+use Rattle.labels.proofs.Walks.{Walked}
 use Rattle.labels.proofs.finding.find.Given as goal
 
 abbrev pub invariant-loop-named : goal.invariant-loop-named

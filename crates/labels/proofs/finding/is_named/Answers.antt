@@ -4,7 +4,6 @@ use native.Mathlib.Omega.{arith}
 use lib.ListN.{get_or}
 use Rattle.labels.specs.Inner.Labels.{window}
 use Rattle.labels.proofs.Laws.{key-other, key-same}
-use borrow.Author.Rules.{rules}
 use Rattle.labels.proofs.finding.is_named.Goals as goal
 
 pub overflow_cast-keys : goal.overflow_cast-keys

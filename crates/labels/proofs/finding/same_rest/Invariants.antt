@@ -1,11 +1,7 @@
-use borrow.Author.Rules.{rules}
 use Prim.Native.Nat.{◌+◌, ◌-◌, ◌≤◌}
-use mathlib.Core.Path.{◌≡◌, refl, sym, ◌∙◌}
-use native.Mathlib.Omega.{arith}
-use lib.ListN.{get_or}
+use mathlib.Core.Path.{◌≡◌}
 use Rattle.labels.specs.Inner.Labels.{window}
 use Rattle.names.specs.Names.{same}
-use Rattle.labels.proofs.Laws.{same_more, same_stop, same_end}
 use Rattle.labels.proofs.finding.same_rest.Given as goal
 
 abbrev pub invariant-loop-i : goal.invariant-loop-i

@@ -3,7 +3,6 @@ use Prim.Native.Nat.{◌+◌}
 use mathlib.Core.Path.{refl}
 use native.Mathlib.Omega.{arith}
 use lib.Seq.{lt-length-set}
-use borrow.Author.Rules.{rules}
 use Rattle.labels.specs.Inner.Labels.{links_from}
 use Rattle.labels.proofs.Laws.{key-small}
 use Rattle.labels.proofs.Holds.{numbered, lt_numbered, chain_below, takes-word}

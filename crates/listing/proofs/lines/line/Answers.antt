@@ -1,4 +1,4 @@
--- A line, and one byte more (`wrote-byte`).
+-- A line, and one byte more (`wrote_byte`).
 -- Assumes nothing.
 use native.Mathlib.Omega.{arith}
 use Rattle.texts.proofs.Rooms.{wrote_byte}

@@ -1,4 +1,4 @@
--- Three texts, one behind the other, the second a register's name by its letters (`brackets-text`).
+-- Three texts, one behind the other, the second a register's name by its letters (`brackets_text`).
 -- Assumes nothing.
 use Prim.Native.Nat.{◌≤◌}
 use native.Mathlib.Omega.{arith}

@@ -1,4 +1,4 @@
--- A space and one operand, or a comma and the other behind them (`field-one`, `field-two`); nothing where there is none.
+-- A space and one operand, or a comma and the other behind them (`field_one`, `field_two`); nothing where there is none.
 -- Assumes nothing.
 use native.Mathlib.Omega.{arith}
 use mathlib.Core.Path.{sym, ◌∙◌}

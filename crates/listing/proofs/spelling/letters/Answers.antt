@@ -1,4 +1,4 @@
--- Each letter leaves those of the number that is left (`spelling-more`).
+-- Each letter leaves those of the number that is left (`spelling_more`).
 -- Assumes nothing.
 use borrow.Author.Rules.{rules}
 use native.Mathlib.Omega.{arith}

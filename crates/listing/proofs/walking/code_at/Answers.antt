@@ -1,4 +1,4 @@
--- The decoder's reply decides; an instruction's words lie in memory (`encode-decode`), so their marks are there.
+-- The decoder's reply decides; an instruction's words lie in memory (`encode_decode`), so their marks are there.
 use native.Mathlib.Omega.{arith}
 use mathlib.Core.Path.{sym, ◌∙◌}
 use Rattle.isa.proofs.RoundTrip.{encode_decode}

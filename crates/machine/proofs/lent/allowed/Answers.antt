@@ -6,7 +6,6 @@ use Rattle.isa.proofs.Refusals.{word-missing, word-whole}
 use Rattle.machine.specs.Inner.Lent.{running, instruction_at}
 use Rattle.machine.proofs.Answers.{refused-left}
 use Rattle.machine.proofs.Fetching.{unless}
-use borrow.Author.Rules.{rules}
 use Rattle.machine.proofs.lent.allowed.Goals as goal
 
 pub returns-then-m-at : goal.returns-then-m-at

@@ -3,7 +3,6 @@ use native.Mathlib.Omega.{arith}
 use Rattle.ports.proofs.Laws.{WRCHAR-keeps, WRINT-keeps, WRSTR-keeps, INSTR-keeps}
 use Rattle.machine.specs.Steps.{asks}
 use Rattle.machine.proofs.Answers.{refused-row}
-use borrow.Author.Rules.{rules}
 use Rattle.machine.proofs.lent.ask.Goals as goal
 
 pub returns-in-TakeByte : goal.returns-in-TakeByte

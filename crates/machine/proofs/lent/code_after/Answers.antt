@@ -1,5 +1,4 @@
 use borrow.Author.Tests.{le-leb, lt-leb}
-use borrow.Author.Rules.{rules}
 use Rattle.codes.specs.Stops.{no_opcode, zero_divisor}
 use Rattle.machine.proofs.lent.code_after.Goals as goal
 

@@ -1,6 +1,5 @@
 use Rattle.effects.proofs.Laws.{memory-length}
 use Rattle.machine.specs.Steps.{does}
-use borrow.Author.Rules.{rules}
 use Rattle.machine.proofs.lent.do_effect.Goals as goal
 
 pub returns : goal.returns

@@ -3,7 +3,6 @@ use Rattle.isa.specs.Opcodes.{table}
 use Rattle.isa.proofs.FirstWords.{when_allowed}
 use Rattle.effects.proofs.Performing.{second_no_target}
 use Rattle.machine.proofs.Fetching.{fetches}
-use borrow.Author.Rules.{rules}
 use Rattle.machine.proofs.lent.fetched.Goals as goal
 
 pub returns : goal.returns

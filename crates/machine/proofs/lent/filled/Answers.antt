@@ -1,6 +1,4 @@
-use mathlib.Core.Path.{◌∙◌}
 use Rattle.machine.proofs.Answers.{refused-left}
-use borrow.Author.Rules.{rules}
 use Rattle.machine.proofs.lent.filled.Goals as goal
 
 pub returns-in-To : goal.returns-in-To

@@ -1,5 +1,4 @@
 use Rattle.machine.specs.Steps.{goes_on}
-use borrow.Author.Rules.{rules}
 use Rattle.machine.proofs.lent.go_on.Goals as goal
 
 pub returns : goal.returns

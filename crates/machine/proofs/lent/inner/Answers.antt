@@ -4,7 +4,6 @@ use Rattle.isa.proofs.FirstWords.{when_no_opcode, when_no_mode}
 use Rattle.isa.proofs.Refusals.{past_the_end, at_a_word, word_no_opcode, word_no_mode}
 use Rattle.machine.specs.Steps.{runs_on}
 use Rattle.machine.proofs.Answers.{refused-left}
-use borrow.Author.Rules.{rules}
 use Rattle.machine.proofs.lent.inner.Goals as goal
 
 pub returns-then-m-at : goal.returns-then-m-at

@@ -1,5 +1,4 @@
 use Rattle.machine.proofs.Answers.{refused-left}
-use borrow.Author.Rules.{rules}
 use Rattle.machine.proofs.lent.printed.Goals as goal
 
 pub returns-in-To : goal.returns-in-To

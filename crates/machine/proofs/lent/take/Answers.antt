@@ -1,5 +1,4 @@
 use Rattle.machine.proofs.Answers.{refused-left}
-use borrow.Author.Rules.{rules}
 use Rattle.machine.proofs.lent.take.Goals as goal
 
 pub returns-in-Value : goal.returns-in-Value

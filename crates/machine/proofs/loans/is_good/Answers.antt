@@ -1,8 +1,7 @@
 -- `machine::loans::is_good` meets its contract: each test is a fact of a good loan, and the last is its result.
 use mathlib.Core.Path.{sym}
 use native.Mathlib.Omega.{arith}
-use borrow.Author.Rules.{rules}
-use Rattle.machine.proofs.GoodLoans.{Good, not_good, good_but_code}
+use Rattle.machine.proofs.GoodLoans.{not_good, good_but_code}
 use Rattle.machine.proofs.loans.is_good.Goals as goal
 
 pub returns-then-m-eq0 : goal.returns-then-m-eq0

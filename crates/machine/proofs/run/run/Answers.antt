@@ -1,7 +1,5 @@
 use mathlib.Core.Path.{sym, ◌∙◌}
-use borrow.Author.Tests.{not-true, not-false}
 use Rattle.machine.proofs.Runs.{run_past, run-within, run-bad, run-stopped}
-use borrow.Author.Rules.{rules}
 use Rattle.machine.proofs.run.run.Goals as goal
 
 pub returns-then-budget-gt-LARGEST_BUDGET : goal.returns-then-budget-gt-LARGEST_BUDGET

@@ -1,14 +1,7 @@
-use mathlib.Core.Path.{◌≡◌, refl, sym, ap, ◌∙◌}
-use mathlib.Core.Bool.{true}
-use Prim.Native.Nat.{◌-◌, ◌≤◌}
+use mathlib.Core.Path.{refl, sym, ap, ◌∙◌}
 use native.Mathlib.Omega.{arith}
-use lib.ListN.{length}
-use borrow.Author.Rules.{rules}
 use borrow.Author.Tests.{not-true, not-false}
-use Rattle.machine.specs.Stops.{good_loan}
-use Rattle.machine.specs.Inner.Lent.{running}
 use Rattle.machine.specs.Runs.{run_of}
-use Rattle.machine.proofs.Runs.{later}
 use Rattle.machine.proofs.Turns.{is_running, running-good, turn-first, turn-none, turn-refused, turn-ended, turn_more, turn-good}
 use Rattle.machine.proofs.run.running_on.Goals as goal
 

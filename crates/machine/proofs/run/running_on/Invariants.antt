@@ -1,15 +1,11 @@
-use mathlib.Core.Path.{◌≡◌, refl, sym, ap, ◌∙◌}
+use mathlib.Core.Path.{◌≡◌}
 use mathlib.Core.Bool.{true}
 use Prim.Native.Nat.{◌-◌, ◌≤◌}
-use native.Mathlib.Omega.{arith}
 use lib.ListN.{length}
-use borrow.Author.Rules.{rules}
-use borrow.Author.Tests.{not-true, not-false}
 use Rattle.machine.specs.Stops.{good_loan}
 use Rattle.machine.specs.Inner.Lent.{running}
 use Rattle.machine.specs.Runs.{run_of}
 use Rattle.machine.proofs.Runs.{later}
-use Rattle.machine.proofs.Turns.{is_running, running-good, turn-first, turn-none, turn-refused, turn-ended, turn_more, turn-good}
 use Rattle.machine.proofs.run.running_on.Given as goal
 
 abbrev pub invariant-loop-count : goal.invariant-loop-count

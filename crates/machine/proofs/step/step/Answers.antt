@@ -1,6 +1,5 @@
 -- A step is a run of one step (`reply-by-run`), whose promise gives the state after it and the stop.
-use mathlib.Core.Path.{◌≡◌, ap, ◌∙◌}
-use borrow.Author.Rules.{rules}
+use mathlib.Core.Path.{ap, ◌∙◌}
 use Rattle.machine.specs.States.{state}
 use Rattle.machine.specs.Steps.{reply}
 use Rattle.machine.specs.Runs.{Ending}

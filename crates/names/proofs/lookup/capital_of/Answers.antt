@@ -1,6 +1,5 @@
 -- The tests are the two of the definition. Assumes nothing.
 use borrow.Author.Tests.{le-leb, lt-leb}
-use borrow.Author.Rules.{rules}
 use Rattle.names.specs.Names.{capital}
 use Rattle.names.proofs.lookup.capital_of.Goals as goal
 

@@ -1,6 +1,5 @@
 -- The tests are the two of the definition. Assumes nothing.
 use borrow.Author.Tests.{le-leb, lt-leb}
-use borrow.Author.Rules.{rules}
 use Rattle.names.specs.Inner.Packing.{digit}
 use Rattle.names.proofs.lookup.digit_of.Goals as goal
 

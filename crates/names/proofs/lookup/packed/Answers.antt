@@ -1,5 +1,4 @@
 -- An end behind the bytes gives the same part as their length. Assumes nothing.
-use borrow.Author.Rules.{rules}
 use mathlib.Core.Path.{◌∙◌}
 use native.Mathlib.Omega.{arith}
 use Rattle.names.proofs.Packs.{number-within}

@@ -1,12 +1,10 @@
 -- The loop holds the number of the bytes from its place on, which so few bytes keep below 48 bits. Assumes nothing.
-use borrow.Author.Rules.{rules}
-use Prim.Native.Nat.{◌-◌, ◌≤◌, ◌<◌}
-use mathlib.Core.List.{map}
+use Prim.Native.Nat.{◌-◌}
 use mathlib.Core.Path.{◌≡◌, sym, ◌∙◌}
 use native.Mathlib.Omega.{arith}
-use lib.Seq.{slice, slice_empty}
-use Rattle.names.specs.Inner.Packing.{pack, digit}
-use Rattle.names.proofs.Packs.{number-none, number-long, number_short, room, room_six, room-step, pack-step}
+use lib.Seq.{slice_empty}
+use Rattle.names.specs.Inner.Packing.{pack}
+use Rattle.names.proofs.Packs.{number-none, number-long, number_short, room_six, room-step, pack-step}
 use Rattle.names.proofs.lookup.packed_within.Goals as goal
 
 pub returns-then-end-start : goal.returns-then-end-start

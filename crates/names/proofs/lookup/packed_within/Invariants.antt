@@ -1,12 +1,10 @@
 -- The loop holds the number of the bytes from its place on, which so few bytes keep below 48 bits. Assumes nothing.
-use borrow.Author.Rules.{rules}
 use Prim.Native.Nat.{◌-◌, ◌≤◌, ◌<◌}
 use mathlib.Core.List.{map}
-use mathlib.Core.Path.{◌≡◌, sym, ◌∙◌}
-use native.Mathlib.Omega.{arith}
-use lib.Seq.{slice, slice_empty}
+use mathlib.Core.Path.{◌≡◌}
+use lib.Seq.{slice}
 use Rattle.names.specs.Inner.Packing.{pack, digit}
-use Rattle.names.proofs.Packs.{number-none, number-long, number_short, room, room_six, room-step, pack-step}
+use Rattle.names.proofs.Packs.{room}
 use Rattle.names.proofs.lookup.packed_within.Given as goal
 
 abbrev pub invariant-loop-i : goal.invariant-loop-i

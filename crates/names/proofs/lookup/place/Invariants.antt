@@ -1,11 +1,8 @@
 -- The loop's place and the place in what is left make the number's place. Assumes nothing.
-use borrow.Author.Rules.{rules}
 use Prim.Native.Nat.{◌+◌, ◌-◌, ◌≤◌}
 use mathlib.Core.Path.{◌≡◌}
-use native.Mathlib.Omega.{arith}
 use lib.ListN.{length, drop}
 use Rattle.names.specs.Inner.Packing.{place_of}
-use Rattle.names.proofs.Packs.{place-more, place_here, place_end}
 use Rattle.names.proofs.lookup.place.Given as goal
 
 abbrev pub invariant-loop-i : goal.invariant-loop-i

@@ -8,7 +8,6 @@ use Rattle.names.specs.Names.{registers}
 use Rattle.names.specs.Inner.Packing.{pack, place_of}
 use Rattle.names.proofs.Packs.{numbers, place-most}
 use Rattle.names.proofs.Places.{register-found}
-use borrow.Author.Rules.{rules}
 use Rattle.names.proofs.lookup.register_code.Goals as goal
 
 pub overflow_cast-result : goal.overflow_cast-result

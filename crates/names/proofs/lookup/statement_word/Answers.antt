@@ -9,7 +9,6 @@ use Rattle.names.specs.Names.{statement_words}
 use Rattle.names.specs.Inner.Packing.{pack, place_of, word_at}
 use Rattle.names.proofs.Packs.{numbers, place-most}
 use Rattle.names.proofs.Places.{statement_names, word-found}
-use borrow.Author.Rules.{rules}
 use Rattle.names.proofs.lookup.statement_word.Goals as goal
 
 pub word_at-requires : goal.word_at-requires

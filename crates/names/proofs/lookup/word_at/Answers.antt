@@ -4,7 +4,6 @@ use mathlib.Core.Path.{sym, ap, ◌∙◌}
 use Rattle.isa.proofs.FirstWords.{found-known, found-unknown}
 use Rattle.names.specs.declared.Word.TheVariants.{Instructs}
 use Rattle.names.proofs.Places.{word-opcode, word_directive}
-use borrow.Author.Rules.{rules}
 use Rattle.names.proofs.lookup.word_at.Goals as goal
 
 pub overflow_sub-place : goal.overflow_sub-place

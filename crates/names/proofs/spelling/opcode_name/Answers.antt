@@ -10,7 +10,6 @@ use Rattle.names.specs.Names.{statement_words}
 use Rattle.names.specs.Inner.Packing.{pack}
 use Rattle.names.proofs.Packs.{numbers}
 use Rattle.names.proofs.Places.{statement_names, opcode-number}
-use borrow.Author.Rules.{rules}
 use Rattle.names.proofs.spelling.opcode_name.Goals as goal
 
 pub bounds-words-place : goal.bounds-words-place

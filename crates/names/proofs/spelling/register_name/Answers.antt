@@ -7,7 +7,6 @@ use Rattle.names.specs.Names.{registers}
 use Rattle.names.specs.Inner.Packing.{pack}
 use Rattle.names.proofs.Packs.{numbers}
 use Rattle.names.proofs.Places.{register-number}
-use borrow.Author.Rules.{rules}
 use Rattle.names.proofs.spelling.register_name.Goals as goal
 
 pub returns-then-r-lt-REGISTER_COUNT : goal.returns-then-r-lt-REGISTER_COUNT

@@ -1,6 +1,5 @@
 -- Each field is a callee's answer (Judged).
 use Rattle.operands.proofs.Judged.{given_is}
-use borrow.Author.Rules.{rules}
 use Rattle.operands.proofs.instruction.given_with.Goals as goal
 
 pub returns : goal.returns

@@ -1,6 +1,5 @@
 -- The arms are the definition's clauses (Judged).
 use Rattle.operands.proofs.Judged.{first_out, second-out, cells}
-use borrow.Author.Rules.{rules}
 use Rattle.operands.proofs.instruction.in_range.Goals as goal
 
 pub returns-in-Cell-second : goal.returns-in-Cell-second

@@ -1,5 +1,4 @@
 -- What is kept of the list is judged as the list is (Judged).
-use borrow.Author.Rules.{rules}
 use mathlib.Core.Path.{sym, ◌∙◌}
 use Rattle.tokens.specs.Reading.{tokens_from}
 use Rattle.operands.specs.Reading.{operands_of}

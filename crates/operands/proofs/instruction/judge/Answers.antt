@@ -1,6 +1,5 @@
 -- The tests are the definition's, one after the other (Judged).
 use Rattle.operands.proofs.Judged.{count-differs, first_unfit, second_unfit, both_fit}
-use borrow.Author.Rules.{rules}
 use Rattle.operands.proofs.instruction.judge.Goals as goal
 
 pub returns-then-all-operand_count : goal.returns-then-all-operand_count

@@ -1,5 +1,4 @@
 -- No operands where the row is over, and else some.
-use borrow.Author.Rules.{rules}
 use mathlib.Core.Path.{sym, ap, ◌∙◌}
 use Rattle.operands.specs.Reading.{Result}
 use Rattle.operands.specs.Inner.Peeks.{none_listed, listed}

@@ -1,12 +1,8 @@
 -- One turn of the loop reads one operand; what is left to read is listed as before (Lists).
-use borrow.Author.Rules.{rules}
-use Prim.Native.Nat.{◌-◌}
-use mathlib.Core.Path.{◌≡◌, refl, sym, ap, subst, ◌∙◌}
+use mathlib.Core.Path.{refl, sym, ap, subst, ◌∙◌}
 use native.Mathlib.Omega.{arith}
-use lib.ListN.{length}
-use Rattle.tokens.specs.Reading.{tokens_from}
-use Rattle.operands.specs.Reading.{operand, walk}
-use Rattle.operands.specs.Inner.Peeks.{Goes, listed}
+use Rattle.operands.specs.Reading.{operand}
+use Rattle.operands.specs.Inner.Peeks.{Goes}
 use Rattle.operands.specs.declared.ListRead.TheVariants as L
 use Rattle.operands.specs.declared.OperandRead.{OperandRead}
 use Rattle.operands.proofs.Lists.{some-wrong, some-over, some-neither, some-comma}

@@ -1,11 +1,6 @@
 -- One turn of the loop passes one token; what is behind the first comma stays (Located).
-use borrow.Author.Rules.{rules}
-use Prim.Native.Nat.{◌-◌}
-use mathlib.Core.Path.{◌≡◌, refl, sym, ◌∙◌}
+use mathlib.Core.Path.{refl, sym, ◌∙◌}
 use native.Mathlib.Omega.{arith}
-use lib.ListN.{length}
-use Rattle.tokens.specs.Reading.{tokens_from}
-use Rattle.operands.specs.Places.{after_comma}
 use Rattle.operands.proofs.Located.{passed, moves, over, stray, at-comma, past-mark}
 use Rattle.operands.proofs.places.behind_comma.Goals as goal
 

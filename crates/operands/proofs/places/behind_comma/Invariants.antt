@@ -1,12 +1,9 @@
 -- One turn of the loop passes one token; what is behind the first comma stays (Located).
-use borrow.Author.Rules.{rules}
 use Prim.Native.Nat.{◌-◌}
-use mathlib.Core.Path.{◌≡◌, refl, sym, ◌∙◌}
-use native.Mathlib.Omega.{arith}
+use mathlib.Core.Path.{◌≡◌}
 use lib.ListN.{length}
 use Rattle.tokens.specs.Reading.{tokens_from}
 use Rattle.operands.specs.Places.{after_comma}
-use Rattle.operands.proofs.Located.{passed, moves, over, stray, at-comma, past-mark}
 use Rattle.operands.proofs.places.behind_comma.Given as goal
 
 abbrev pub invariant-loop-at : goal.invariant-loop-at

@@ -1,5 +1,4 @@
 -- The first word, then the second (Located).
-use borrow.Author.Rules.{rules}
 use mathlib.Core.Path.{sym, ◌∙◌}
 use Rattle.tokens.specs.Reading.{tokens_from}
 use Rattle.operands.proofs.Located.{first_out, second-out, none_out}

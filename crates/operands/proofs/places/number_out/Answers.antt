@@ -1,5 +1,4 @@
 -- What is kept of the list has its first two words (Located).
-use borrow.Author.Rules.{rules}
 use mathlib.Core.Path.{sym, ◌∙◌}
 use Rattle.tokens.specs.Reading.{tokens_from}
 use Rattle.operands.specs.Reading.{operands_of}

@@ -1,5 +1,4 @@
 -- What starts behind the mark (Located).
-use borrow.Author.Rules.{rules}
 use mathlib.Core.Path.{sym, ◌∙◌}
 use Rattle.operands.proofs.Located.{behind-mark, no_mark}
 use Rattle.operands.proofs.places.number_start.Goals as goal

@@ -1,5 +1,4 @@
 -- The row itself, or the row behind its first comma (Located).
-use borrow.Author.Rules.{rules}
 use mathlib.Core.Bool.{Bool, cond}
 use mathlib.Core.Path.{sym, ap, ◌∙◌}
 use Rattle.tokens.specs.Reading.{tokens_from}

@@ -1,5 +1,4 @@
 -- A token starts a row, and the line's end starts none (Located).
-use borrow.Author.Rules.{rules}
 use Rattle.operands.proofs.Located.{token-starts}
 use Rattle.operands.proofs.places.start_at.Goals as goal
 

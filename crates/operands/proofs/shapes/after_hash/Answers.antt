@@ -1,7 +1,6 @@
 -- `[` leads on; before anything else the walk is where it would be after any operand (Outcomes).
 use mathlib.Core.Path.{sym, ◌∙◌}
 use Rattle.operands.proofs.Outcomes.{rest_index, rest_no, rest-not}
-use borrow.Author.Rules.{rules}
 use Rattle.operands.proofs.shapes.after_hash.Goals as goal
 
 pub returns-then-b-eq91 : goal.returns-then-b-eq91

@@ -3,7 +3,6 @@ use Prim.Native.Char.{code}
 use mathlib.Core.Path.{refl, sym, ◌∙◌}
 use Rattle.operands.specs.Reading.{closing, done}
 use Rattle.operands.proofs.Outcomes.{expect_is, expect_no, expect_not, read_on}
-use borrow.Author.Rules.{rules}
 use Rattle.operands.proofs.shapes.closed.Goals as goal
 
 pub returns-then-b-eq93 : goal.returns-then-b-eq93

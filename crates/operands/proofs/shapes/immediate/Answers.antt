@@ -2,7 +2,6 @@
 use mathlib.Core.Path.{sym, ◌∙◌}
 use Rattle.operands.specs.Reading.{hash}
 use Rattle.operands.proofs.Outcomes.{hash_is, value_not}
-use borrow.Author.Rules.{rules}
 use Rattle.operands.proofs.shapes.immediate.Goals as goal
 
 pub returns-in-Found : goal.returns-in-Found

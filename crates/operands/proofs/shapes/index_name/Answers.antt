@@ -3,7 +3,6 @@ use mathlib.Core.Path.{sym, ◌∙◌}
 use native.Mathlib.Omega.{arith}
 use Rattle.operands.specs.Operands.{by_IX, by_IY, by_SP}
 use Rattle.operands.proofs.Outcomes.{index_is, index_no, index_not}
-use borrow.Author.Rules.{rules}
 use Rattle.operands.proofs.shapes.index_name.Goals as goal
 
 pub returns-in-12 : goal.returns-in-12

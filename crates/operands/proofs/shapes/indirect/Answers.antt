@@ -3,7 +3,6 @@ use Prim.Native.Char.{code}
 use mathlib.Core.Path.{refl, sym, ◌∙◌}
 use Rattle.operands.specs.Reading.{indirect_dot, indirect_name}
 use Rattle.operands.proofs.Outcomes.{expect_is, expect_no, expect_not}
-use borrow.Author.Rules.{rules}
 use Rattle.operands.proofs.shapes.indirect.Goals as goal
 
 pub returns-then-b-eq46 : goal.returns-then-b-eq46

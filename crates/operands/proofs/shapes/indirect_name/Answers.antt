@@ -1,7 +1,6 @@
 -- A register's name, and what follows it is the callee's (Outcomes).
 use mathlib.Core.Path.{sym, ◌∙◌}
 use Rattle.operands.proofs.Outcomes.{indirect_is, indirect-not}
-use borrow.Author.Rules.{rules}
 use Rattle.operands.proofs.shapes.indirect_name.Goals as goal
 
 pub returns-in-Named : goal.returns-in-Named

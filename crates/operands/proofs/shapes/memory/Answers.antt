@@ -2,7 +2,6 @@
 use mathlib.Core.Path.{sym, ◌∙◌}
 use Rattle.operands.specs.Reading.{slash}
 use Rattle.operands.proofs.Outcomes.{memory_is, value_not}
-use borrow.Author.Rules.{rules}
 use Rattle.operands.proofs.shapes.memory.Goals as goal
 
 pub returns-in-Found : goal.returns-in-Found

@@ -4,7 +4,6 @@ use borrow.Author.Tests.{ne_eqb}
 use native.Mathlib.Omega.{arith}
 use Rattle.operands.specs.Reading.{hash, slash, dollar, value, register_name, indirect_dot, starts}
 use Rattle.operands.proofs.Outcomes.{operand_is, operand_no, operand-not}
-use borrow.Author.Rules.{rules}
 use Rattle.operands.proofs.shapes.operand.Goals as goal
 
 pub returns-in-35 : goal.returns-in-35

@@ -1,7 +1,6 @@
 -- A register's name ends the operand (Outcomes).
 use mathlib.Core.Path.{sym, ◌∙◌}
 use Rattle.operands.proofs.Outcomes.{register_is, register-not}
-use borrow.Author.Rules.{rules}
 use Rattle.operands.proofs.shapes.register.Goals as goal
 
 pub returns-in-Named : goal.returns-in-Named

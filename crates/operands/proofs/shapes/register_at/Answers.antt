@@ -1,6 +1,5 @@
 -- A word is looked up, and every other kind of token is none.
 use borrow.Author.Tests.{lt-ltb, le-ltb}
-use borrow.Author.Rules.{rules}
 use Rattle.operands.proofs.shapes.register_at.Goals as goal
 
 pub returns-then-code-lt-REGISTER_COUNT : goal.returns-then-code-lt-REGISTER_COUNT

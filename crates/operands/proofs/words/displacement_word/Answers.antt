@@ -2,7 +2,6 @@
 use mathlib.Core.Path.{sym, ap, ◌∙◌}
 use Rattle.values.specs.Ranges.{displacement_of}
 use Rattle.operands.specs.Checks.{cell_of}
-use borrow.Author.Rules.{rules}
 use Rattle.operands.proofs.words.displacement_word.Goals as goal
 
 pub returns-in-Number : goal.returns-in-Number

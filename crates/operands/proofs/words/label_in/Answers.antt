@@ -1,7 +1,6 @@
 -- The arms are the definition's clauses.
 use mathlib.Core.Path.{sym, ap, ◌∙◌}
 use Rattle.operands.specs.Checks.{label_in}
-use borrow.Author.Rules.{rules}
 use Rattle.operands.proofs.words.label_in.Goals as goal
 
 pub returns-in-Absent : goal.returns-in-Absent

@@ -2,7 +2,6 @@
 use mathlib.Core.Path.{sym, ap}
 use Rattle.operands.specs.Checks.{operand_with}
 use Rattle.operands.specs.declared.Written.{Written}
-use borrow.Author.Rules.{rules}
 use Rattle.operands.proofs.words.operand_with.Goals as goal
 
 pub returns-in-Immediate : goal.returns-in-Immediate

@@ -1,5 +1,4 @@
 -- Each arm is the row that the statement has in the table.
-use borrow.Author.Rules.{rules}
 use native.Mathlib.Omega.{arith}
 use mathlib.Core.Path.{refl}
 use Rattle.sources.specs.Placing.{does}

@@ -1,6 +1,5 @@
 -- No cell before the loop's place has a mark.
 use borrow.Author.Rules.{rules}
-use Prim.Native.Nat.{◌-◌, ◌≤◌}
 use mathlib.Core.Path.{◌≡◌, subst}
 use native.Mathlib.Omega.{arith}
 use Rattle.placing.proofs.CellLaws.{Free, taken_hit, taken_none, free-none, free_more}

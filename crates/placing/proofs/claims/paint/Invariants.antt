@@ -1,11 +1,8 @@
 -- What is left of the marking is the same at each turn.
-use borrow.Author.Rules.{rules}
-use Prim.Native.Nat.{ℕ, ◌+◌, ◌-◌, ◌≤◌}
-use mathlib.Core.Path.{◌≡◌, refl, sym, ◌∙◌}
-use native.Mathlib.Omega.{arith}
-use lib.ListN.{length, replicate, length-set}
+use Prim.Native.Nat.{◌+◌, ◌-◌, ◌≤◌}
+use mathlib.Core.Path.{◌≡◌}
+use lib.ListN.{length, replicate}
 use lib.Seq.{sets}
-use Rattle.placing.proofs.CellLaws.{paint_from, paint_more, paint_end}
 use Rattle.placing.proofs.claims.paint.Given as goal
 
 abbrev pub invariant-loop-i : goal.invariant-loop-i

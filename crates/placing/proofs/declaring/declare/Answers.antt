@@ -1,5 +1,4 @@
 -- Each refusal is the first test that fails; behind the last test, the rows hold one label more.
-use borrow.Author.Rules.{rules}
 use Prim.Native.Nat.{◌+◌, ◌-◌}
 use mathlib.Core.Path.{refl}
 use native.Mathlib.Omega.{arith}

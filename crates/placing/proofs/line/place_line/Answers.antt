@@ -1,7 +1,5 @@
 -- Without a label, the line is its statement.
-use borrow.Author.Rules.{rules}
 use Prim.Native.Nat.{◌+◌}
-use native.Mathlib.Omega.{arith}
 use lib.ListN.{length}
 use Rattle.labels.specs.Inner.Labels.{words}
 use Rattle.labels.proofs.Laws.{length-words}

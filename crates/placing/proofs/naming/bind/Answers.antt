@@ -1,5 +1,4 @@
 -- Those that wait are filled in.
-use borrow.Author.Rules.{rules}
 use mathlib.Core.Path.{refl}
 use native.Mathlib.Omega.{arith}
 use Rattle.placing.proofs.NameLaws.{bound_all_lem}

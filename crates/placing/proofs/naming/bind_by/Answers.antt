@@ -1,5 +1,4 @@
 -- By what the act gives.
-use borrow.Author.Rules.{rules}
 use mathlib.Core.Path.{refl, subst}
 use Rattle.placing.proofs.PlaceLaws.{waits_as, number_as, start_as}
 use Rattle.placing.specs.Inner.State.{BindsFine}

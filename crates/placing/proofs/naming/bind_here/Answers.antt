@@ -1,5 +1,4 @@
 -- Where none waits, nothing is to be done.
-use borrow.Author.Rules.{rules}
 use mathlib.Core.Path.{refl}
 use native.Mathlib.Omega.{arith}
 use Rattle.placing.proofs.PlaceLaws.{none-waits}

@@ -1,5 +1,4 @@
 -- Only an act that gives its start can fail, and only where a label waits.
-use borrow.Author.Rules.{rules}
 use Rattle.placing.proofs.TestLaws.{label-none, label-some}
 use Rattle.placing.proofs.placing.label_out.Goals as goal
 

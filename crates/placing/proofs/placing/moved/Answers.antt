@@ -1,5 +1,4 @@
 -- By how the act moves.
-use borrow.Author.Rules.{rules}
 use native.Mathlib.Omega.{arith}
 use Rattle.placing.proofs.TestLaws.{moved_as}
 use Rattle.placing.proofs.placing.moved.Goals as goal

@@ -1,5 +1,4 @@
 -- Each refusal is the first test that fails; behind the last test, cells and labels are what `acted` says.
-use borrow.Author.Rules.{rules}
 use mathlib.Core.Path.{refl, sym, ◌∙◌}
 use native.Mathlib.Omega.{arith}
 use lib.ListN.{length}

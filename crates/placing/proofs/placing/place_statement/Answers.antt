@@ -1,5 +1,4 @@
 -- What fails has its own number; what passes is placed.
-use borrow.Author.Rules.{rules}
 use lib.ListN.{length}
 use Rattle.placing.specs.Inner.State.{state_of}
 use Rattle.placing.proofs.LineLaws.{own-fails, own-passes}

@@ -1,5 +1,4 @@
 -- The test by a difference is the test by a sum.
-use borrow.Author.Rules.{rules}
 use Rattle.placing.proofs.TestLaws.{reserves_test}
 use Rattle.placing.proofs.placing.reserves_out.Goals as goal
 

@@ -1,6 +1,5 @@
 -- Where the line ends before the input does, its LF follows and is taken; else nothing is left to take.
 use borrow.Author.Tests.{lt-ltb, le-ltb}
-use borrow.Author.Rules.{rules}
 use Rattle.ports.specs.Input.{after_line}
 use Rattle.ports.proofs.input.after.Goals as goal
 

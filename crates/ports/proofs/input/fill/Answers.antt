@@ -1,11 +1,9 @@
 -- Each turn copies one byte more (`copy_more`), and the 0 cell is one element more at the end (`copy-last`).
 use mathlib.Core.Path.{sym}
-use Prim.Native.Nat.{◌+◌, ◌-◌}
 use native.Mathlib.Omega.{arith}
-use borrow.Author.Rules.{rules}
 use lib.ListN.{drop, length-drop}
 use lib.Seq.{get_or-drop}
-use Rattle.ports.proofs.Overwrites.{copy_last, Copied, copy_none, copy_more}
+use Rattle.ports.proofs.Overwrites.{copy_last, copy_none, copy_more}
 use Rattle.ports.proofs.input.fill.Goals as goal
 
 pub loop-k-init : goal.loop-k-init

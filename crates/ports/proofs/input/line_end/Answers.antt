@@ -1,11 +1,7 @@
 -- A turn passes a byte that is no LF, so that what is left of the line is one shorter.
-use mathlib.Core.Path.{◌≡◌, refl}
-use Prim.Native.Nat.{◌+◌, ◌-◌}
+use mathlib.Core.Path.{refl}
 use native.Mathlib.Omega.{arith}
-use borrow.Author.Rules.{rules}
-use lib.ListN.{length}
 use Rattle.numerals.specs.Bytes.{LF}
-use Rattle.ports.specs.Input.{line_at}
 use Rattle.ports.proofs.Searches.{search_more, search_here, search_none}
 use Rattle.ports.proofs.input.line_end.Goals as goal
 

@@ -1,12 +1,8 @@
 -- A turn passes a byte that is no LF, so that what is left of the line is one shorter.
-use mathlib.Core.Path.{◌≡◌, refl}
+use mathlib.Core.Path.{◌≡◌}
 use Prim.Native.Nat.{◌+◌, ◌-◌}
-use native.Mathlib.Omega.{arith}
-use borrow.Author.Rules.{rules}
 use lib.ListN.{length}
-use Rattle.numerals.specs.Bytes.{LF}
 use Rattle.ports.specs.Input.{line_at}
-use Rattle.ports.proofs.Searches.{search_more, search_here, search_none}
 use Rattle.ports.proofs.input.line_end.Given as goal
 
 abbrev pub invariant-loop-i : goal.invariant-loop-i

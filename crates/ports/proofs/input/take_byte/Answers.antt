@@ -1,7 +1,5 @@
 -- The test is the one of the meaning; a byte is a cell.
 use mathlib.Core.Path.{sym}
-use native.Mathlib.Omega.{arith}
-use borrow.Author.Rules.{rules}
 use Rattle.ports.proofs.Outcomes.{byte-none, byte-taken}
 use Rattle.ports.proofs.input.take_byte.Goals as goal
 

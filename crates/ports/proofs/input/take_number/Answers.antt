@@ -1,7 +1,6 @@
 -- The part of the input up to the line's end is the line, and its number is read.
 use mathlib.Core.Path.{sym}
 use native.Mathlib.Omega.{arith}
-use borrow.Author.Rules.{rules}
 use Rattle.numerals.specs.Bytes.{LF}
 use Rattle.ports.proofs.Searches.{up_to-ends, up_to_part}
 use Rattle.ports.proofs.Outcomes.{number-none, number-taken}

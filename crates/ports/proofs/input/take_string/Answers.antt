@@ -3,7 +3,6 @@ use mathlib.Core.Path.{sym, ◌∙◌}
 use Prim.Native.Nat.{◌+◌, ◌-◌}
 use native.Mathlib.Omega.{arith}
 use borrow.Author.Tests.{leb-true}
-use borrow.Author.Rules.{rules}
 use lib.ListN.{length}
 use Rattle.numerals.specs.Bytes.{LF}
 use Rattle.ports.proofs.Searches.{up_to-ends}

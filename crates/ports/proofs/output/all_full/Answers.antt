@@ -1,5 +1,4 @@
 -- Each of the eight tests is one of a cell of its own: the law of eight takes them as they stand.
-use borrow.Author.Rules.{rules}
 use Rattle.ports.proofs.Searches.{search_eight}
 use Rattle.ports.proofs.output.all_full.Goals as goal
 

@@ -1,11 +1,6 @@
 -- A turn passes eight cells none of which is 0, so that what is left of the string is eight shorter.
-use mathlib.Core.Path.{◌≡◌, refl}
-use Prim.Native.Nat.{◌+◌, ◌-◌}
+use mathlib.Core.Path.{refl}
 use native.Mathlib.Omega.{arith}
-use borrow.Author.Rules.{rules}
-use borrow.Author.Tests.{not-false}
-use lib.ListN.{length, drop}
-use Rattle.ports.specs.Output.{string_of}
 use Rattle.ports.proofs.output.past_full.Goals as goal
 
 pub loop-i-init : goal.loop-i-init

@@ -1,15 +1,13 @@
 -- Each turn copies one low byte more (`copy_more`).
 use mathlib.Core.Path.{sym, ap, ◌∙◌}
 use mathlib.Core.List.{map}
-use Prim.Native.Nat.{◌+◌, ◌-◌}
 use native.Mathlib.Omega.{arith}
-use borrow.Author.Rules.{rules}
 use lib.ListN.{drop, length-drop, length-map, get_or-map}
 use lib.Seq.{get_or-drop}
 use Rattle.ports.specs.Overwriting.{overwrite}
 use Rattle.ports.specs.Output.{low_byte}
 use Rattle.ports.proofs.Outcomes.{take-map}
-use Rattle.ports.proofs.Overwrites.{Copied, copy_none, copy_more, copy_end}
+use Rattle.ports.proofs.Overwrites.{copy_none, copy_more, copy_end}
 use Rattle.ports.proofs.output.print.Goals as goal
 
 pub loop-k-init : goal.loop-k-init

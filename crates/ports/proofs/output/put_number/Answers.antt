@@ -1,8 +1,7 @@
 -- The places of a decimal from its start on are its text (`places-text`).
 use native.Mathlib.Omega.{arith}
-use borrow.Author.Rules.{rules}
 use Rattle.ports.specs.Output.{number_put}
-use Rattle.ports.proofs.Outcomes.{places, places-start, places-text}
+use Rattle.ports.proofs.Outcomes.{places-start, places-text}
 use Rattle.ports.proofs.output.put_number.Goals as goal
 
 pub slice_bounds-put_text-start : goal.slice_bounds-put_text-start

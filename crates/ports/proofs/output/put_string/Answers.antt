@@ -3,7 +3,6 @@ use mathlib.Core.Path.{sym, ◌∙◌}
 use Prim.Native.Nat.{◌+◌, ◌-◌, ◌≤◌}
 use native.Mathlib.Omega.{arith}
 use borrow.Author.Tests.{leb-true}
-use borrow.Author.Rules.{rules}
 use lib.ListN.{length}
 use Rattle.ports.proofs.Outcomes.{string-unended, string-put, string-short}
 use Rattle.ports.proofs.output.put_string.Goals as goal

@@ -1,10 +1,5 @@
 -- No 0 is passed by eights. A turn then passes a cell that is not 0, so that what is left of the string is one shorter.
-use mathlib.Core.Path.{◌≡◌}
-use Prim.Native.Nat.{◌+◌, ◌-◌}
 use native.Mathlib.Omega.{arith}
-use borrow.Author.Rules.{rules}
-use lib.ListN.{length, drop}
-use Rattle.ports.specs.Output.{string_of}
 use Rattle.ports.proofs.Searches.{search_more, search_here, search_none}
 use Rattle.ports.proofs.output.zero_at.Goals as goal
 

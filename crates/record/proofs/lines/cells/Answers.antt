@@ -1,11 +1,7 @@
 -- Line behind line: what is written is the lines so far (`cells-more`).
 use mathlib.Core.Path.{◌≡◌, refl}
-use lib.ListN.{length}
 use native.Mathlib.Omega.{arith}
-use borrow.Author.Rules.{rules}
-use Prim.Native.Nat.{◌+◌, ◌*◌, ◌-◌, ◌≤◌}
 use Rattle.texts.specs.Lines.{text_of}
-use Rattle.texts.specs.Inner.Wrote.{Wrote}
 use Rattle.texts.proofs.Rooms.{wrote_none}
 use Rattle.record.specs.Inner.Cells.{lines_from}
 use Rattle.record.proofs.Texts.{cells-more}

@@ -4,7 +4,6 @@ use Prim.Native.Nat.{◌≤◌}
 use lib.ListN.{length}
 use native.Mathlib.Omega.{arith}
 use Rattle.record.proofs.Texts.{lines_on}
-use borrow.Author.Rules.{rules}
 use Rattle.record.proofs.lines.end.Goals as goal
 
 pub returns : goal.returns

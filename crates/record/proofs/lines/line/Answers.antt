@@ -6,7 +6,6 @@ use lib.ListN.{length-append}
 use Rattle.numerals.specs.Writing.{decimal}
 use Rattle.texts.specs.Lines.{text_of}
 use Rattle.texts.proofs.Rooms.{wrote_byte}
-use borrow.Author.Rules.{rules}
 use Rattle.record.proofs.lines.line.Goals as goal
 
 pub field-end-requires : goal.field-end-requires

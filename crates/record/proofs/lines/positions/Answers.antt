@@ -2,7 +2,6 @@
 use mathlib.Core.List.{[], ◌∷◌}
 use native.Mathlib.Omega.{arith}
 use Rattle.texts.proofs.Rooms.{wrote_lines}
-use borrow.Author.Rules.{rules}
 use Rattle.record.proofs.lines.positions.Goals as goal
 
 pub returns : goal.returns

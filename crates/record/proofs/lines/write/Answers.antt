@@ -7,7 +7,6 @@ use Rattle.record.specs.Record.{end_lines, low_lines, high_lines, special_lines,
 use Rattle.record.specs.Inner.Cells.{lines_from}
 use Rattle.record.proofs.Texts.{lines_on}
 use Rattle.codes.specs.Registers.{A}
-use borrow.Author.Rules.{rules}
 use Rattle.record.proofs.lines.write.Goals as goal
 
 pub returns : goal.returns

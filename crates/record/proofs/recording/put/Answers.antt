@@ -3,7 +3,6 @@ use native.Mathlib.Omega.{arith}
 use lib.ListN.{length-take}
 use Rattle.record.specs.Record.{record_text}
 use Rattle.record.proofs.Outcomes.{put-done, put-short}
-use borrow.Author.Rules.{rules}
 use Rattle.record.proofs.recording.put.Goals as goal
 
 pub slice_bounds-put_text-end : goal.slice_bounds-put_text-end

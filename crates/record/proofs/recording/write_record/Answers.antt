@@ -1,8 +1,6 @@
 -- One law for each way out.
 use mathlib.Core.Path.{◌∙◌}
-use native.Mathlib.Omega.{arith}
 use Rattle.record.proofs.Outcomes.{recorded-taken, recorded-written, recorded-fitted}
-use borrow.Author.Rules.{rules}
 use Rattle.record.proofs.recording.write_record.Goals as goal
 
 pub returns-then-registers-gt4294967295 : goal.returns-then-registers-gt4294967295

@@ -1,6 +1,5 @@
 -- Each arm is the definition's; ORG's is said, so that another answer there fails by what it is.
 use mathlib.Core.Path.{sym, ap}
-use borrow.Author.Rules.{rules}
 use Rattle.statements.specs.Cells.{is_data}
 use Rattle.statements.proofs.cells.is_data.Goals as goal
 

@@ -1,6 +1,4 @@
 -- By the token there: no word, a word that is not DATA, or DATA with its items (CellsGiven.antt).
-use borrow.Author.Rules.{rules}
-use borrow.Author.Tests.{not-true, not-false}
 use mathlib.Core.Path.{sym, ap, ◌∙◌}
 use lib.Seq.{sets}
 use Rattle.statements.specs.Cells.{is_data}

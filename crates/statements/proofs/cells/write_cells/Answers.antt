@@ -1,5 +1,4 @@
 -- The tokens behind the label are what `label` found, and the statement's cells are written from there.
-use borrow.Author.Rules.{rules}
 use mathlib.Core.List.{List}
 use mathlib.Core.Path.{sym, ap, ◌∙◌}
 use lib.Seq.{sets}

@@ -4,7 +4,6 @@ use Prim.Native.Char.{code}
 use mathlib.Core.Path.{sym, ap}
 use lib.Dec.{eqb}
 use lib.ListN.{get_or-eq_default}
-use borrow.Author.Rules.{rules}
 use Rattle.statements.proofs.labels.colon_at.Goals as goal
 
 pub returns-else-at-s : goal.returns-else-at-s

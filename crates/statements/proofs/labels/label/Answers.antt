@@ -1,8 +1,6 @@
 -- Each test that fails leaves the line without a label; where both pass, the word and the `:` are the label.
-use borrow.Author.Rules.{rules}
 use mathlib.Core.Path.{sym, ◌∙◌}
 use native.Mathlib.Omega.{arith}
-use borrow.Author.Tests.{not-true, not-false}
 use Rattle.statements.proofs.Beginning.{no_label_word, no_colon, is_label, colon_stands}
 use Rattle.statements.proofs.labels.label.Goals as goal
 

@@ -1,5 +1,4 @@
 -- The arms are the definition's clauses.
-use borrow.Author.Rules.{rules}
 use mathlib.Core.Path.{refl}
 use Rattle.statements.proofs.Beginning.{said_by}
 use Rattle.statements.proofs.line.by_word.Goals as goal

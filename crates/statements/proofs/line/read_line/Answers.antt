@@ -1,5 +1,4 @@
 -- The label and the tokens behind it are what `label` found, and the statement is read from there.
-use borrow.Author.Rules.{rules}
 use mathlib.Core.Path.{sym, ap, ap₂, ◌∙◌}
 use Rattle.values.specs.declared.LabelIn.{LabelIn}
 use Rattle.statements.specs.Reading.{statement_read, line_read}

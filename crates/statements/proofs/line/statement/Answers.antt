@@ -1,5 +1,4 @@
 -- The token's kind says what the row begins with.
-use borrow.Author.Rules.{rules}
 use mathlib.Core.Path.{refl}
 use Rattle.statements.proofs.Labelling.{never}
 use Rattle.statements.proofs.Beginning.{ended, no-word, by_its_word}

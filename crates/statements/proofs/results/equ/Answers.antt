@@ -1,5 +1,4 @@
 -- The statement says its outcome, by the law of outcomes.
-use borrow.Author.Rules.{rules}
 use Rattle.statements.specs.Checks.{least_signed}
 use Rattle.statements.specs.declared.Statement.TheVariants.{Equ}
 use Rattle.statements.proofs.Ranges.{says-outcome}

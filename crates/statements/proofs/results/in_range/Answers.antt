@@ -1,14 +1,9 @@
 -- The tests are the range's, of the number that the `i32` holds; a number below 0 is raised by 65536, any other is kept: both are the number's cell.
-use mathlib.Core.Path.{◌≡◌, sym, ◌∙◌}
-use Prim.Native.Nat.{◌<◌}
+use mathlib.Core.Path.{sym, ◌∙◌}
 use native.Mathlib.Omega.{arith}
-use lib.IntN.{ℤ, pos, ◌+ℤ◌, nat_abs}
-use lib.Signed.{mag}
 use mir.Syntax.{w16, w32}
-use mir.Val.{to_z, of_z, SFits}
+use mir.Val.{of_z}
 use mir.ValLaws.{to_z_pos, to_z-of_z}
-use Rattle.statements.specs.Inner.Parts.{cell_in}
-use Rattle.statements.specs.declared.Outcome.TheVariants.{Value}
 use Rattle.statements.proofs.Ranges.{below, above, inside, near, cell-raised, cell_as_is, cell-small}
 use Rattle.statements.proofs.results.in_range.Goals as goal
 

@@ -1,5 +1,4 @@
 -- The arms are the definition's clauses.
-use borrow.Author.Rules.{rules}
 use mathlib.Core.Path.{sym, ap, ◌∙◌}
 use Rattle.statements.specs.Judging.{instruction_result}
 use Rattle.statements.proofs.results.instructs.Goals as goal

@@ -1,5 +1,4 @@
 -- The arms are the definition's clauses.
-use borrow.Author.Rules.{rules}
 use mathlib.Core.Path.{sym, ap, ap₂, ◌∙◌}
 use native.Mathlib.Omega.{arith}
 use mir.Syntax.{w32}

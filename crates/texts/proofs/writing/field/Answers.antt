@@ -2,8 +2,7 @@
 use native.Mathlib.Omega.{arith}
 use lib.ListN.{length-append}
 use Rattle.numerals.specs.Writing.{decimal}
-use Rattle.texts.proofs.Rooms.{places, places-start, wrote_field}
-use borrow.Author.Rules.{rules}
+use Rattle.texts.proofs.Rooms.{places-start, wrote_field}
 use Rattle.texts.proofs.writing.field.Goals as goal
 
 pub slice_bounds-put_text-start : goal.slice_bounds-put_text-start

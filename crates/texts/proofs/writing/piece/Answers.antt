@@ -1,6 +1,5 @@
 -- A text that fits is written (`wrote-text`).
 use Rattle.texts.proofs.Rooms.{wrote_text}
-use borrow.Author.Rules.{rules}
 use Rattle.texts.proofs.writing.piece.Goals as goal
 
 pub returns : goal.returns

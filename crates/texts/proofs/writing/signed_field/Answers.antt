@@ -2,8 +2,7 @@
 use native.Mathlib.Omega.{arith}
 use lib.ListN.{length-append}
 use Rattle.numerals.specs.Writing.{signed_decimal}
-use Rattle.texts.proofs.Rooms.{signed-places, signed-start, wrote_signed}
-use borrow.Author.Rules.{rules}
+use Rattle.texts.proofs.Rooms.{signed-start, wrote_signed}
 use Rattle.texts.proofs.writing.signed_field.Goals as goal
 
 pub slice_bounds-put_text-start : goal.slice_bounds-put_text-start

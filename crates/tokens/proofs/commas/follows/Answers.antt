@@ -1,5 +1,4 @@
 -- Each way cites what the byte after the blanks tells (Peeks.antt).
-use borrow.Author.Rules.{rules}
 use Rattle.tokens.proofs.Peeks.{follows-past, follows-comment, follows-comma, follows-neither}
 use Rattle.tokens.proofs.commas.follows.Goals as goal
 

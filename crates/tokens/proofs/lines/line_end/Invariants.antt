@@ -1,11 +1,8 @@
 -- The loop keeps its place plus the line that is left there: that is where the line ends.
-use borrow.Author.Rules.{rules}
 use Prim.Native.Nat.{◌+◌, ◌-◌}
 use mathlib.Core.Path.{◌≡◌}
-use native.Mathlib.Omega.{arith}
 use lib.ListN.{length, drop}
 use Rattle.tokens.specs.Reading.{line_length}
-use Rattle.tokens.proofs.LinesOf.{line-more, line-stop, line-none}
 use Rattle.tokens.proofs.lines.line_end.Given as goal
 
 abbrev pub invariant-loop-i : goal.invariant-loop-i

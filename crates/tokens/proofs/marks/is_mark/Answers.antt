@@ -3,7 +3,6 @@ use mathlib.Core.Path.{sym}
 use native.Mathlib.Omega.{arith}
 use borrow.Author.Tests.{ne_eqb}
 use Rattle.tokens.proofs.Classes.{is_word_lem, no-word, high_no_blank, is_inside, is-mark, no_low_mark, no_high_mark, no_word_mark, no_quote_mark, no_semicolon_mark}
-use borrow.Author.Rules.{rules}
 use Rattle.tokens.proofs.marks.is_mark.Goals as goal
 
 pub returns-then-b-lt33 : goal.returns-then-b-lt33

@@ -1,7 +1,6 @@
 -- Each way cites what the byte after the blanks tells (Peeks.antt).
 use mathlib.Core.Path.{sym, ◌∙◌}
 use Rattle.tokens.proofs.Peeks.{mark-past, mark_is, mark-none}
-use borrow.Author.Rules.{rules}
 use Rattle.tokens.proofs.marks.mark_at.Goals as goal
 
 pub returns-then-s-at : goal.returns-then-s-at

@@ -7,7 +7,6 @@ use borrow.Author.Tests.{eq-eqb, ne_eqb}
 use Rattle.tokens.specs.Strings.{backslash}
 use Rattle.tokens.specs.Reading.{character_at}
 use Rattle.tokens.proofs.Classes.{is_inside, below, above}
-use borrow.Author.Rules.{rules}
 use Rattle.tokens.proofs.strings.character.Goals as goal
 
 pub returns-then-s-at : goal.returns-then-s-at

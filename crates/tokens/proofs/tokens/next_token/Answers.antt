@@ -2,7 +2,6 @@
 use mathlib.Core.Path.{◌∙◌}
 use Rattle.tokens.specs.Reading.{token_at}
 use Rattle.tokens.proofs.Blanks.{moved_none}
-use borrow.Author.Rules.{rules}
 use Rattle.tokens.proofs.tokens.next_token.Goals as goal
 
 pub returns : goal.returns

@@ -2,7 +2,6 @@
 use mathlib.Core.Path.{sym, ap, ◌∙◌}
 use Rattle.numerals.specs.declared.NumberRead.{NumberRead}
 use Rattle.tokens.specs.Reading.{number_token}
-use borrow.Author.Rules.{rules}
 use Rattle.tokens.proofs.tokens.number_token.Goals as goal
 
 pub returns-in-Found : goal.returns-in-Found

@@ -1,11 +1,6 @@
 -- The loop keeps its place plus the blanks that are left there: that is where they end.
-use borrow.Author.Rules.{rules}
-use Prim.Native.Nat.{◌+◌, ◌-◌}
-use mathlib.Core.Path.{◌≡◌, sym, ◌∙◌}
+use mathlib.Core.Path.{sym, ◌∙◌}
 use native.Mathlib.Omega.{arith}
-use lib.ListN.{length, drop}
-use borrow.Author.Tests.{not-true, not-false}
-use Rattle.tokens.specs.Reading.{blanks}
 use Rattle.tokens.proofs.Blanks.{blanks-more, blanks-stop, blanks-none}
 use Rattle.tokens.proofs.tokens.skip.Goals as goal
 

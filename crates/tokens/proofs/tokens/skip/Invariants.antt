@@ -1,12 +1,8 @@
 -- The loop keeps its place plus the blanks that are left there: that is where they end.
-use borrow.Author.Rules.{rules}
 use Prim.Native.Nat.{◌+◌, ◌-◌}
-use mathlib.Core.Path.{◌≡◌, sym, ◌∙◌}
-use native.Mathlib.Omega.{arith}
+use mathlib.Core.Path.{◌≡◌}
 use lib.ListN.{length, drop}
-use borrow.Author.Tests.{not-true, not-false}
 use Rattle.tokens.specs.Reading.{blanks}
-use Rattle.tokens.proofs.Blanks.{blanks-more, blanks-stop, blanks-none}
 use Rattle.tokens.proofs.tokens.skip.Given as goal
 
 abbrev pub invariant-loop-i : goal.invariant-loop-i

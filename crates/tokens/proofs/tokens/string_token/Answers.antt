@@ -1,10 +1,9 @@
 -- The loop keeps where the string closes: counted from the opening quote, and counted on from `i`, it is the same place (Quoted.antt).
-use borrow.Author.Rules.{rules}
-use Prim.Native.Nat.{◌+◌, ◌-◌, ◌≤◌}
-use mathlib.Core.Path.{◌≡◌, sym, ◌∙◌}
+use Prim.Native.Nat.{◌+◌}
+use mathlib.Core.Path.{sym, ◌∙◌}
 use native.Mathlib.Omega.{arith}
-use lib.ListN.{length, drop}
-use Rattle.tokens.specs.Reading.{closing, further}
+use lib.ListN.{drop}
+use Rattle.tokens.specs.Reading.{closing}
 use Rattle.tokens.proofs.Quoted.{further-none, string_on, string-closed, string-broken, string-unclosed}
 use Rattle.tokens.proofs.tokens.string_token.Goals as goal
 

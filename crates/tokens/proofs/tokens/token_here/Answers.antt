@@ -8,7 +8,6 @@ use Rattle.tokens.specs.Rows.{token}
 use Rattle.tokens.specs.declared.Kind.TheVariants.{Word}
 use Rattle.tokens.proofs.Classes.{is_digit_lem, no_digit, is_word_lem, no-word, high_no_blank, is_inside, no_low_mark, no_high_mark, is-mark}
 use Rattle.tokens.proofs.Here.{here_end, here-number, here-word, here-string, here-comment, here-mark, here-stray}
-use borrow.Author.Rules.{rules}
 use Rattle.tokens.proofs.tokens.token_here.Goals as goal
 
 pub returns-then-s-at : goal.returns-then-s-at

@@ -1,6 +1,5 @@
 -- Four cells are set behind those that are held, and one of the second row.
 use native.Mathlib.Omega.{arith}
-use borrow.Author.Rules.{rules}
 use Prim.Native.Nat.{◌+◌, ◌*◌}
 use lib.ListN.{length-set, set}
 use Rattle.uses.proofs.Laws.{one_more}

@@ -2,7 +2,6 @@
 use mathlib.Core.Path.{sym, ◌∙◌}
 use native.Mathlib.Omega.{arith}
 use Rattle.values.proofs.Displaced.{displaced-minus, displaced-plus, displaced_high, displaced-hexadecimal}
-use borrow.Author.Rules.{rules}
 use Rattle.values.proofs.ranges.displacement.Goals as goal
 
 pub returns-then-n : goal.returns-then-n

@@ -1,6 +1,5 @@
 -- By the kind of the token after the `-`: decimal digits that follow directly, or no number.
 use Rattle.values.specs.Reading.{minus_at}
-use borrow.Author.Rules.{rules}
 use Rattle.values.proofs.reading.below_zero.Goals as goal
 
 pub returns-then-directly : goal.returns-then-directly

@@ -1,7 +1,6 @@
 -- By the kind of the token at the cursor; after a `-` it is what `below_zero` hands back.
 use borrow.Author.Tests.{eq-eqb, ne_eqb}
 use Rattle.values.specs.Reading.{value_at}
-use borrow.Author.Rules.{rules}
 use Rattle.values.proofs.reading.value.Goals as goal
 
 pub returns-then-b-eq45 : goal.returns-then-b-eq45
