@@ -6,6 +6,7 @@ use isa::decoding::decode;
 use isa::encoding::encode;
 use isa::opcodes::{opcode, row};
 use isa::{Address, Decoded, Encoded, FoundOpcode, Instruction, Operand};
+use std::io::Write;
 
 // The format's kind of an operand, and its word.
 #[derive(Clone, Copy)]
@@ -76,7 +77,7 @@ fn encoded(e: Encoded) -> Row {
 }
 
 // `OP K1 V1 K2 V2`.
-pub(crate) fn encode_case(s: &[u8]) -> Outcome {
+pub(crate) fn encode_case(output: &mut impl Write, s: &[u8]) -> Outcome {
     let op = number(s, 2, 255);
     let kind = number(s, op.next, 8);
     let first = number(s, kind.next, 65535);
@@ -88,12 +89,15 @@ pub(crate) fn encode_case(s: &[u8]) -> Outcome {
     let a = operand(kind.value, word(first.value));
     let b = operand(kind2.value, word(second.value));
     match opcode(word(op.value)) {
-        FoundOpcode::Known(op) => put_row(encoded(encode(Instruction {
-            op: op,
-            first: a,
-            second: b,
-        }))),
-        FoundOpcode::Unknown => put_row(one(5)),
+        FoundOpcode::Known(op) => put_row(
+            output,
+            encoded(encode(Instruction {
+                op: op,
+                first: a,
+                second: b,
+            })),
+        ),
+        FoundOpcode::Unknown => put_row(output, one(5)),
     }
 }
 
@@ -139,20 +143,20 @@ fn take_words(m: &mut [u16], s: &[u8], from: usize) -> usize {
     next
 }
 
-fn decode_words(m: &mut [u16], s: &[u8], from: usize) -> Outcome {
+fn decode_words(output: &mut impl Write, m: &mut [u16], s: &[u8], from: usize) -> Outcome {
     let next = take_words(m, s, from);
     if !is_whole(s, next) {
         return Outcome::Malformed;
     }
-    put_row(decoded(decode(m, Address(0))))
+    put_row(output, decoded(decode(m, Address(0))))
 }
 
 // `N W1 .. WN`.
-pub(crate) fn decode_case(s: &[u8], m: &mut [u16]) -> Outcome {
+pub(crate) fn decode_case(output: &mut impl Write, s: &[u8], m: &mut [u16]) -> Outcome {
     let count = number(s, 2, 5);
     let n = count.value;
     if m.len() < n {
         return Outcome::Malformed;
     }
-    decode_words(&mut m[..n], s, count.next)
+    decode_words(output, &mut m[..n], s, count.next)
 }

@@ -1,7 +1,9 @@
-// The lines of standard input, read by parts into a room that holds the longest line.
-ghost use Rattle.std.specs.Prelude.{◌<◌, ◌≤◌, length};
+// The lines of an input, read by parts into a room that holds the longest line.
+ghost use Rattle.std.specs.Prelude.{◌<◌, ◌≤◌, length, IfOk};
 
 use super::outcomes::Outcome;
+use std::io;
+use std::io::Read;
 
 // A line's place in the room, the place after its LF, and how much of the room is held; or why there is none.
 #[derive(Clone, Copy)]
@@ -11,13 +13,6 @@ pub(crate) struct Found {
     pub lf: usize,
     pub after: usize,
     pub held: usize,
-}
-
-// What was read: how much is held then, or that it cannot be read.
-#[derive(Clone, Copy)]
-struct Taken {
-    held: usize,
-    failed: bool,
 }
 
 fn no_line(why: Outcome) -> Found
@@ -66,31 +61,15 @@ fn keep_rest(text: &mut [u8], from: usize, held: usize) -> usize
     n
 }
 
-fn read_some(part: &mut [u8]) -> Taken
-    ensures { result.held ≤ length part.new }
-{
-    let got = libc::read(0, part);
-    Taken {
-        held: io::count(got, part),
-        failed: got < 0,
-    }
-}
-
-// Reads on behind what is held.
-fn read_more(text: &mut [u8], held: usize) -> Taken
-    ensures { result.held ≤ length text.new }
+// Reads on behind what is held: how much is held then.
+fn read_more(input: &mut impl Read, text: &mut [u8], held: usize) -> io::Result<usize>
+    ensures { IfOk result (λ n. n ≤ length text.new) }
 {
     if text.len() <= held {
-        return Taken {
-            held: text.len(),
-            failed: false,
-        };
+        return Ok(text.len());
     }
-    let got = read_some(&mut text[held..]);
-    Taken {
-        held: held + got.held,
-        failed: got.failed,
-    }
+    let got = input.read(&mut text[held..])?;
+    Ok(held + got)
 }
 
 // Why no line follows so much of one, where nothing more was read.
@@ -106,19 +85,17 @@ fn ended(held: usize, room: usize) -> Outcome {
 }
 
 // Reads on behind the start of a line until it ends.
-fn read_line(text: &mut [u8], rest: usize) -> Found
+fn read_line(input: &mut impl Read, text: &mut [u8], rest: usize) -> Found
     ensures { (result.start ≤ result.lf) × (result.lf ≤ length text.new) × (result.held ≤ length text.new) }
 {
     let mut held = rest;
     loop {
-        let more = read_more(text, held);
-        if more.failed {
+        let Ok(end) = read_more(input, text, held) else {
             return no_line(Outcome::Unreadable);
-        }
-        if more.held <= held {
+        };
+        if end <= held {
             return no_line(ended(held, text.len()));
         }
-        let end = more.held;
         let lf = lf_from(&text[..end], held);
         if lf < end {
             return Found {
@@ -134,7 +111,7 @@ fn read_line(text: &mut [u8], rest: usize) -> Found
 }
 
 // The next line, from a place of what is held on.
-pub(crate) fn next_line(text: &mut [u8], from: usize, held: usize) -> Found
+pub(crate) fn next_line(input: &mut impl Read, text: &mut [u8], from: usize, held: usize) -> Found
     requires { held ≤ length text.old }
     ensures { (result.start ≤ result.lf) × (result.lf ≤ length text.new) × (result.held ≤ length text.new) }
 {
@@ -149,5 +126,5 @@ pub(crate) fn next_line(text: &mut [u8], from: usize, held: usize) -> Found
         };
     }
     let rest = keep_rest(text, from, held);
-    read_line(text, rest)
+    read_line(input, text, rest)
 }

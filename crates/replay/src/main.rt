@@ -15,10 +15,18 @@ mod replies; // the text of a reply
 mod rooms; // rooms as large as the largest case
 mod texts; // assembling
 
-fn main() {
+fn main(rt: HostRuntime) {
     let mut text = rooms::text();
     let mut m = rooms::cells();
     let mut given = rooms::given();
     let mut room = rooms::room();
-    cases::answer_all(&mut text, &mut m, &mut given, &mut room);
+    cases::answer_all(
+        &mut rt.stdin(),
+        &mut rt.stdout(),
+        &mut rt.stderr(),
+        &mut text,
+        &mut m,
+        &mut given,
+        &mut room,
+    );
 }

@@ -1,4 +1,6 @@
 // How far it went with a line: on, to the end of the input, or no further, for a reason that is told.
+use std::io::Write;
+
 #[derive(Clone, Copy)]
 pub(crate) enum Outcome {
     On,
@@ -23,21 +25,19 @@ pub(crate) fn goes_on(o: Outcome) -> bool {
 }
 
 // A sentence on standard error.
-fn say(line: u64, why: &[u8]) {
-    io::write_all(2, b"replay: line ");
-    io::print_decimal(2, line);
-    io::write_all(2, why);
+fn say(errors: &mut impl Write, line: u64, why: &str) {
+    let _ = writeln!(errors, "replay: line {line}{why}");
 }
 
 // Why it went no further than a line; nothing at the end of the input.
-pub(crate) fn tell(o: Outcome, line: u64) {
+pub(crate) fn tell(errors: &mut impl Write, o: Outcome, line: u64) {
     match o {
         Outcome::On => {}
         Outcome::End => {}
-        Outcome::Malformed => say(line, b" is malformed\n"),
-        Outcome::Unfinished => say(line, b" ends without its LF\n"),
-        Outcome::TooLong => say(line, b" is too long\n"),
-        Outcome::Unreadable => say(line, b" cannot be read\n"),
-        Outcome::Unwritten => say(line, b": its reply cannot be written\n"),
+        Outcome::Malformed => say(errors, line, " is malformed"),
+        Outcome::Unfinished => say(errors, line, " ends without its LF"),
+        Outcome::TooLong => say(errors, line, " is too long"),
+        Outcome::Unreadable => say(errors, line, " cannot be read"),
+        Outcome::Unwritten => say(errors, line, ": its reply cannot be written"),
     }
 }

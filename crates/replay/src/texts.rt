@@ -4,33 +4,49 @@ use super::images::{Loan, loan_at};
 use super::memory::{CELLS, fill, fill_room, keep, marked};
 use super::outcomes::Outcome;
 use super::replies::{cells_changed, end, field, marks};
+use super::rooms::page;
 use assembler::Reply;
+use std::io::Write;
 
 // Refusal, line, column, the operand's place, and counts: code, data, reserved.
-fn head(out: &mut [u8], a: Reply) -> usize {
+fn head(output: &mut impl Write, out: &mut [u8], a: Reply) -> usize {
     let line = a.line;
     let column = a.column;
-    let refusal = field(out, 0, a.refusal as usize);
-    let numbered = field(out, refusal, line.0);
-    let pointed = field(out, numbered, column.0);
-    let operand = field(out, pointed, a.place as usize);
-    let instructions = field(out, operand, a.code);
-    let items = field(out, instructions, a.data);
-    field(out, items, a.reserved)
+    let refusal = field(output, out, 0, a.refusal as usize);
+    let numbered = field(output, out, refusal, line.0);
+    let pointed = field(output, out, numbered, column.0);
+    let operand = field(output, out, pointed, a.place as usize);
+    let instructions = field(output, out, operand, a.code);
+    let items = field(output, out, instructions, a.data);
+    field(output, out, items, a.reserved)
 }
 
 // Every cell and mark that is not as it was before, or as it is kept.
-fn replied(a: Reply, m: &[u16], n: usize, map: &[u8], mark: u8) -> Outcome {
-    let mut out = io::buffer();
-    let counts = head(&mut out, a);
-    let changed = cells_changed(&mut out, counts, m, n);
-    let number = field(&mut out, changed, marked(map, mark));
-    let shown = marks(&mut out, number, map, mark);
-    end(&mut out, shown)
+fn replied(
+    output: &mut impl Write,
+    a: Reply,
+    m: &[u16],
+    n: usize,
+    map: &[u8],
+    mark: u8,
+) -> Outcome {
+    let mut out = page();
+    let counts = head(output, &mut out, a);
+    let changed = cells_changed(output, &mut out, counts, m, n);
+    let number = field(output, &mut out, changed, marked(map, mark));
+    let shown = marks(output, &mut out, number, map, mark);
+    end(output, &mut out, shown)
 }
 
 // Assembles into a memory that is filled and kept, and replies: after a refusal what is not as it was lent is told, after acceptance what is not 0.
-fn assembled(source: &[u8], l: Loan, m: &mut [u16], map: &mut [u8], mark: u8) -> Outcome {
+fn assembled(
+    output: &mut impl Write,
+    source: &[u8],
+    l: Loan,
+    m: &mut [u16],
+    map: &mut [u8],
+    mark: u8,
+) -> Outcome {
     let n = l.cells;
     if m.len() < n {
         return Outcome::Malformed;
@@ -44,13 +60,19 @@ fn assembled(source: &[u8], l: Loan, m: &mut [u16], map: &mut [u8], mark: u8) ->
     let a = assembler::assemble::assemble(source, &mut m[..n], map);
     if a.refusal == 0 {
         fill(&mut m[CELLS..], 0, 0);
-        return replied(a, m, n, map, 0);
+        return replied(output, a, m, n, map, 0);
     }
-    replied(a, m, n, map, mark)
+    replied(output, a, m, n, map, mark)
 }
 
 // `M MAPLEN FILL STEP MAPFILL SOURCE`.
-pub(crate) fn source_case(s: &[u8], m: &mut [u16], given: &mut [u8], room: &mut [u8]) -> Outcome {
+pub(crate) fn source_case(
+    output: &mut impl Write,
+    s: &[u8],
+    m: &mut [u16],
+    given: &mut [u8],
+    room: &mut [u8],
+) -> Outcome {
     let l = loan_at(s, 2);
     let mark = number(s, l.next, 255);
     let source = bytes(s, mark.next, given);
@@ -65,5 +87,5 @@ pub(crate) fn source_case(s: &[u8], m: &mut [u16], given: &mut [u8], room: &mut 
     if given.len() < e {
         return Outcome::Malformed;
     }
-    assembled(&given[..e], l, m, &mut room[..k], byte(mark.value))
+    assembled(output, &given[..e], l, m, &mut room[..k], byte(mark.value))
 }

@@ -10,6 +10,7 @@ use statements::cells::write_cells;
 use statements::line::read_line;
 use statements::refusals::number_of;
 use statements::{Statement, StatementRead};
+use std::io::Write;
 use values::LabelIn;
 
 // An operand's kind and word, by the format's numbers.
@@ -140,11 +141,11 @@ fn reply(out: &mut [u8], line: &[u8], l: LabelIn, s: StatementRead) -> usize {
 }
 
 // Answers a line; whether its reply could be written.
-pub(crate) fn answer(line: &[u8]) -> bool {
+pub(crate) fn answer(output: &mut impl Write, line: &[u8]) -> bool {
     let mut out = room();
     let read = read_line(line);
     let l = read.label;
     let s = read.statement;
     let at = reply(&mut out, line, l, s);
-    write(&mut out, at)
+    write(output, &mut out, at)
 }

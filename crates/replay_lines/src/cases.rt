@@ -3,6 +3,7 @@ ghost use Rattle.std.specs.Prelude.{◌≡◌, ◌≤◌, ◌<◌, length};
 
 use super::answers::answer;
 use super::texts::room;
+use std::io::{Read, Write};
 
 // Why no more is answered.
 #[derive(Clone, Copy)]
@@ -31,13 +32,6 @@ enum Next {
 struct Spelt {
     held: usize,
     next: Next,
-}
-
-// How much was read, or that nothing can be.
-#[derive(Clone, Copy)]
-struct Taken {
-    bytes: usize,
-    failed: bool,
 }
 
 fn after(held: usize, next: Next) -> Spelt {
@@ -90,11 +84,11 @@ fn low(line: &mut [u8], held: usize, first: u8, b: u8) -> Spelt {
 }
 
 // The end of a case: its line is answered.
-fn ended(line: &[u8], held: usize) -> Spelt {
+fn ended(output: &mut impl Write, line: &[u8], held: usize) -> Spelt {
     if line.len() < held {
         return stopped(held, Why::TooLong);
     }
-    if answer(&line[..held]) {
+    if answer(output, &line[..held]) {
         return after(0, Next::Letter);
     }
     stopped(0, Why::Unwritten)
@@ -109,7 +103,7 @@ fn expected(held: usize, b: u8, other: u8, next: Next) -> Spelt {
 }
 
 // One byte more.
-fn more(line: &mut [u8], held: usize, next: Next, b: u8) -> Spelt {
+fn more(output: &mut impl Write, line: &mut [u8], held: usize, next: Next, b: u8) -> Spelt {
     match next {
         Next::Letter => expected(held, b, b'L', Next::Blank),
         Next::Blank => expected(held, b, b' ', Next::First),
@@ -121,14 +115,14 @@ fn more(line: &mut [u8], held: usize, next: Next, b: u8) -> Spelt {
         }
         Next::High => {
             if b == b'\n' {
-                return ended(line, held);
+                return ended(output, line, held);
             }
             high(held, b)
         }
         Next::Low(first) => low(line, held, first, b),
         Next::LineEnd => {
             if b == b'\n' {
-                return ended(line, held);
+                return ended(output, line, held);
             }
             stopped(held, Why::Malformed)
         }
@@ -136,13 +130,13 @@ fn more(line: &mut [u8], held: usize, next: Next, b: u8) -> Spelt {
     }
 }
 
-// The bytes of a part of standard input.
-fn part(line: &mut [u8], bytes: &[u8], held: usize, next: Next) -> Spelt {
+// The bytes of a part of an input.
+fn part(output: &mut impl Write, line: &mut [u8], bytes: &[u8], held: usize, next: Next) -> Spelt {
     let mut now = after(held, next);
     for i in 0..bytes.len() {
         let so_far = now.held;
         let then = now.next;
-        now = more(line, so_far, then, bytes[i]);
+        now = more(output, line, so_far, then, bytes[i]);
     }
     now
 }
@@ -154,30 +148,18 @@ fn longest() -> [u8; 33000]
     [0; 33000]
 }
 
-fn read_some(part: &mut [u8]) -> Taken
-    ensures { result.bytes ≤ length part.new }
-{
-    let got = libc::read(0, part);
-    Taken {
-        bytes: io::count(got, part),
-        failed: got < 0,
-    }
-}
-
-// Not by io::write_all: its room of 4,096 bytes would stand on the stack below every line that is read.
-fn say(why: &[u8]) {
-    libc::write(2, b"replay_lines: ");
-    libc::write(2, why);
+fn say(errors: &mut impl Write, why: &str) {
+    let _ = writeln!(errors, "replay_lines: {why}");
 }
 
 // A sentence on standard error.
-fn tell(why: Why) {
+fn tell(errors: &mut impl Write, why: Why) {
     match why {
-        Why::Malformed => say(b"a case is malformed\n"),
-        Why::TooLong => say(b"a line is too long\n"),
-        Why::Unfinished => say(b"the last case ends without its LF\n"),
-        Why::Unreadable => say(b"the cases cannot be read\n"),
-        Why::Unwritten => say(b"a reply cannot be written\n"),
+        Why::Malformed => say(errors, "a case is malformed"),
+        Why::TooLong => say(errors, "a line is too long"),
+        Why::Unfinished => say(errors, "the last case ends without its LF"),
+        Why::Unreadable => say(errors, "the cases cannot be read"),
+        Why::Unwritten => say(errors, "a reply cannot be written"),
     }
 }
 
@@ -194,28 +176,20 @@ fn is_over(next: Next) -> bool {
 }
 
 // The end of what is read, at what was next: nothing is told between two cases.
-fn end(next: Next) {
+fn end(errors: &mut impl Write, next: Next) {
     match next {
         Next::Letter => {}
-        Next::Blank => tell(Why::Unfinished),
-        Next::First => tell(Why::Unfinished),
-        Next::High => tell(Why::Unfinished),
-        Next::Low(_) => tell(Why::Unfinished),
-        Next::LineEnd => tell(Why::Unfinished),
-        Next::Nothing(why) => tell(why),
+        Next::Blank => tell(errors, Why::Unfinished),
+        Next::First => tell(errors, Why::Unfinished),
+        Next::High => tell(errors, Why::Unfinished),
+        Next::Low(_) => tell(errors, Why::Unfinished),
+        Next::LineEnd => tell(errors, Why::Unfinished),
+        Next::Nothing(why) => tell(errors, why),
     }
 }
 
-// What is next where nothing more was read.
-fn at_end(failed: bool, next: Next) -> Next {
-    if failed {
-        return Next::Nothing(Why::Unreadable);
-    }
-    next
-}
-
-// Answers all of standard input. A proved loop has to end, so it counts its turns down from a number that no run uses up.
-pub(crate) fn answer_all() {
+// Answers all of an input. A proved loop has to end, so it counts its turns down from a number that no run uses up.
+pub(crate) fn answer_all(input: &mut impl Read, output: &mut impl Write, errors: &mut impl Write) {
     let mut line = longest();
     let mut bytes = room();
     let mut now = after(0, Next::Letter);
@@ -223,16 +197,18 @@ pub(crate) fn answer_all() {
     while 0 < turns {
         let so_far = now.held;
         let then = now.next;
-        let got = read_some(&mut bytes);
-        let n = got.bytes;
+        let Ok(n) = input.read(&mut bytes) else {
+            tell(errors, Why::Unreadable);
+            return;
+        };
         if n == 0 {
-            end(at_end(got.failed, then));
+            end(errors, then);
             return;
         }
-        now = part(&mut line, &bytes[..n], so_far, then);
+        now = part(output, &mut line, &bytes[..n], so_far, then);
         let reached = now.next;
         if is_over(reached) {
-            end(reached);
+            end(errors, reached);
             return;
         }
         turns -= 1;

@@ -8,6 +8,6 @@ mod answers; // a line's reply
 mod cases; // the bytes of a case, one after another
 mod texts; // the text of replies
 
-fn main() {
-    cases::answer_all();
+fn main(rt: HostRuntime) {
+    cases::answer_all(&mut rt.stdin(), &mut rt.stdout(), &mut rt.stderr());
 }

@@ -1,6 +1,9 @@
 // The text of a reply, in a room that no reply fills. Each function answers the place after what it put.
 ghost use Rattle.std.specs.Prelude.{◌≡◌, length};
 
+use std::fmt::InlineText;
+use std::io::Write;
+
 // Room for a reply: 64 cells behind a number and three places are 407 bytes at most. As much is read at once.
 pub(crate) fn room() -> [u8; 512]
     ensures { 512 ≡ length result }
@@ -25,9 +28,8 @@ fn put_all(out: &mut [u8], at: usize, text: &[u8]) -> usize {
 }
 
 pub(crate) fn number(out: &mut [u8], at: usize, n: usize) -> usize {
-    let mut text = [0u8; 20];
-    let k = io::decimal(n as u64, &mut text);
-    put_all(out, at, &text[..k])
+    let text = InlineText::<20>::of(n);
+    put_all(out, at, text.as_str().as_bytes())
 }
 
 // A blank and a number.
@@ -43,10 +45,10 @@ pub(crate) fn letter(out: &mut [u8], at: usize, b: u8) -> usize {
 }
 
 // Writes a reply and its line end; whether it could.
-pub(crate) fn write(out: &mut [u8], at: usize) -> bool {
+pub(crate) fn write(output: &mut impl Write, out: &mut [u8], at: usize) -> bool {
     let end = put(out, at, b'\n');
     if out.len() < end {
         return false;
     }
-    io::write_all(1, &out[..end])
+    output.write_all(&out[..end]).is_ok()
 }

@@ -3,6 +3,7 @@ ghost use Rattle.std.specs.Prelude.{◌≡◌, ◌≤◌, length};
 
 use super::checksum::{add_bytes, add_words};
 use assembler::assemble::assemble;
+use std::io::Write;
 
 // A memory of 16,384 cells, all 0.
 fn cells() -> [u16; 16384]
@@ -18,17 +19,11 @@ fn marks() -> [u8; 16384]
     [0; 16384]
 }
 
-fn tell(name: &[u8], times: u64, code: u64, data: u64, sum: u32) {
-    io::write_all(1, name);
-    io::write_all(1, b": ");
-    io::print_decimal(1, times);
-    io::write_all(1, b" times, code ");
-    io::print_decimal(1, code);
-    io::write_all(1, b", data ");
-    io::print_decimal(1, data);
-    io::write_all(1, b", checksum ");
-    io::print_decimal(1, sum as u64);
-    io::write_all(1, b"\n");
+fn tell(output: &mut impl Write, name: &str, times: u64, code: u64, data: u64, sum: u32) {
+    let _ = writeln!(
+        output,
+        "{name}: {times} times, code {code}, data {data}, checksum {sum}"
+    );
 }
 
 // Up to a hundred.
@@ -40,7 +35,7 @@ fn one_more(times: u64) -> u64 {
 }
 
 // A hundred times; only those that are accepted count.
-pub(crate) fn work(name: &[u8], source: &[u8]) {
+pub(crate) fn work(output: &mut impl Write, name: &str, source: &[u8]) {
     let mut m = cells();
     let mut map = marks();
     let mut times: u64 = 0;
@@ -56,7 +51,7 @@ pub(crate) fn work(name: &[u8], source: &[u8]) {
     }
     let words = add_words(0, &m);
     let sum = add_bytes(words, &map);
-    tell(name, times, code as u64, data as u64, sum);
+    tell(output, name, times, code as u64, data as u64, sum);
 }
 
 // The place of the first 0 byte, or the end.

@@ -3,7 +3,7 @@
 // each. For each a line that tells what it came to.
 #![tactic(auto)]
 
-ghost use Rattle.std.specs.Prelude.{◌≡◌, ◌<◌, length};
+ghost use Rattle.std.specs.Prelude.{◌≡◌, ◌≤◌, ◌<◌, length};
 
 mod assembling; // sources
 mod checksum;
@@ -12,6 +12,7 @@ mod images; // the three programs as words
 use checksum::{add_bytes, add_words};
 use machine::Registers;
 use machine::run::run;
+use std::io::{Read, Write};
 
 // What a work came to: the registers it left, the last run's stop, and the steps in all.
 #[derive(Clone, Copy)]
@@ -46,15 +47,8 @@ fn perform(m: &mut [u16], out: &mut [u8], budget: u32, runs: u32) -> Done {
     }
 }
 
-fn tell(name: &[u8], steps: u64, stop: u8, sum: u32) {
-    io::write_all(1, name);
-    io::write_all(1, b": ");
-    io::print_decimal(1, steps);
-    io::write_all(1, b" steps, stop ");
-    io::print_decimal(1, stop as u64);
-    io::write_all(1, b", checksum ");
-    io::print_decimal(1, sum as u64);
-    io::write_all(1, b"\n");
+fn tell(output: &mut impl Write, name: &str, steps: u64, stop: u8, sum: u32) {
+    let _ = writeln!(output, "{name}: {steps} steps, stop {stop}, checksum {sum}");
 }
 
 // A memory of 1,024 cells, all 0.
@@ -64,33 +58,56 @@ fn memory() -> [u16; 1024]
     [0; 1024]
 }
 
+// The room that a program writes into; and the sources as they are read.
+fn large_room() -> [u8; 65536]
+    ensures { 65536 ≡ length result }
+{
+    [0; 65536]
+}
+
 // A program's runs, and the line that tells what they came to.
-fn work(name: &[u8], words: &[u16], budget: u32, runs: u32) {
+fn work(output: &mut impl Write, name: &str, words: &[u16], budget: u32, runs: u32) {
     let mut cells = memory();
-    let mut room = io::large_buffer();
+    let mut room = large_room();
     images::load(&mut cells, words);
     let done = perform(&mut cells, &mut room, budget, runs);
     let r = done.registers.r;
     let registers = add_words(0, &r);
     let memory = add_words(registers, &cells);
     let sum = add_bytes(memory, &room);
-    tell(name, done.steps, done.stop, sum);
+    tell(output, name, done.steps, done.stop, sum);
 }
 
 // The two sources of standard input.
-fn sources(text: &[u8]) {
+fn sources(output: &mut impl Write, text: &[u8]) {
     let k = assembling::parted(text);
-    assembling::work(b"labels_20", &text[..k]);
+    assembling::work(output, "labels_20", &text[..k]);
     if k < text.len() {
-        assembling::work(b"labels_500", &text[k + 1..]);
+        assembling::work(output, "labels_500", &text[k + 1..]);
     }
 }
 
-fn main() {
-    work(b"arithmetic", &images::ARITHMETIC, 1000000, 8);
-    work(b"table", &images::TABLE, 1000000, 8);
-    work(b"text", &images::TEXT, 8000, 1000);
-    let mut text = io::large_buffer();
-    let n = io::read_full(0, &mut text);
-    sources(&text[..n]);
+// Reads until a room is full, the input ends or a read fails; how many bytes the room holds then.
+fn read_full(input: &mut impl Read, room: &mut [u8]) -> usize
+    ensures { result ≤ length room.new }
+{
+    let mut held = 0;
+    while held < room.len() {
+        match input.read(&mut room[held..]) {
+            Ok(0) => break,
+            Ok(n) => held += n,
+            Err(_) => break,
+        }
+    }
+    held
+}
+
+fn main(rt: HostRuntime) {
+    let mut output = rt.stdout();
+    work(&mut output, "arithmetic", &images::ARITHMETIC, 1000000, 8);
+    work(&mut output, "table", &images::TABLE, 1000000, 8);
+    work(&mut output, "text", &images::TEXT, 8000, 1000);
+    let mut text = large_room();
+    let n = read_full(&mut rt.stdin(), &mut text);
+    sources(&mut output, &text[..n]);
 }
