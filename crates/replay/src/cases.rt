@@ -14,7 +14,7 @@ fn budget(n: usize) -> u32 {
 }
 
 fn run_case(
-    output: &mut impl Write,
+    replies: &mut impl Write,
     s: &[u8],
     m: &mut [u16],
     given: &mut [u8],
@@ -22,12 +22,12 @@ fn run_case(
 ) -> Outcome {
     let steps = number(s, 2, 4294967295);
     let asked = Asked::Run(budget(steps.value));
-    machine_case(output, asked, s, steps.next, m, given, room)
+    machine_case(replies, asked, s, steps.next, m, given, room)
 }
 
 // A case line, without its LF, to its reply.
 fn answer(
-    output: &mut impl Write,
+    replies: &mut impl Write,
     s: &[u8],
     m: &mut [u16],
     given: &mut [u8],
@@ -40,21 +40,21 @@ fn answer(
         return Outcome::Malformed;
     }
     match s[0] {
-        b'A' => source_case(output, s, m, given, room),
-        b'D' => decode_case(output, s, m),
-        b'E' => encode_case(output, s),
-        b'G' => image_case(output, Text::Listing, s, m, given, room),
-        b'P' => image_case(output, Text::Printing, s, m, given, room),
-        b'R' => run_case(output, s, m, given, room),
-        b'S' => machine_case(output, Asked::Step, s, 2, m, given, room),
+        b'A' => source_case(replies, s, m, given, room),
+        b'D' => decode_case(replies, s, m),
+        b'E' => encode_case(replies, s),
+        b'G' => image_case(replies, Text::Listing, s, m, given, room),
+        b'P' => image_case(replies, Text::Printing, s, m, given, room),
+        b'R' => run_case(replies, s, m, given, room),
+        b'S' => machine_case(replies, Asked::Step, s, 2, m, given, room),
         _ => Outcome::Malformed,
     }
 }
 
-// Answers all of an input. A proved loop has to end, so it counts its lines up to a number that no input reaches.
+// Answers all cases. A proved loop has to end, so it counts its lines up to a number that no input reaches.
 pub(crate) fn answer_all(
-    input: &mut impl Read,
-    output: &mut impl Write,
+    cases: &mut impl Read,
+    replies: &mut impl Write,
     errors: &mut impl Write,
     text: &mut [u8],
     m: &mut [u16],
@@ -63,10 +63,9 @@ pub(crate) fn answer_all(
 ) {
     let mut from = 0;
     let mut held = 0;
-    let mut count: u64 = 0;
-    while count < u64::MAX {
-        count += 1;
-        let line = next_line(input, text, from, held);
+    for before in 0..u64::MAX {
+        let count = before + 1;
+        let line = next_line(cases, text, from, held);
         let found = line.outcome;
         if !goes_on(found) {
             tell(errors, found, count);
@@ -74,7 +73,7 @@ pub(crate) fn answer_all(
         }
         let start = line.start;
         let lf = line.lf;
-        let done = answer(output, &text[start..lf], m, given, room);
+        let done = answer(replies, &text[start..lf], m, given, room);
         if !goes_on(done) {
             tell(errors, done, count);
             return;

@@ -2,8 +2,7 @@
 use super::fields::{byte, is_whole, number, word};
 use super::memory::{CELLS, fill_room, lend_cells, lend_marks};
 use super::outcomes::Outcome;
-use super::replies::{Row, numbers, room_changed};
-use super::rooms::page;
+use super::replies::{Row, Sheet, numbers, room_changed};
 use image::Printed;
 use listing::Listed;
 use std::io::Write;
@@ -75,7 +74,7 @@ fn written(asked: Text, m: &[u16], map: &[u8], room: &mut [u8]) -> Row {
 
 // How the text was given, and the changed runs of the room.
 fn replied(
-    output: &mut impl Write,
+    replies: &mut impl Write,
     asked: Text,
     m: &[u16],
     map: &[u8],
@@ -85,14 +84,14 @@ fn replied(
     fill_room(room, filled);
     let r = written(asked, m, map, room);
     let list = r.numbers;
-    let mut out = page();
-    let next = numbers(output, &mut out, &list, r.count);
-    room_changed(output, &mut out, next, room, filled)
+    let mut out = Sheet::new(replies);
+    let next = numbers(&mut out, &list, r.count);
+    room_changed(&mut out, next, room, filled)
 }
 
 // `N A1 V1 .. AN VN MAPFILL K B1 C1 .. BK CK ROOM ROOMFILL` at a place of a line, over a memory and a map that are lent whole.
 fn with_memory(
-    output: &mut impl Write,
+    replies: &mut impl Write,
     asked: Text,
     s: &[u8],
     l: Loan,
@@ -111,12 +110,12 @@ fn with_memory(
     if room.len() < e {
         return Outcome::Malformed;
     }
-    replied(output, asked, m, map, &mut room[..e], byte(filled.value))
+    replied(replies, asked, m, map, &mut room[..e], byte(filled.value))
 }
 
 // `M MAPLEN FILL STEP` and the rest.
 pub(crate) fn image_case(
-    output: &mut impl Write,
+    replies: &mut impl Write,
     asked: Text,
     s: &[u8],
     m: &mut [u16],
@@ -132,5 +131,5 @@ pub(crate) fn image_case(
     if given.len() < k {
         return Outcome::Malformed;
     }
-    with_memory(output, asked, s, l, &mut m[..n], &mut given[..k], room)
+    with_memory(replies, asked, s, l, &mut m[..n], &mut given[..k], room)
 }

@@ -77,7 +77,7 @@ fn encoded(e: Encoded) -> Row {
 }
 
 // `OP K1 V1 K2 V2`.
-pub(crate) fn encode_case(output: &mut impl Write, s: &[u8]) -> Outcome {
+pub(crate) fn encode_case(replies: &mut impl Write, s: &[u8]) -> Outcome {
     let op = number(s, 2, 255);
     let kind = number(s, op.next, 8);
     let first = number(s, kind.next, 65535);
@@ -90,14 +90,14 @@ pub(crate) fn encode_case(output: &mut impl Write, s: &[u8]) -> Outcome {
     let b = operand(kind2.value, word(second.value));
     match opcode(word(op.value)) {
         FoundOpcode::Known(op) => put_row(
-            output,
+            replies,
             encoded(encode(Instruction {
                 op: op,
                 first: a,
                 second: b,
             })),
         ),
-        FoundOpcode::Unknown => put_row(output, one(5)),
+        FoundOpcode::Unknown => put_row(replies, one(5)),
     }
 }
 
@@ -143,20 +143,20 @@ fn take_words(m: &mut [u16], s: &[u8], from: usize) -> usize {
     next
 }
 
-fn decode_words(output: &mut impl Write, m: &mut [u16], s: &[u8], from: usize) -> Outcome {
+fn decode_words(replies: &mut impl Write, m: &mut [u16], s: &[u8], from: usize) -> Outcome {
     let next = take_words(m, s, from);
     if !is_whole(s, next) {
         return Outcome::Malformed;
     }
-    put_row(output, decoded(decode(m, Address(0))))
+    put_row(replies, decoded(decode(m, Address(0))))
 }
 
 // `N W1 .. WN`.
-pub(crate) fn decode_case(output: &mut impl Write, s: &[u8], m: &mut [u16]) -> Outcome {
+pub(crate) fn decode_case(replies: &mut impl Write, s: &[u8], m: &mut [u16]) -> Outcome {
     let count = number(s, 2, 5);
     let n = count.value;
     if m.len() < n {
         return Outcome::Malformed;
     }
-    decode_words(output, &mut m[..n], s, count.next)
+    decode_words(replies, &mut m[..n], s, count.next)
 }

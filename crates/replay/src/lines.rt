@@ -1,8 +1,7 @@
-// The lines of an input, read by parts into a room that holds the longest line.
-ghost use Rattle.std.specs.Prelude.{◌<◌, ◌≤◌, length, IfOk};
+// The lines of standard input, read by parts into a room that holds the longest line.
+ghost use Rattle.std.specs.Prelude.{◌<◌, ◌≤◌, length};
 
 use super::outcomes::Outcome;
-use std::io;
 use std::io::Read;
 
 // A line's place in the room, the place after its LF, and how much of the room is held; or why there is none.
@@ -13,6 +12,13 @@ pub(crate) struct Found {
     pub lf: usize,
     pub after: usize,
     pub held: usize,
+}
+
+// What was read: how much is held then, or that it cannot be read.
+#[derive(Clone, Copy)]
+struct Taken {
+    held: usize,
+    failed: bool,
 }
 
 fn no_line(why: Outcome) -> Found
@@ -61,15 +67,36 @@ fn keep_rest(text: &mut [u8], from: usize, held: usize) -> usize
     n
 }
 
-// Reads on behind what is held: how much is held then.
-fn read_more(input: &mut impl Read, text: &mut [u8], held: usize) -> io::Result<usize>
-    ensures { IfOk result (λ n. n ≤ length text.new) }
+fn read_some(cases: &mut impl Read, part: &mut [u8]) -> Taken
+    ensures { result.held ≤ length part.new }
+{
+    match cases.read(part) {
+        Ok(n) => Taken {
+            held: n,
+            failed: false,
+        },
+        Err(_) => Taken {
+            held: 0,
+            failed: true,
+        },
+    }
+}
+
+// Reads on behind what is held.
+fn read_more(cases: &mut impl Read, text: &mut [u8], held: usize) -> Taken
+    ensures { result.held ≤ length text.new }
 {
     if text.len() <= held {
-        return Ok(text.len());
+        return Taken {
+            held: text.len(),
+            failed: false,
+        };
     }
-    let got = input.read(&mut text[held..])?;
-    Ok(held + got)
+    let got = read_some(cases, &mut text[held..]);
+    Taken {
+        held: held + got.held,
+        failed: got.failed,
+    }
 }
 
 // Why no line follows so much of one, where nothing more was read.
@@ -85,17 +112,19 @@ fn ended(held: usize, room: usize) -> Outcome {
 }
 
 // Reads on behind the start of a line until it ends.
-fn read_line(input: &mut impl Read, text: &mut [u8], rest: usize) -> Found
+fn read_line(cases: &mut impl Read, text: &mut [u8], rest: usize) -> Found
     ensures { (result.start ≤ result.lf) × (result.lf ≤ length text.new) × (result.held ≤ length text.new) }
 {
     let mut held = rest;
     loop {
-        let Ok(end) = read_more(input, text, held) else {
+        let more = read_more(cases, text, held);
+        if more.failed {
             return no_line(Outcome::Unreadable);
-        };
-        if end <= held {
+        }
+        if more.held <= held {
             return no_line(ended(held, text.len()));
         }
+        let end = more.held;
         let lf = lf_from(&text[..end], held);
         if lf < end {
             return Found {
@@ -111,7 +140,7 @@ fn read_line(input: &mut impl Read, text: &mut [u8], rest: usize) -> Found
 }
 
 // The next line, from a place of what is held on.
-pub(crate) fn next_line(input: &mut impl Read, text: &mut [u8], from: usize, held: usize) -> Found
+pub(crate) fn next_line(cases: &mut impl Read, text: &mut [u8], from: usize, held: usize) -> Found
     requires { held ≤ length text.old }
     ensures { (result.start ≤ result.lf) × (result.lf ≤ length text.new) × (result.held ≤ length text.new) }
 {
@@ -126,5 +155,5 @@ pub(crate) fn next_line(input: &mut impl Read, text: &mut [u8], from: usize, hel
         };
     }
     let rest = keep_rest(text, from, held);
-    read_line(input, text, rest)
+    read_line(cases, text, rest)
 }

@@ -2,8 +2,7 @@
 use super::fields::{Field, NOWHERE, byte, bytes, is_whole, number, word};
 use super::memory::{CELLS, fill_room, keep, lend_cells};
 use super::outcomes::Outcome;
-use super::replies::{cells_changed, field, room_changed, words};
-use super::rooms::page;
+use super::replies::{Sheet, cells_changed, field, room_changed, words};
 use machine::Registers;
 use machine::run::run;
 use machine::step::step;
@@ -129,34 +128,34 @@ fn operate(asked: Asked, g: Registers, m: &mut [u16], input: &[u8], room: &mut [
 }
 
 // The stop, and the steps of a run.
-fn head(output: &mut impl Write, out: &mut [u8], d: Done) -> usize {
-    let stop = field(output, out, 0, d.stop as usize);
+fn head<W: Write>(out: &mut Sheet<'_, W>, d: Done) -> usize {
+    let stop = field(out, 0, d.stop as usize);
     if d.is_run {
-        return field(output, out, stop, d.count as usize);
+        return field(out, stop, d.count as usize);
     }
     stop
 }
 
 // The record that is left.
-fn record(output: &mut impl Write, out: &mut [u8], at: usize, g: Registers) -> usize {
+fn record<W: Write>(out: &mut Sheet<'_, W>, at: usize, g: Registers) -> usize {
     let r = g.r;
-    let registers = words(output, out, at, &r);
-    let stop = field(output, out, registers, g.stop as usize);
-    let taken = field(output, out, stop, g.taken);
-    field(output, out, taken, g.written)
+    let registers = words(out, at, &r);
+    let stop = field(out, registers, g.stop as usize);
+    let taken = field(out, stop, g.taken);
+    field(out, taken, g.written)
 }
 
-fn reply(output: &mut impl Write, d: Done, m: &[u16], n: usize, room: &[u8], fill: u8) -> Outcome {
-    let mut out = page();
-    let stop = head(output, &mut out, d);
-    let left = record(output, &mut out, stop, d.registers);
-    let changed = cells_changed(output, &mut out, left, m, n);
-    room_changed(output, &mut out, changed, room, fill)
+fn reply(replies: &mut impl Write, d: Done, m: &[u16], n: usize, room: &[u8], fill: u8) -> Outcome {
+    let mut out = Sheet::new(replies);
+    let stop = head(&mut out, d);
+    let left = record(&mut out, stop, d.registers);
+    let changed = cells_changed(&mut out, left, m, n);
+    room_changed(&mut out, changed, room, fill)
 }
 
 // A machine over the first n cells of a memory.
 fn operated(
-    output: &mut impl Write,
+    replies: &mut impl Write,
     asked: Asked,
     g: Registers,
     m: &mut [u16],
@@ -170,12 +169,12 @@ fn operated(
     }
     fill_room(room, fill);
     let done = operate(asked, g, &mut m[..n], input, room);
-    reply(output, done, m, n, room, fill)
+    reply(replies, done, m, n, room, fill)
 }
 
 // A machine at a place of a line.
 pub(crate) fn machine_case(
-    output: &mut impl Write,
+    replies: &mut impl Write,
     asked: Asked,
     s: &[u8],
     from: usize,
@@ -197,7 +196,7 @@ pub(crate) fn machine_case(
         return Outcome::Malformed;
     }
     operated(
-        output,
+        replies,
         asked,
         l.registers,
         m,

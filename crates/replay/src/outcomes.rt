@@ -1,6 +1,6 @@
-// How far it went with a line: on, to the end of the input, or no further, for a reason that is told.
 use std::io::Write;
 
+// How far it went with a line: on, to the end of the input, or no further, for a reason that is told.
 #[derive(Clone, Copy)]
 pub(crate) enum Outcome {
     On,

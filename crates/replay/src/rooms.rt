@@ -28,10 +28,3 @@ pub(crate) fn room() -> [u8; 2000000]
 {
     [0; 2000000]
 }
-
-// A page of a reply.
-pub(crate) fn page() -> [u8; 4096]
-    ensures { 4096 ≡ length result }
-{
-    [0; 4096]
-}

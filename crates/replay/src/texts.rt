@@ -3,44 +3,43 @@ use super::fields::{byte, bytes, is_whole, number};
 use super::images::{Loan, loan_at};
 use super::memory::{CELLS, fill, fill_room, keep, marked};
 use super::outcomes::Outcome;
-use super::replies::{cells_changed, end, field, marks};
-use super::rooms::page;
+use super::replies::{Sheet, cells_changed, end, field, marks};
 use assembler::Reply;
 use std::io::Write;
 
 // Refusal, line, column, the operand's place, and counts: code, data, reserved.
-fn head(output: &mut impl Write, out: &mut [u8], a: Reply) -> usize {
+fn head<W: Write>(out: &mut Sheet<'_, W>, a: Reply) -> usize {
     let line = a.line;
     let column = a.column;
-    let refusal = field(output, out, 0, a.refusal as usize);
-    let numbered = field(output, out, refusal, line.0);
-    let pointed = field(output, out, numbered, column.0);
-    let operand = field(output, out, pointed, a.place as usize);
-    let instructions = field(output, out, operand, a.code);
-    let items = field(output, out, instructions, a.data);
-    field(output, out, items, a.reserved)
+    let refusal = field(out, 0, a.refusal as usize);
+    let numbered = field(out, refusal, line.0);
+    let pointed = field(out, numbered, column.0);
+    let operand = field(out, pointed, a.place as usize);
+    let instructions = field(out, operand, a.code);
+    let items = field(out, instructions, a.data);
+    field(out, items, a.reserved)
 }
 
 // Every cell and mark that is not as it was before, or as it is kept.
 fn replied(
-    output: &mut impl Write,
+    replies: &mut impl Write,
     a: Reply,
     m: &[u16],
     n: usize,
     map: &[u8],
     mark: u8,
 ) -> Outcome {
-    let mut out = page();
-    let counts = head(output, &mut out, a);
-    let changed = cells_changed(output, &mut out, counts, m, n);
-    let number = field(output, &mut out, changed, marked(map, mark));
-    let shown = marks(output, &mut out, number, map, mark);
-    end(output, &mut out, shown)
+    let mut out = Sheet::new(replies);
+    let counts = head(&mut out, a);
+    let changed = cells_changed(&mut out, counts, m, n);
+    let number = field(&mut out, changed, marked(map, mark));
+    let shown = marks(&mut out, number, map, mark);
+    end(&mut out, shown)
 }
 
 // Assembles into a memory that is filled and kept, and replies: after a refusal what is not as it was lent is told, after acceptance what is not 0.
 fn assembled(
-    output: &mut impl Write,
+    replies: &mut impl Write,
     source: &[u8],
     l: Loan,
     m: &mut [u16],
@@ -60,14 +59,14 @@ fn assembled(
     let a = assembler::assemble::assemble(source, &mut m[..n], map);
     if a.refusal == 0 {
         fill(&mut m[CELLS..], 0, 0);
-        return replied(output, a, m, n, map, 0);
+        return replied(replies, a, m, n, map, 0);
     }
-    replied(output, a, m, n, map, mark)
+    replied(replies, a, m, n, map, mark)
 }
 
 // `M MAPLEN FILL STEP MAPFILL SOURCE`.
 pub(crate) fn source_case(
-    output: &mut impl Write,
+    replies: &mut impl Write,
     s: &[u8],
     m: &mut [u16],
     given: &mut [u8],
@@ -87,5 +86,5 @@ pub(crate) fn source_case(
     if given.len() < e {
         return Outcome::Malformed;
     }
-    assembled(output, &given[..e], l, m, &mut room[..k], byte(mark.value))
+    assembled(replies, &given[..e], l, m, &mut room[..k], byte(mark.value))
 }

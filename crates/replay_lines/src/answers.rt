@@ -141,11 +141,11 @@ fn reply(out: &mut [u8], line: &[u8], l: LabelIn, s: StatementRead) -> usize {
 }
 
 // Answers a line; whether its reply could be written.
-pub(crate) fn answer(output: &mut impl Write, line: &[u8]) -> bool {
+pub(crate) fn answer(replies: &mut impl Write, line: &[u8]) -> bool {
     let mut out = room();
     let read = read_line(line);
     let l = read.label;
     let s = read.statement;
     let at = reply(&mut out, line, l, s);
-    write(output, &mut out, at)
+    write(replies, &mut out, at)
 }

@@ -34,6 +34,13 @@ struct Spelt {
     next: Next,
 }
 
+// How much was read, or that nothing can be.
+#[derive(Clone, Copy)]
+struct Taken {
+    bytes: usize,
+    failed: bool,
+}
+
 fn after(held: usize, next: Next) -> Spelt {
     Spelt {
         held: held,
@@ -84,11 +91,11 @@ fn low(line: &mut [u8], held: usize, first: u8, b: u8) -> Spelt {
 }
 
 // The end of a case: its line is answered.
-fn ended(output: &mut impl Write, line: &[u8], held: usize) -> Spelt {
+fn ended(replies: &mut impl Write, line: &[u8], held: usize) -> Spelt {
     if line.len() < held {
         return stopped(held, Why::TooLong);
     }
-    if answer(output, &line[..held]) {
+    if answer(replies, &line[..held]) {
         return after(0, Next::Letter);
     }
     stopped(0, Why::Unwritten)
@@ -103,7 +110,7 @@ fn expected(held: usize, b: u8, other: u8, next: Next) -> Spelt {
 }
 
 // One byte more.
-fn more(output: &mut impl Write, line: &mut [u8], held: usize, next: Next, b: u8) -> Spelt {
+fn more(replies: &mut impl Write, line: &mut [u8], held: usize, next: Next, b: u8) -> Spelt {
     match next {
         Next::Letter => expected(held, b, b'L', Next::Blank),
         Next::Blank => expected(held, b, b' ', Next::First),
@@ -115,14 +122,14 @@ fn more(output: &mut impl Write, line: &mut [u8], held: usize, next: Next, b: u8
         }
         Next::High => {
             if b == b'\n' {
-                return ended(output, line, held);
+                return ended(replies, line, held);
             }
             high(held, b)
         }
         Next::Low(first) => low(line, held, first, b),
         Next::LineEnd => {
             if b == b'\n' {
-                return ended(output, line, held);
+                return ended(replies, line, held);
             }
             stopped(held, Why::Malformed)
         }
@@ -130,13 +137,13 @@ fn more(output: &mut impl Write, line: &mut [u8], held: usize, next: Next, b: u8
     }
 }
 
-// The bytes of a part of an input.
-fn part(output: &mut impl Write, line: &mut [u8], bytes: &[u8], held: usize, next: Next) -> Spelt {
+// The bytes of a part of standard input.
+fn part(replies: &mut impl Write, line: &mut [u8], bytes: &[u8], held: usize, next: Next) -> Spelt {
     let mut now = after(held, next);
     for i in 0..bytes.len() {
         let so_far = now.held;
         let then = now.next;
-        now = more(output, line, so_far, then, bytes[i]);
+        now = more(replies, line, so_far, then, bytes[i]);
     }
     now
 }
@@ -148,18 +155,34 @@ fn longest() -> [u8; 33000]
     [0; 33000]
 }
 
-fn say(errors: &mut impl Write, why: &str) {
-    let _ = writeln!(errors, "replay_lines: {why}");
+fn read_some(cases: &mut impl Read, part: &mut [u8]) -> Taken
+    ensures { result.bytes ≤ length part.new }
+{
+    match cases.read(part) {
+        Ok(n) => Taken {
+            bytes: n,
+            failed: false,
+        },
+        Err(_) => Taken {
+            bytes: 0,
+            failed: true,
+        },
+    }
+}
+
+fn say(errors: &mut impl Write, why: &[u8]) {
+    let _ = errors.write_all(b"replay_lines: ");
+    let _ = errors.write_all(why);
 }
 
 // A sentence on standard error.
 fn tell(errors: &mut impl Write, why: Why) {
     match why {
-        Why::Malformed => say(errors, "a case is malformed"),
-        Why::TooLong => say(errors, "a line is too long"),
-        Why::Unfinished => say(errors, "the last case ends without its LF"),
-        Why::Unreadable => say(errors, "the cases cannot be read"),
-        Why::Unwritten => say(errors, "a reply cannot be written"),
+        Why::Malformed => say(errors, b"a case is malformed\n"),
+        Why::TooLong => say(errors, b"a line is too long\n"),
+        Why::Unfinished => say(errors, b"the last case ends without its LF\n"),
+        Why::Unreadable => say(errors, b"the cases cannot be read\n"),
+        Why::Unwritten => say(errors, b"a reply cannot be written\n"),
     }
 }
 
@@ -188,29 +211,33 @@ fn end(errors: &mut impl Write, next: Next) {
     }
 }
 
-// Answers all of an input. A proved loop has to end, so it counts its turns down from a number that no run uses up.
-pub(crate) fn answer_all(input: &mut impl Read, output: &mut impl Write, errors: &mut impl Write) {
+// What is next where nothing more was read.
+fn at_end(failed: bool, next: Next) -> Next {
+    if failed {
+        return Next::Nothing(Why::Unreadable);
+    }
+    next
+}
+
+// Answers all cases. A proved loop has to end, so it counts its turns up to a number that no run reaches.
+pub(crate) fn answer_all(cases: &mut impl Read, replies: &mut impl Write, errors: &mut impl Write) {
     let mut line = longest();
     let mut bytes = room();
     let mut now = after(0, Next::Letter);
-    let mut turns = u64::MAX;
-    while 0 < turns {
+    for _ in 0..u64::MAX {
         let so_far = now.held;
         let then = now.next;
-        let Ok(n) = input.read(&mut bytes) else {
-            tell(errors, Why::Unreadable);
-            return;
-        };
+        let got = read_some(cases, &mut bytes);
+        let n = got.bytes;
         if n == 0 {
-            end(errors, then);
+            end(errors, at_end(got.failed, then));
             return;
         }
-        now = part(output, &mut line, &bytes[..n], so_far, then);
+        now = part(replies, &mut line, &bytes[..n], so_far, then);
         let reached = now.next;
         if is_over(reached) {
             end(errors, reached);
             return;
         }
-        turns -= 1;
     }
 }

@@ -45,10 +45,10 @@ pub(crate) fn letter(out: &mut [u8], at: usize, b: u8) -> usize {
 }
 
 // Writes a reply and its line end; whether it could.
-pub(crate) fn write(output: &mut impl Write, out: &mut [u8], at: usize) -> bool {
+pub(crate) fn write(replies: &mut impl Write, out: &mut [u8], at: usize) -> bool {
     let end = put(out, at, b'\n');
     if out.len() < end {
         return false;
     }
-    output.write_all(&out[..end]).is_ok()
+    replies.write_all(&out[..end]).is_ok()
 }

@@ -11,7 +11,6 @@ use lib.Seq.{drop-cons}
 use Rattle.numerals.specs.Bytes.{rank}
 use Rattle.numerals.specs.Digits.{all_below, worth_after}
 use Rattle.run.specs.Budgets.{budget_after, budget_of, usual_budget, budget_asked}
-use Rattle.run.specs.declared.Budget.{Budget}
 use Rattle.run.specs.declared.Budget.TheVariants.{Steps, Wrong}
 
 pub budget_none : (word : List ℕ) → length word ≡ 0 → Wrong ≡ budget_of word

@@ -1,7 +1,6 @@
 -- The parts that are lent end within memory and map.
 use native.Mathlib.Omega.{arith}
 use lib.ListN.{length-take}
-use borrow.Author.Rules.{rules}
 use Rattle.run.proofs.run_text.Goals as goal
 
 pub slice_bounds-run_at-end : goal.slice_bounds-run_at-end

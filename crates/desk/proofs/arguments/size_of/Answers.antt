@@ -2,7 +2,6 @@
 use mathlib.Core.Path.{sym, ◌∙◌}
 use native.Mathlib.Omega.{arith}
 use Rattle.desk.proofs.Words.{size-absent, size-rest, size_large, size-decimal, size-hexadecimal}
-use borrow.Author.Rules.{rules}
 use Rattle.desk.proofs.arguments.size_of.Goals as goal
 
 pub returns-then-c-word : goal.returns-then-c-word

@@ -2,7 +2,6 @@
 use native.Mathlib.Omega.{arith}
 use lib.ListN.{length}
 use Rattle.desk.proofs.Shown.{from-within, nowhere-shown, outside-shown, line-shown}
-use borrow.Author.Rules.{rules}
 use Rattle.desk.proofs.excerpts.excerpt.Goals as goal
 
 pub returns-then-column-eq0 : goal.returns-then-column-eq0

@@ -1,8 +1,6 @@
 -- The first n of 80 blanks are n blanks; then piece behind piece (`caret-put`).
-use mathlib.Core.Path.{sym}
 use native.Mathlib.Omega.{arith}
 use Rattle.desk.proofs.Shown.{blanks-taken, blanks-length, caret_put}
-use borrow.Author.Rules.{rules}
 use Rattle.desk.proofs.excerpts.put_caret.Goals as goal
 
 pub piece-caret-requires : goal.piece-caret-requires

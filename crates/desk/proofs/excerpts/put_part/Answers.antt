@@ -3,7 +3,6 @@ use native.Mathlib.Omega.{arith}
 use lib.ListN.{length-map}
 use Rattle.desk.specs.Excerpts.{shown_byte}
 use Rattle.desk.proofs.Shown.{part_put}
-use borrow.Author.Rules.{rules}
 use Rattle.desk.proofs.excerpts.put_part.Goals as goal
 
 pub piece-requires : goal.piece-requires

@@ -1,5 +1,4 @@
 -- Each turn shows one byte more (`copy_more`).
-use borrow.Author.Rules.{rules}
 use mathlib.Core.Path.{ap, ◌∙◌}
 use mathlib.Core.List.{map}
 use native.Mathlib.Omega.{arith}

@@ -1,15 +1,9 @@
 -- Each turn shows one byte more (`copy_more`).
-use borrow.Author.Rules.{rules}
-use mathlib.Core.Path.{ap, ◌∙◌}
 use mathlib.Core.List.{map}
-use native.Mathlib.Omega.{arith}
 use Prim.Native.Nat.{◌-◌}
-use lib.ListN.{length, length-map}
-use lib.Seq.{take_all}
-use Rattle.ports.specs.Overwriting.{overwrite}
-use Rattle.ports.proofs.Overwrites.{Copied, copy_none, copy_more, copy_end}
+use lib.ListN.{length}
+use Rattle.ports.proofs.Overwrites.{Copied}
 use Rattle.desk.specs.Excerpts.{shown_byte}
-use Rattle.desk.proofs.Shown.{shown_at}
 use Rattle.desk.proofs.excerpts.put_shown.Given as goal
 
 abbrev pub invariant-loop-k : goal.invariant-loop-k

@@ -2,7 +2,6 @@
 use mathlib.Core.Path.{◌∙◌}
 use native.Mathlib.Omega.{arith}
 use Rattle.desk.proofs.Shown.{from-short, from-long}
-use borrow.Author.Rules.{rules}
 use Rattle.desk.proofs.excerpts.shown_from.Goals as goal
 
 pub returns-then-size-le80 : goal.returns-then-size-le80

@@ -1,6 +1,5 @@
 -- What `put_text` does, by its two answers.
 use Rattle.desk.proofs.Putting.{put_so}
-use borrow.Author.Rules.{rules}
 use Rattle.desk.proofs.printing.put.Goals as goal
 
 pub returns-in-To : goal.returns-in-To

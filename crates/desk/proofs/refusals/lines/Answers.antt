@@ -2,7 +2,6 @@
 use native.Mathlib.Omega.{arith}
 use Rattle.numerals.specs.Bytes.{bytes}
 use Rattle.desk.proofs.Told.{field_length, lines-told}
-use borrow.Author.Rules.{rules}
 use Rattle.desk.proofs.refusals.lines.Goals as goal
 
 pub field-second-requires : goal.field-second-requires

@@ -1,6 +1,5 @@
 -- A name that is too long is left out (`name-long`); any other fits (`name-put`).
 use Rattle.desk.proofs.Told.{name-long, name-put}
-use borrow.Author.Rules.{rules}
 use Rattle.desk.proofs.refusals.name.Goals as goal
 
 pub returns-then-path-gt4096 : goal.returns-then-path-gt4096

@@ -2,7 +2,6 @@
 use native.Mathlib.Omega.{arith}
 use Rattle.numerals.specs.Bytes.{bytes}
 use Rattle.desk.proofs.Told.{field_length, sentence_told}
-use borrow.Author.Rules.{rules}
 use Rattle.desk.proofs.refusals.sentence.Goals as goal
 
 pub field-second-requires : goal.field-second-requires

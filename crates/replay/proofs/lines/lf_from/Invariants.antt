@@ -1,5 +1,5 @@
 -- The place never goes back. The measure is what is left of the text.
-use Rattle.std.proofs.Common.{◌-◌, ◌≤◌, length, rules}
+use Rattle.std.proofs.Common.{◌-◌, ◌≤◌, length}
 use Rattle.replay.proofs.lines.lf_from.Given as goal
 
 abbrev pub invariant-loop-i : goal.invariant-loop-i

@@ -1,7 +1,6 @@
 -- One law for each way out.
 use mathlib.Core.Path.{◌∙◌}
 use Rattle.run.proofs.Budgets.{asked-usual, asked-named, asked-other}
-use borrow.Author.Rules.{rules}
 use Rattle.run.proofs.arguments.asked.Goals as goal
 
 pub returns-then-words-eq3 : goal.returns-then-words-eq3

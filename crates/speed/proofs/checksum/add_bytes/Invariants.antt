@@ -1,12 +1,6 @@
--- As for words: the sum is below 1,000,003, so that 31 times it and a byte fit.
-use native.Mathlib.Omega.{arith}
-use Prim.Native.Nat.{◌≤◌, ◌<◌, ◌-◌}
-use lib.ListN.{length}
-use mathlib.Core.Path.{◌≡◌}
+-- The sum is below 1,000,003, so that 31 times it and a number more fit.
+use Rattle.std.proofs.Common.{◌<◌}
 use Rattle.speed.proofs.checksum.add_bytes.Given as goal
 
 abbrev pub invariant-loop-i : goal.invariant-loop-i
-invariant-loop-i l = (l.i ≤ i-end) × (i-end ≡ length l.bytes) × (l.sum < 1000003)
-
-abbrev pub decreases-loop-i : goal.decreases-loop-i
-decreases-loop-i l = i-end - l.i
+invariant-loop-i l = l.sum < 1000003

@@ -1,6 +1,0 @@
--- A store keeps the length of the memory.
-use Rattle.std.proofs.Common.{◌≡◌, ◌-◌, ◌≤◌, length, arith, length-set, rules}
-use Rattle.replay.proofs.instructions.take_words.Goals as goal
-
-pub loop-i-preserved : goal.loop-i-preserved
-loop-i-preserved c = (omega arith, omega arith, simp length-set (omega arith))
