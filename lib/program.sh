@@ -4,7 +4,7 @@
 # The program is proved and built on the first call, and again once a file of crates/ is newer or the kit is another.
 name=$(basename "$0")
 program=$here/crates/$name/out/$name
-kit=$(rt version)
+kit=$(rt version < /dev/null)
 
 # What the program printed, and what it told on standard error. A program of the kit always exits 0: these two, and whether they are
 # whole, give the status. A signal ends by `exit` too, or they and the lock would stay.
