@@ -1,11 +1,11 @@
 // The cases of the input, each to its reply.
+use super::assembling::source_case;
 use super::fields::number;
 use super::images::{Text, image_case};
 use super::instructions::{decode_case, encode_case};
 use super::lines::next_line;
 use super::machines::{Asked, machine_case};
 use super::outcomes::{Outcome, goes_on, tell};
-use super::texts::source_case;
 use std::io::{Read, Write};
 
 // The budget of a run, of at most 32 bits.

@@ -13,7 +13,7 @@ mod memory; // what is lent, and what changed in it
 mod outcomes; // how far it went
 mod replies; // the text of a reply
 mod rooms; // rooms as large as the largest case
-mod texts; // assembling
+mod assembling; // sources
 
 fn main(rt: HostRuntime) {
     let mut text = rooms::text();
