@@ -1,6 +1,6 @@
 // `assemble FILE M`: assembles a file and prints its image, or `refused=`, `line=` and `column=` (document 01, "The printed image"; 02, K4). A
 // refusal is told on standard error too, in one sentence with the line and a caret; so is a file that cannot be read, and output that cannot
-// be written. M is judged before the file is opened. A program of this kit has no exit status of its own: the script `assemble` at the root gives one by what was printed.
+// be written. M is judged before the file is opened. The program ends with 0 whatever it says: the script `assemble` at the root gives a status by what was printed.
 #![tactic(auto)]
 
 mod printing; // the image, written out

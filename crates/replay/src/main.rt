@@ -1,6 +1,6 @@
 // Answers cases with the proved crates, in the second program's format (docs/COMPARED.md, "Cases" and "Replies", every kind but L): cases
 // from standard input, replies to standard output. A line has at most 1,048,576 bytes with its LF. What keeps a case from being answered is
-// told on standard error and ends the program. A program of this kit has no exit status of its own: `second/cases/answer` gives one.
+// told on standard error and ends the program. The program ends with 0 whatever it says: `second/cases/answer` gives a status.
 #![tactic(auto)]
 
 mod cases; // the cases of the input, each to its reply

@@ -1,6 +1,6 @@
 // `run FILE M [BUDGET]`: assembles a file and runs it from registers of zero, with standard input as its input. The rule's output goes to
-// standard output, the record of the run (crates/record) to standard error. A refused source is told as by `assemble`. A program of this
-// kit has no exit status of its own: the script `run` at the root gives one by what was printed.
+// standard output, the record of the run (crates/record) to standard error. A refused source is told as by `assemble`. The program
+// ends with 0 whatever it says: the script `run` at the root gives a status by what was printed.
 #![tactic(auto)]
 
 mod arguments; // BUDGET

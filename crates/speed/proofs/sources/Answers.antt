@@ -1,3 +1,0 @@
--- MANUAL: -- no goal slice-aggregate-work-2
--- MANUAL: slice-aggregate-work-2 : tie.Need-slice-aggregate-work-2
--- MANUAL: slice-aggregate-work-2 c = sym (length-take-le c.before.before.parted.result c.before.before.before.before.args.text.now c.before.before.parted.ensures)
