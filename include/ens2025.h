@@ -10,9 +10,9 @@
  *     (cd crates/host && rt lib)                          writes crates/host/out/libhost.a
  *     cc -Iinclude your.c crates/host/out/libhost.a       it needs only memcpy of the C library
  *
- * The archive is x86-64 on every machine that writes it: a compiler for Arm cannot link it, one for x86-64 can.
+ * The archive is for x86-64.
  *
- * examples/host.c is a whole program; examples/host builds and runs it, on Arm with such a compiler and an emulator.
+ * examples/host.c is a whole program; examples/host builds and runs it.
  */
 #ifndef ENS2025_INCLUDED
 #define ENS2025_INCLUDED
