@@ -15,7 +15,7 @@ use Rattle.arithmetic.specs.Cells.{signed, cell, leaves16}
 use Rattle.arithmetic.specs.Flags.{bit, is_zero, odd_ones, is_negative, flags_of}
 use Rattle.arithmetic.specs.Operations.{outcome, ADD, SUB, MUL, DIV, MOD, AND, OR, XOR, NOT, least_by_minus_one}
 use Rattle.arithmetic.specs.declared.Outcome.{Outcome}
-use Rattle.arithmetic.specs.declared.Division.TheVariants.{Done, ByZero}
+use Rattle.std.proofs.Common.{Some, None}
 use Rattle.arithmetic.proofs.Readings.{small, cell-signed, cell-small, mag-minus, quotient-small, remainder_small}
 use Rattle.arithmetic.proofs.Residues.{read, sum_same, difference-same, product-same}
 
@@ -76,17 +76,17 @@ unfolding MUL
 MUL-fits x y = outcome_fits (x * y % 65536) _ _ (omega arith)
 
 -- a division that is done gives what it computes
-done-gives : (t : Bool) (o p : Outcome) → cond t ByZero (Done o) ≡ Done p → Fit o → Fit p
+done-gives : (t : Bool) (o p : Outcome) → cond t None (Some o) ≡ Some p → Fit o → Fit p
 done-gives true o p e f = let z : ◌≡◌ {A = ℕ} 0 1 = cc in absurd (omega arith)
 done-gives false o p e f = let q : o ≡ p = cc in rw q at f
 
-pub DIV-fits : (x y : ℕ) {o : Outcome} → x < 65536 → DIV x y ≡ Done o → Fit o
+pub DIV-fits : (x y : ℕ) {o : Outcome} → x < 65536 → DIV x y ≡ Some o → Fit o
 unfolding DIV
 DIV-fits x y {o} h e =
     done-gives (eqb y 0) _ o e
     (outcome_fits (cell (quot_z (signed x) (signed y))) _ _ (cell-small (quot_z (signed x) (signed y)) (quotient-small x y h)))
 
-pub MOD-fits : (x y : ℕ) {o : Outcome} → x < 65536 → MOD x y ≡ Done o → Fit o
+pub MOD-fits : (x y : ℕ) {o : Outcome} → x < 65536 → MOD x y ≡ Some o → Fit o
 unfolding MOD
 MOD-fits x y {o} h e =
     done-gives (eqb y 0) _ o e

@@ -6,8 +6,7 @@ use Rattle.codes.specs.Stops.{none, zero_divisor}
 use Rattle.arithmetic.specs.Cells.{signed, cell, leaves16}
 use Rattle.arithmetic.specs.Flags.{flags_of}
 use Rattle.arithmetic.specs.declared.Outcome.{Outcome}
-use Rattle.arithmetic.specs.declared.Division.{Division}
-use Rattle.arithmetic.specs.declared.Division.TheVariants.{Done, ByZero}
+use Rattle.std.specs.Prelude.{Option, Some, None}
 
 -- a result with the flags that it gives
 unfoldable pub outcome : ℕ → Bool → Bool → Outcome
@@ -43,12 +42,12 @@ abbrev pub least_by_minus_one : ℕ → ℕ → Bool
 least_by_minus_one x y = eqb x 32768 && eqb y 65535
 
 -- "The quotient is signed and cut toward zero ..; C is 0"; a zero divisor is stop 6
-unfoldable pub DIV : ℕ → ℕ → Division
-DIV x y = cond (eqb y 0) ByZero (Done (outcome (cell (quot_z (signed x) (signed y))) false (least_by_minus_one x y)))
+unfoldable pub DIV : ℕ → ℕ → Option Outcome
+DIV x y = cond (eqb y 0) None (Some (outcome (cell (quot_z (signed x) (signed y))) false (least_by_minus_one x y)))
 
 -- ".. MOD takes the dividend's sign; C is 0 for both; V is 1 only for DIV"
-unfoldable pub MOD : ℕ → ℕ → Division
-MOD x y = cond (eqb y 0) ByZero (Done (outcome (cell (rem_z (signed x) (signed y))) false false))
+unfoldable pub MOD : ℕ → ℕ → Option Outcome
+MOD x y = cond (eqb y 0) None (Some (outcome (cell (rem_z (signed x) (signed y))) false false))
 
 -- bit by bit; "logic and moves set none" of the flags
 abbrev pub AND : ℕ → ℕ → ℕ
@@ -65,6 +64,6 @@ abbrev pub NOT : ℕ → ℕ
 NOT x = 65535 - x
 
 -- a division's stop: 6 for a zero divisor, else 0 (01, "Stops")
-abbrev pub stop_of_division : Division → ℕ
-stop_of_division (Done o) = none
-stop_of_division ByZero = zero_divisor
+abbrev pub stop_of_division : Option Outcome → ℕ
+stop_of_division (Some o) = none
+stop_of_division None = zero_divisor

@@ -18,13 +18,6 @@ pub struct Outcome {
     pub flags: u16,
 }
 
-// What a division gives; a zero divisor is the machine's stop 6.
-#[derive(Clone, Copy)]
-pub enum Division {
-    Done(Outcome),
-    ByZero,
-}
-
 pub fn add(x: u16, y: u16) -> Outcome
     ensures { result ≡ ADD x y }
 {
@@ -75,24 +68,24 @@ pub fn cmp(x: u16, y: u16) -> u16
     difference.flags
 }
 
-pub fn div(x: u16, y: u16) -> Division
+pub fn div(x: u16, y: u16) -> Option<Outcome>
     ensures { result ≡ DIV x y }
 {
     if y == 0 {
-        return Division::ByZero;
+        return None;
     }
     let quotient = signed_of(x) / signed_of(y);
-    Division::Done(outcome_of(cell_of(quotient), false, leaves(quotient)))
+    Some(outcome_of(cell_of(quotient), false, leaves(quotient)))
 }
 
-pub fn modulo(x: u16, y: u16) -> Division
+pub fn modulo(x: u16, y: u16) -> Option<Outcome>
     ensures { result ≡ MOD x y }
 {
     if y == 0 {
-        return Division::ByZero;
+        return None;
     }
     let remainder = signed_of(x) % signed_of(y);
-    Division::Done(outcome_of(cell_of(remainder), false, false))
+    Some(outcome_of(cell_of(remainder), false, false))
 }
 
 pub fn and(x: u16, y: u16) -> u16

@@ -1,8 +1,8 @@
 // An image on standard output.
 ghost use Rattle.std.specs.Prelude.{◌≡◌, length};
 
+use image::NotPrinted;
 use desk::printing::write;
-use image::Printed;
 use std::io::Write;
 
 // The largest image's text: 35 bytes, and 22 a cell. The `ensures` gives the length, which lending needs.
@@ -21,11 +21,11 @@ pub(crate) fn print_image(
 ) {
     let mut text = room();
     match image::printing::print(memory, map, &mut text) {
-        Printed::Done(n) => {
+        Ok(n) => {
             write(output, errors, &text, n);
         }
-        Printed::BadLoan => cannot_print(errors),
-        Printed::RoomShort => cannot_print(errors),
+        Err(NotPrinted::BadLoan) => cannot_print(errors),
+        Err(NotPrinted::RoomShort) => cannot_print(errors),
     }
 }
 

@@ -12,8 +12,8 @@ use Rattle.sources.specs.Inner.Assembling.{Verdict, passes, refused}
 use Rattle.sources.specs.Inner.Pointing.{nowhere, label_point_by}
 use Rattle.sources.specs.declared.Line.{Line}
 use Rattle.settling.specs.Inner.Settling.{Settles}
-use Rattle.settling.specs.declared.Settled.{Settled}
-use Rattle.settling.specs.declared.Settled.TheVariants as S
+use Rattle.std.proofs.Common.{Result, Ok, Err}
+use Rattle.settling.specs.declared.Unsettled.{Unsettled}
 use Rattle.assembler.specs.Promise.{Told, refusal}
 use Rattle.assembler.specs.Inner.Parts.{refusal_at, Outcome, outcome_by}
 
@@ -37,9 +37,9 @@ module _ (memory map : List ℕ) where
   refused_as t f l v p image marks e g = rw (e, g)
 
   -- a label is refused: where it points is found by the line, read once more, and by whether it is the line's second
-  pub not-settled : (source : List ℕ) (r : Settled) (f : ℕ) (l : Line) (second : Bool) (v : Verdict) (b : Bool) (image cells marks : List ℕ) (column : ℕ)
+  pub not-settled : (source : List ℕ) (r : Result Unit Unsettled) (f : ℕ) (l : Line) (second : Bool) (v : Verdict) (b : Bool) (image cells marks : List ℕ) (column : ℕ)
       (t : Told)
-      → r ≡ S.Refused f l second
+      → r ≡ Err (record { number = f; line = l; second = second })
       → Settles v b image cells r
       → column ≡ name_column (line_numbered source l.0) f second
       → t ≡ refusal (f on l.0) column 0
@@ -48,7 +48,7 @@ module _ (memory map : List ℕ) where
       let x = subst (Settles v b image cells) e s in
       rw (g, h, x.1, x.0)
 
-  pub all_settled : (r : Settled) (v : Verdict) (b : Bool) (p : Pointed) (image cells marks : List ℕ) (o : Outcome) → r ≡ S.Done → Settles v b image cells r
+  pub all_settled : (r : Result Unit Unsettled) (v : Verdict) (b : Bool) (p : Pointed) (image cells marks : List ℕ) (o : Outcome) → r ≡ Ok tt → Settles v b image cells r
       → o ≡ outcome_by passes nowhere cells marks memory map
       → o ≡ outcome_by v p image marks memory map
   all_settled r v b p image cells marks o e s g =

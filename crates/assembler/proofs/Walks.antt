@@ -15,7 +15,9 @@ use Rattle.sources.specs.declared.Line.{Line}
 use Rattle.uses.specs.Inner.Held.{uses_held}
 use Rattle.walking.specs.Inner.Walking.{Holds, Ends, end_of, walk_verdict}
 use Rattle.walking.specs.declared.Walked.{Walked}
-use Rattle.walking.specs.declared.Walked.TheVariants as W
+use Rattle.std.proofs.Common.{Result, Ok, Err}
+use Rattle.walking.specs.declared.Stopped.{Stopped}
+use Rattle.walking.specs.declared.Stopped.TheVariants.{InLine, Late}
 use Rattle.walking.proofs.Ends.{walk_refused, walk-late}
 use Rattle.assembler.specs.Promise.{Told, refusal}
 use Rattle.assembler.specs.Inner.Parts.{refusal_at, Outcome, outcome_by, outcome_of_uses, outcome_of}
@@ -62,7 +64,7 @@ module _ (M : ℕ) (s : List ℕ) where
 
   module _ (memory map : List ℕ) where
     -- a line is refused
-    pub not-walked : (r : Walked) (f : ℕ) (l : Line) (H : ℕ → ℕ → Type 0) (image marks : List ℕ) (t : Told) → r ≡ W.Refused f l
+    pub not-walked : (r : Result Walked Stopped) (f : ℕ) (l : Line) (H : ℕ → ℕ → Type 0) (image marks : List ℕ) (t : Told) → r ≡ Err (InLine f l)
         → Ends (lines_verdict M s) (end_of M s) H r
         → t ≡ refusal_at (f on l.0) (pointed (line_numbered s l.0) f)
         → with memory map t memory map ≡ outcome_by (source_verdict M s) (source_point M s) image marks memory map
@@ -72,7 +74,7 @@ module _ (M : ℕ) (s : List ℕ) where
         (early-whole (walk_refused (lines_verdict M s) (end_of M s) H e h))
 
     -- the source's end is refused
-    pub late_at_end : (r : Walked) (l : Line) (H : ℕ → ℕ → Type 0) (image marks : List ℕ) (t : Told) → r ≡ W.Late l
+    pub late_at_end : (r : Result Walked Stopped) (l : Line) (H : ℕ → ℕ → Type 0) (image marks : List ℕ) (t : Told) → r ≡ Err (Late l)
         → Ends (lines_verdict M s) (end_of M s) H r
         → t ≡ refusal (6 on l.0) 0 0
         → with memory map t memory map ≡ outcome_by (source_verdict M s) (source_point M s) image marks memory map
@@ -99,7 +101,7 @@ module _ (M : ℕ) (s : List ℕ) where
           g ∙ a ∙ b ∙ d
 
 -- where the walk passes
-pub walk-passed : (M : ℕ) (s : List ℕ) (H : ℕ → ℕ → Type 0) (r : Walked) (labels uses : ℕ) → r ≡ W.Passes labels uses
+pub walk-passed : (M : ℕ) (s : List ℕ) (H : ℕ → ℕ → Type 0) (r : Result Walked Stopped) (labels uses : ℕ) → r ≡ Ok (record { labels = labels; uses = uses })
     → Ends (lines_verdict M s) (end_of M s) H r
     → (walk_verdict M s ≡ passes) × H labels uses
 walk-passed M s H r labels uses e h = subst (Ends (lines_verdict M s) (end_of M s) H) e h

@@ -11,6 +11,7 @@ ghost use Rattle.walking.specs.Inner.Walking.{Lent};
 ghost use Rattle.assembler.specs.Promise.{told, refusal, Replies};
 ghost use Rattle.assembler.specs.Inner.Parts.{refusal_at, outcome, outcome_by, outcome_of_uses, outcome_of};
 
+use settling::Unsettled;
 use super::Reply;
 use super::copying::{copy_cells, copy_marks};
 use super::counting::counted;
@@ -19,11 +20,10 @@ use codes::marks::{CODE, DATA, RESERVED};
 use columns::Column;
 use columns::lines::{name_in, pointed_in};
 use labels::chains::KEY_CELLS;
-use settling::Settled;
 use settling::settle::settle;
 use sources::Line;
 use uses::keeping::{MOST_USES, ROW_CELLS};
-use walking::Walked;
+use walking::{Walked, Stopped};
 use walking::walk::walk;
 
 fn refused(number: u8, line: Line, column: Column, place: u8) -> Reply
@@ -97,12 +97,12 @@ fn settle_and_accept(
         cells.old marks.now memory.old map.old }
 {
     match settle(s, starts, keys, values, labels, row, aways, uses, cells) {
-        Settled::Refused(f, l, second) => {
+        Err(Unsettled { number: f, line: l, second }) => {
             let number = l.0;
             let column = name_in(s, number, f, second);
             return refused(f, Line(number), column, 0);
         }
-        Settled::Done => {
+        Ok(()) => {
             return accept(cells, marks, memory, map);
         }
     }
@@ -128,13 +128,13 @@ fn assemble_over(
         ≡ outcome_of (length marks.old) s.now memory.old map.old }
 {
     match walk(s, starts, keys, values, marks, cells, row, aways) {
-        Walked::Refused(f, l) => {
+        Err(Stopped::InLine(f, l)) => {
             return refused_line(s, f, l);
         }
-        Walked::Late(l) => {
+        Err(Stopped::Late(l)) => {
             return refused(6, l, Column(0), 0);
         }
-        Walked::Passes(labels, uses) => {
+        Ok(Walked { labels, uses }) => {
             return settle_and_accept(
                 s, starts, keys, values, labels, row, aways, uses, cells, marks, memory, map,
             );

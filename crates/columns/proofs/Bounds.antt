@@ -7,8 +7,9 @@ use native.Mathlib.Omega.{arith}
 use lib.Dec.{leb, eqb}
 use lib.ListN.{length, length-append}
 use Rattle.codes.specs.Limits.{deepest}
-use Rattle.numerals.specs.declared.Kept.{Kept}
-use Rattle.numerals.specs.declared.Kept.TheVariants as N
+use Rattle.std.proofs.Common.{Option, Some, None, Ok, Err}
+use Rattle.expressions.specs.declared.Fault.{Fault}
+use Rattle.expressions.specs.declared.Fault.TheVariants.{OutOfRange, ByZero}
 use Rattle.tokens.specs.Commas.{on_comma}
 use Rattle.tokens.specs.Marks.{on_mark}
 use Rattle.tokens.specs.Reading.{tokens_from}
@@ -19,15 +20,13 @@ use Rattle.tokens.proofs.Places.{InOrder, row_ordered}
 use Rattle.expressions.specs.Grammar.{one_product, sum, one_factor, product, literal as numeral, parentheses}
 use Rattle.expressions.specs.Places.{Placed, literal, node, enclosed, PlacedExpression, found_at, evaluate, found_of, fault_place, Place, here, nowhere, leftmost, deep_from, place_or}
 use Rattle.expressions.specs.Worths.{of_number, operation}
-use Rattle.expressions.specs.declared.Found.{Found}
-use Rattle.expressions.specs.declared.Found.TheVariants as F
+use Rattle.expressions.specs.Places.{Found}
 use Rattle.expressions.specs.declared.Operation.{Operation}
-use Rattle.expressions.specs.declared.Worth.{Worth}
-use Rattle.expressions.specs.declared.Worth.TheVariants as W
+use Rattle.expressions.specs.Worths.{Worth}
 use Rattle.operands.specs.Checks.{operand_at, word_of}
 use Rattle.operands.specs.Places as Operands
 use Rattle.operands.specs.Places.{start_of, after_comma, after_commas, operand_start_in, number_start_in, out_by, out_of}
-use Rattle.operands.specs.Reading.{Result, reads, wrong, operands_of}
+use Rattle.operands.specs.Reading.{RowRead, reads, wrong, operands_of}
 use Rattle.items.specs.Places.{starts_out, is_comma, out_from}
 use Rattle.faults.specs.Faults.{Fault, stands, lacks, lacks-before}
 
@@ -71,17 +70,17 @@ module _ (n : ℕ) where
       ]
 
   fault_at : (at : ℕ) (w : Worth) → at ≤ n → fault_place (found_at at w) ≤ n
-  fault_at at (W.Is z) l = omega arith
-  fault_at at W.OutOfRange l = l
-  fault_at at W.ByZero l = l
+  fault_at at (Ok z) l = omega arith
+  fault_at at (Err OutOfRange) l = l
+  fault_at at (Err ByZero) l = l
 
   fault-of : (at : ℕ) (o : Operation) (a b : Found) → at ≤ n → fault_place a ≤ n → fault_place b ≤ n → fault_place (evaluate at o a b) ≤ n
   unfolding evaluate
-  fault-of at o (F.Is a) (F.Is b) l h g = fault_at at (operation o a b) l
-  fault-of at o (F.Is a) (F.OutOfRange right) l h g = g
-  fault-of at o (F.Is a) (F.ByZero right) l h g = g
-  fault-of at o (F.OutOfRange left) b l h g = h
-  fault-of at o (F.ByZero left) b l h g = h
+  fault-of at o (Ok a) (Ok b) l h g = fault_at at (operation o a b) l
+  fault-of at o (Ok a) (Err (record { fault = OutOfRange; at = right })) l h g = g
+  fault-of at o (Ok a) (Err (record { fault = ByZero; at = right })) l h g = g
+  fault-of at o (Err (record { fault = OutOfRange; at = left })) b l h g = h
+  fault-of at o (Err (record { fault = ByZero; at = left })) b l h g = h
 
   pub fault_below : (p : Placed) → Bounded p → fault_place (found_of p) ≤ n
   unfolding found_of
@@ -159,16 +158,16 @@ module _ (n : ℕ) where
       go K.Text = omega arith
       go (K.Mark b) = start-below ts h.1
 
-  out_below : (ts : List Token) (k l : Kept) → Below n ts → out_by ts k l ≤ n
-  out_below ts N.OutOfRange l h = number-below ts h
-  out_below ts (N.Cell x) N.OutOfRange h = number-below (after_comma ts) (comma-below ts h)
-  out_below ts (N.Cell x) (N.Cell y) h = omega arith
+  out_below : (ts : List Token) (k l : Option ℕ) → Below n ts → out_by ts k l ≤ n
+  out_below ts None l h = number-below ts h
+  out_below ts (Some x) None h = number-below (after_comma ts) (comma-below ts h)
+  out_below ts (Some x) (Some y) h = omega arith
 
   pub number_out_below : (line : List ℕ) (ts : List Token) → Below n ts → Operands.number_out_in line ts ≤ n
   unfolding Operands.number_out_in
   number_out_below line ts h = go (operands_of line ts)
     where
-      go : (r : Result) → out_of ts r ≤ n
+      go : (r : RowRead) → out_of ts r ≤ n
       go (reads os) = out_below ts (word_of (operand_at os 0)) (word_of (operand_at os 1)) h
       go wrong = omega arith
 

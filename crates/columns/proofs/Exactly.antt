@@ -25,24 +25,26 @@ use Rattle.values.specs.declared.Name.{Name}
 use Rattle.expressions.specs.Places.{found_of, fault_place, fault_in, place_or, Place}
 use Rattle.expressions.specs.Reading as Expressions
 use Rattle.expressions.specs.Reading.{expression_read}
-use Rattle.expressions.specs.declared.ExpressionRead.{ExpressionRead}
-use Rattle.expressions.specs.declared.ExpressionRead.TheVariants as X
-use Rattle.expressions.specs.declared.Worth.TheVariants as Y
+use Rattle.std.proofs.Common.{Result, Ok, Err}
+use Rattle.operands.specs.declared.Operands.{Operands}
+use Rattle.expressions.specs.declared.Fault.TheVariants.{OutOfRange, ByZero}
+use Rattle.items.specs.declared.ItemsFault.{ItemsFault}
+use Rattle.items.specs.declared.ItemsFault.TheVariants.{WrongForm, OutOfRange}
+use Rattle.expressions.specs.declared.Malformed.{Malformed}
+use Rattle.expressions.specs.declared.Malformed.TheVariants.{TooDeep, WrongForm}
+use Rattle.operands.specs.declared.OperandsFault.{OperandsFault}
+use Rattle.operands.specs.declared.OperandsFault.TheVariants.{WrongForm, WrongCount, WrongKind, OutOfRange}
 use Rattle.expressions.proofs.Top as Expressed
 use Rattle.operands.specs.Operands.{word_at, OperandField}
 use Rattle.operands.specs.Checks as Checks
 use Rattle.operands.specs.Checks.{instruction_read, kinds_at, kind_allowed, right_count, operand_at, operand_with}
 use Rattle.operands.specs.Places.{OperandStart, operand_start_in}
-use Rattle.operands.specs.declared.InstructionRead.{InstructionRead}
-use Rattle.operands.specs.declared.InstructionRead.TheVariants as I
 use Rattle.operands.specs.declared.Written.{Written}
 use Rattle.operands.specs.declared.Written.TheVariants.{Absent}
 use Rattle.operands.proofs.Exactly.{FirstWrong, first-wrong, second-wrong}
 use Rattle.operands.proofs.Top as Operands
 use Rattle.items.specs.Items.{Item, Items, all_in_range}
 use Rattle.items.specs.Reading.{items_read}
-use Rattle.items.specs.declared.ItemsRead.{ItemsRead}
-use Rattle.items.specs.declared.ItemsRead.TheVariants as D
 use Rattle.items.proofs.Top as Itemed
 use Rattle.statements.specs.Statements.{label, Labelled}
 use Rattle.statements.specs.Checks.{least_unsigned, least_signed, result_in}
@@ -52,8 +54,6 @@ use Rattle.statements.specs.declared.Failure.{Failure}
 use Rattle.statements.specs.declared.Failure.TheVariants.{WrongForm, WrongKind, TooDeep, OutOfRange, ByZero, ResultOut}
 use Rattle.statements.specs.declared.Statement.{Statement as Said}
 use Rattle.statements.specs.declared.Statement.TheVariants.{Org, Equ, Res}
-use Rattle.statements.specs.declared.StatementRead.{StatementRead}
-use Rattle.statements.specs.declared.StatementRead.TheVariants.{Passes, Fails}
 use Rattle.statements.proofs.Labelling.{never, word-kind, label_after, Labels, label_is, none_is, labels, goes_on_lem, behind-label}
 use Rattle.statements.proofs.Top.{label-exactly, label-within}
 use Rattle.faults.specs.Faults.{Column, column}
@@ -127,37 +127,37 @@ form-column line (column f) =
 -- ---- expressions
 
 -- what an expression's reading fails by
-data Why : ExpressionRead → Failure → Type 0 where
-  form : Why X.WrongForm WrongForm
-  deep : Why X.TooDeep TooDeep
-  out : Why (X.Read Y.OutOfRange) OutOfRange
-  zero : Why (X.Read Y.ByZero) ByZero
-  result-out : {z : ℤ} → Why (X.Read (Y.Is z)) ResultOut
+data Why : Result Worth Malformed → Failure → Type 0 where
+  form : Why (Err WrongForm) WrongForm
+  deep : Why (Err TooDeep) TooDeep
+  out : Why (Ok (Err OutOfRange)) OutOfRange
+  zero : Why (Ok (Err ByZero)) ByZero
+  result-out : {z : ℤ} → Why (Ok (Ok z)) ResultOut
 
-fails-one : {f g : Failure} → ◌≡◌ {A = StatementRead} (Fails f) (Fails g) → f ≡ g
+fails-one : {f g : Failure} → ◌≡◌ {A = Result Statement Failure} (Err f) (Err g) → f ≡ g
 fails-one e = cc
 
-why_of : (least : ℤ) (makes : ℕ → Said) (r : ExpressionRead) {why : Failure} → expression_result least makes r ≡ Fails why → Why r why
+why_of : (least : ℤ) (makes : ℕ → Said) (r : Result Worth Malformed) {why : Failure} → expression_result least makes r ≡ Err why → Why r why
 unfolding result_of
-why_of least makes (X.Read (Y.Is z)) {why} e = go (result_in least z) e
+why_of least makes (Ok (Ok z)) {why} e = go (result_in least z) e
   where
-    go : (b : Bool) → cond b (Passes (makes (of_z w16 z))) (Fails ResultOut) ≡ Fails why → Why (X.Read (Y.Is z)) why
+    go : (b : Bool) → cond b (Ok (makes (of_z w16 z))) (Err ResultOut) ≡ Err why → Why (Ok (Ok z)) why
     go true e = never (cc)
-    go false e = subst (Why (X.Read (Y.Is z))) (fails-one e) result-out
-why_of least makes (X.Read Y.OutOfRange) e = subst (Why (X.Read Y.OutOfRange)) (fails-one e) out
-why_of least makes (X.Read Y.ByZero) e = subst (Why (X.Read Y.ByZero)) (fails-one e) zero
-why_of least makes X.TooDeep e = subst (Why X.TooDeep) (fails-one e) deep
-why_of least makes X.WrongForm e = subst (Why X.WrongForm) (fails-one e) form
+    go false e = subst (Why (Ok (Ok z))) (fails-one e) result-out
+why_of least makes (Ok (Err OutOfRange)) e = subst (Why (Ok (Err OutOfRange))) (fails-one e) out
+why_of least makes (Ok (Err ByZero)) e = subst (Why (Ok (Err ByZero))) (fails-one e) zero
+why_of least makes (Err TooDeep) e = subst (Why (Err TooDeep)) (fails-one e) deep
+why_of least makes (Err WrongForm) e = subst (Why (Err WrongForm)) (fails-one e) form
 
-why_said : (line : List ℕ) {x : Word} (ts : List Token) {why : Failure} → TakesExpression x → by_word line x ts ≡ Fails why → Why (expression_read ts) why
+why_said : (line : List ℕ) {x : Word} (ts : List Token) {why : Failure} → TakesExpression x → by_word line x ts ≡ Err why → Why (expression_read ts) why
 why_said line ts org e = why_of least_unsigned Org (expression_read ts) e
 why_said line ts equ e = why_of least_signed Equ (expression_read ts) e
 why_said line ts res e = why_of least_unsigned Res (expression_read ts) e
 
-out-number : {r : ExpressionRead} → Why r OutOfRange → Expressions.refusal_of r ≡ 6
+out-number : {r : Result Worth Malformed} → Why r OutOfRange → Expressions.refusal_of r ≡ 6
 out-number out = refl
 
-zero_number : {r : ExpressionRead} → Why r ByZero → Expressions.refusal_of r ≡ 7
+zero_number : {r : Result Worth Malformed} → Why r ByZero → Expressions.refusal_of r ≡ 7
 zero_number zero = refl
 
 out-place : (line : List ℕ) {x : Word} (at : ℕ) (ts : List Token) → TakesExpression x → place_by line OutOfRange at x ts ≡ fault_in ts
@@ -199,24 +199,24 @@ kind-exactly line op os r c (first-wrong k) = Operands.operand_start_exactly lin
 kind-exactly line op os r c (second-wrong k l) = Operands.operand_start_exactly line r 1 (wrong-there op os 1 (second-there op) c l)
 
 -- what an opcode's operands fail by
-kind-told : (op : Opcode) (r : InstructionRead) {i : ℕ} → instruction_result op r ≡ Fails (WrongKind i) → r ≡ I.WrongKind i
-kind-told op (I.Read a b) e = never (cc)
-kind-told op I.WrongForm e = never (cc)
-kind-told op I.WrongCount e = never (cc)
-kind-told op (I.WrongKind j) e = cc
-kind-told op I.OutOfRange e = never (cc)
+kind-told : (op : Opcode) (r : Result Operands OperandsFault) {i : ℕ} → instruction_result op r ≡ Err (WrongKind i) → r ≡ Err (WrongKind i)
+kind-told op (Ok r) e = never (cc)
+kind-told op (Err WrongForm) e = never (cc)
+kind-told op (Err WrongCount) e = never (cc)
+kind-told op (Err (WrongKind j)) e = cc
+kind-told op (Err OutOfRange) e = never (cc)
 
-range_told : (op : Opcode) (r : InstructionRead) → instruction_result op r ≡ Fails OutOfRange → Checks.refusal_of r ≡ 6
-range_told op (I.Read a b) e = never (cc)
-range_told op I.WrongForm e = never (cc)
-range_told op I.WrongCount e = never (cc)
-range_told op (I.WrongKind j) e = never (cc)
-range_told op I.OutOfRange e = refl
+range_told : (op : Opcode) (r : Result Operands OperandsFault) → instruction_result op r ≡ Err OutOfRange → Checks.refusal_of r ≡ 6
+range_told op (Ok r) e = never (cc)
+range_told op (Err WrongForm) e = never (cc)
+range_told op (Err WrongCount) e = never (cc)
+range_told op (Err (WrongKind j)) e = never (cc)
+range_told op (Err OutOfRange) e = refl
 
-items-told : (r : ItemsRead) → items_result r ≡ Fails OutOfRange → r ≡ D.OutOfRange
-items-told (D.Cells n) e = never (cc)
-items-told D.WrongForm e = never (cc)
-items-told D.OutOfRange e = refl
+items-told : (r : Result ℕ ItemsFault) → items_result r ≡ Err OutOfRange → r ≡ Err OutOfRange
+items-told (Ok n) e = never (cc)
+items-told (Err WrongForm) e = never (cc)
+items-told (Err OutOfRange) e = refl
 
 -- ---- one column
 
@@ -239,14 +239,14 @@ module _ (line : List ℕ) where
       let k = s.word.word in
       goes_on_lem line row_at.0 (sym row_at.1 ∙ its-row line s) (λ z. never (cc))
 
-  items-are : {w : Token} {ts : List Token} → Statement line w W.Data ts → items_read line ts ≡ D.OutOfRange
+  items-are : {w : Token} {ts : List Token} → Statement line w W.Data ts → items_read line ts ≡ Err OutOfRange
       → (is : List Item) × Items line ts is × (all_in_range is ≡ false)
   items-are {w} {ts} s e =
       let q = behind-word s in
       let h = (Itemed.range_exactly line w.next.at).0 (ap (items_read line) (sym q) ∙ e) in
       (h.0, subst (λ (us : List Token). Items line us h.0) (sym q) h.1, h.2)
 
-  pub one : {why : Failure} {c : ℕ} → Points line why c → (line_read line).statement ≡ Fails why → column_of line why ≡ c
+  pub one : {why : Failure} {c : ℕ} → Points line why c → (line_read line).statement ≡ Err why → column_of line why ≡ c
   one (P.word {why} {w} {x} {ts} k s) f = its-column line s why (word-place line w.start x ts k) (its-below line s).0
   one (P.form c) f = form-column line c
   one (P.kind {op = op} {ts} {i} {p} s o) f =
@@ -282,11 +282,11 @@ module _ (line : List ℕ) where
   abbrev Pointed : Failure → Type 0
   Pointed why = (c : ℕ) × Points line why c
 
-  form-pointed : (line_read line).statement ≡ Fails WrongForm → Pointed WrongForm
+  form-pointed : (line_read line).statement ≡ Err WrongForm → Pointed WrongForm
   form-pointed f = (place line + 1, P.form (Faults.refused_has_column line f))
 
-  expression-pointed : {w : Token} {x : Word} {ts : List Token} {why : Failure} {r : ExpressionRead} → Statement line w x ts → TakesExpression x
-      → expression_read ts ≡ r → (line_read line).statement ≡ Fails why → Why r why → Pointed why
+  expression-pointed : {w : Token} {x : Word} {ts : List Token} {why : Failure} {r : Result Worth Malformed} → Statement line w x ts → TakesExpression x
+      → expression_read ts ≡ r → (line_read line).statement ≡ Err why → Why r why → Pointed why
   expression-pointed s t e f form = form-pointed f
   expression-pointed {ts = ts} s t e f deep = let h = (Expressed.deep-place ts).0 (e, refl) in (_, P.deep s t h.1 h.2)
   expression-pointed {ts = ts} s t e f out =
@@ -296,28 +296,28 @@ module _ (line : List ℕ) where
   expression-pointed s t e f result-out = (_, P.word result s)
 
   instruction-pointed : {w : Token} {op : Opcode} {ts : List Token} {why : Failure} → Statement line w (W.Instructs op) ts
-      → (line_read line).statement ≡ Fails why → (r : InstructionRead) → instruction_read line op ts ≡ r → instruction_result op r ≡ Fails why
+      → (line_read line).statement ≡ Err why → (r : Result Operands OperandsFault) → instruction_read line op ts ≡ r → instruction_result op r ≡ Err why
       → Pointed why
-  instruction-pointed s f (I.Read a b) q e = never (cc)
-  instruction-pointed s f I.WrongForm q e = subst Pointed (fails-one e) (form-pointed (f ∙ sym e))
-  instruction-pointed s f I.WrongCount q e = subst Pointed (fails-one e) (_, P.word count s)
-  instruction-pointed {op = op} {ts} s f (I.WrongKind i) q e =
+  instruction-pointed s f (Ok r) q e = never (cc)
+  instruction-pointed s f (Err WrongForm) q e = subst Pointed (fails-one e) (form-pointed (f ∙ sym e))
+  instruction-pointed s f (Err WrongCount) q e = subst Pointed (fails-one e) (_, P.word count s)
+  instruction-pointed {op = op} {ts} s f (Err (WrongKind i)) q e =
       let m = (Operands.place-exactly line ts op).0 q in
       subst Pointed (fails-one e) (_, P.kind s ((kind-exactly line op m.operands m.reading m.counted m.wrong-there).0 refl))
-  instruction-pointed {op = op} {ts} s f I.OutOfRange q e =
+  instruction-pointed {op = op} {ts} s f (Err OutOfRange) q e =
       let m = (Operands.range_exactly line ts op).0 (ap Checks.refusal_of q) in
       subst Pointed (fails-one e) (_, P.operand-out s ((Operands.number_out_exactly line m.reading m.out_of_range).0 refl))
 
-  items-pointed : {w : Token} {ts : List Token} {why : Failure} → Statement line w W.Data ts → (line_read line).statement ≡ Fails why
-      → (r : ItemsRead) → items_read line ts ≡ r → items_result r ≡ Fails why → Pointed why
-  items-pointed s f (D.Cells n) q e = never (cc)
-  items-pointed s f D.WrongForm q e = subst Pointed (fails-one e) (form-pointed (f ∙ sym e))
-  items-pointed s f D.OutOfRange q e =
+  items-pointed : {w : Token} {ts : List Token} {why : Failure} → Statement line w W.Data ts → (line_read line).statement ≡ Err why
+      → (r : Result ℕ ItemsFault) → items_read line ts ≡ r → items_result r ≡ Err why → Pointed why
+  items-pointed s f (Ok n) q e = never (cc)
+  items-pointed s f (Err WrongForm) q e = subst Pointed (fails-one e) (form-pointed (f ∙ sym e))
+  items-pointed s f (Err OutOfRange) q e =
       let m = items-are s q in
       subst Pointed (fails-one e) (_, P.item_out s ((Itemed.number_out_exactly line m.1 m.2).0 refl))
 
-  word-pointed : {w : Token} {ts : List Token} {why : Failure} (x : Word) → Statement line w x ts → (line_read line).statement ≡ Fails why
-      → by_word line x ts ≡ Fails why → Pointed why
+  word-pointed : {w : Token} {ts : List Token} {why : Failure} (x : Word) → Statement line w x ts → (line_read line).statement ≡ Err why
+      → by_word line x ts ≡ Err why → Pointed why
   word-pointed {ts = ts} (W.Instructs op) s f e = instruction-pointed s f (instruction_read line op ts) refl e
   word-pointed {ts = ts} W.Org s f e = expression-pointed s org refl f (why_said line ts org e)
   word-pointed {ts = ts} W.Equ s f e = expression-pointed s equ refl f (why_said line ts equ e)
@@ -326,12 +326,12 @@ module _ (line : List ℕ) where
   word-pointed W.End s f e = never (cc)
   word-pointed W.Unknown s f e = subst Pointed (fails-one e) (_, P.word unknown s)
 
-  pub some : {why : Failure} → (line_read line).statement ≡ Fails why → Pointed why
+  pub some : {why : Failure} → (line_read line).statement ≡ Err why → Pointed why
   unfolding line_read statement_read
   some {why} f = by_row (after_label (tokens_from line 0)) refl f
     where
       by_kind : (w : Token) (ts : List Token) → after_label (tokens_from line 0) ≡ w ∷ ts → (b : Bool) → is_word w.kind ≡ b
-          → cond b (by_word line (word_of (word_at line w)) ts) (Fails WrongForm) ≡ Fails why → Pointed why
+          → cond b (by_word line (word_of (word_at line w)) ts) (Err WrongForm) ≡ Err why → Pointed why
       by_kind w ts q true k e =
           word-pointed (word_of (word_at line w))
           (record {
@@ -342,13 +342,13 @@ module _ (line : List ℕ) where
           }) f e
       by_kind w ts q false k e = subst Pointed (fails-one e) (form-pointed (f ∙ sym e))
 
-      by_row : (us : List Token) → after_label (tokens_from line 0) ≡ us → statement_read line us ≡ Fails why → Pointed why
+      by_row : (us : List Token) → after_label (tokens_from line 0) ≡ us → statement_read line us ≡ Err why → Pointed why
       by_row [] q e = never (cc)
       by_row (w ∷ ts) q e = by_kind w ts q (is_word w.kind) refl e
 
 -- ---- exactly
 
-pub exactly : (line : List ℕ) {why : Failure} {c : ℕ} → (line_read line).statement ≡ Fails why → (column_of line why ≡ c) ↔ Points line why c
+pub exactly : (line : List ℕ) {why : Failure} {c : ℕ} → (line_read line).statement ≡ Err why → (column_of line why ≡ c) ↔ Points line why c
 exactly line {why} f =
     let h = some line f in
     (λ e. subst (Points line why) (sym (one line h.1 f) ∙ e) h.1, λ p. one line p f)
@@ -356,11 +356,11 @@ exactly line {why} f =
 -- ---- what `pointed` hands back
 
 module _ (line : List ℕ) (number : ℕ) (nine : number ≡ 9 → ⊥) (ten : number ≡ 10 → ⊥) (eleven : number ≡ 11 → ⊥) (twelve : number ≡ 12 → ⊥) where
-  pub failed : {why : Failure} → (line_read line).statement ≡ Fails why → pointed line number ≡ pointed_at (column_of line why) (operand_of why)
+  pub failed : {why : Failure} → (line_read line).statement ≡ Err why → pointed line number ≡ pointed_at (column_of line why) (operand_of why)
   unfolding read_again
   failed e = of_checks line number nine ten eleven twelve ∙ ap (again_by line) e
 
-  pub passed : {s : Said} → (line_read line).statement ≡ Passes s → pointed line number ≡ pointed_at (word_column line) 0
+  pub passed : {s : Said} → (line_read line).statement ≡ Ok s → pointed line number ≡ pointed_at (word_column line) 0
   unfolding read_again
   passed e = of_checks line number nine ten eleven twelve ∙ ap (again_by line) e
 

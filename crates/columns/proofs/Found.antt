@@ -14,8 +14,7 @@ use Rattle.tokens.specs.declared.Kind.TheVariants as K
 use Rattle.tokens.specs.declared.Token.{Token}
 use Rattle.names.specs.Names.{word_of}
 use Rattle.names.specs.declared.Word.{Word}
-use Rattle.values.specs.declared.LabelIn.{LabelIn}
-use Rattle.values.specs.declared.LabelIn.TheVariants.{Absent, Named}
+use Rattle.std.proofs.Common.{Option, Some, None, Ok, Err}
 use Rattle.values.specs.declared.Name.{Name}
 use Rattle.operands.specs.Operands.{word_at}
 use Rattle.statements.specs.Reading.{is_word, label_read, after_label, line_read}
@@ -23,7 +22,6 @@ use Rattle.statements.specs.Inner.Parts.{begun_by}
 use Rattle.statements.specs.declared.Failure.{Failure}
 use Rattle.statements.specs.declared.LineRead.{LineRead}
 use Rattle.statements.specs.declared.Statement.{Statement}
-use Rattle.statements.specs.declared.StatementRead.TheVariants.{Passes, Fails}
 use Rattle.statements.proofs.Beginning.{row_by}
 use Rattle.statements.proofs.CellsGiven.{word_row}
 use Rattle.statements.proofs.Labelling.{never}
@@ -76,12 +74,12 @@ unfolding column_at
 past-line line p h = rw (lt-leb p (length line) h)
 
 -- the label's column, by the label that was read
-module _ (line : List ℕ) {l : LabelIn} (read : l ≡ label_read (tokens_from line 0)) where
-  pub no_label : l ≡ Absent → label_column line ≡ 0
+module _ (line : List ℕ) {l : Option Name} (read : l ≡ label_read (tokens_from line 0)) where
+  pub no_label : l ≡ None → label_column line ≡ 0
   unfolding label_column
   no_label e = ap (label_column_by line) (sym read ∙ e)
 
-  pub label-there : {n : Name} → l ≡ Named n → label_column line ≡ column_at line n.start
+  pub label-there : {n : Name} → l ≡ Some n → label_column line ≡ column_at line n.start
   unfolding label_column
   label-there e = ap (label_column_by line) (sym read ∙ e)
 
@@ -118,12 +116,12 @@ module _ (line : List ℕ) where
 -- ---- what is pointed at
 
 module _ (line : List ℕ) where
-  pub passes-again : {l : LineRead} {s : Statement} {c : ℕ} {r : Pointed} → r ≡ pointed_at c 0 → l ≡ line_read line → l.statement ≡ Passes s
+  pub passes-again : {l : LineRead} {s : Statement} {c : ℕ} {r : Pointed} → r ≡ pointed_at c 0 → l ≡ line_read line → l.statement ≡ Ok s
       → c ≡ word_column line → r ≡ read_again line
   unfolding read_again
   passes-again e f g h = e ∙ ap (λ (k : ℕ). pointed_at k 0) h ∙ sym (ap (again_by line) (ap (λ (x : LineRead). x.statement) (sym f) ∙ g))
 
-  pub fails-again : {l : LineRead} {why : Failure} {c p : ℕ} → l ≡ line_read line → l.statement ≡ Fails why → c ≡ column_of line why
+  pub fails-again : {l : LineRead} {why : Failure} {c p : ℕ} → l ≡ line_read line → l.statement ≡ Err why → c ≡ column_of line why
       → p ≡ operand_of why → pointed_at c p ≡ read_again line
   unfolding read_again
   fails-again {why = why} {c} {p} f g h k =

@@ -8,8 +8,7 @@ use Rattle.tokens.specs.declared.Token.{Token}
 use Rattle.names.specs.declared.Word.{Word}
 use Rattle.values.specs.Values as Vs
 use Rattle.values.specs.Values.{ValueText, name_at}
-use Rattle.values.specs.declared.LabelIn.{LabelIn}
-use Rattle.values.specs.declared.LabelIn.TheVariants.{Named}
+use Rattle.std.proofs.Common.{Option, Some}
 use Rattle.values.specs.declared.Name.{Name}
 use Rattle.values.specs.declared.Value.{Value}
 use Rattle.operands.specs.Checks.{label_of, label_in}
@@ -26,15 +25,15 @@ use Rattle.columns.proofs.Marks.{mark-exactly}
 data Names (n : Name) : List Token → Type 0 where
   names : {b : ℕ} (m t : Token) (rest : List Token) → IsMark b m → t.start ≡ n.start → Names n (m ∷ t ∷ rest)
 
-behind-mark : {b : ℕ} {us : List Token} {v : Value} {n : Name} (m : Token) (rest : List Token) → IsMark b m → ValueText us v → label_of v ≡ Named n
+behind-mark : {b : ℕ} {us : List Token} {v : Value} {n : Name} (m : Token) (rest : List Token) → IsMark b m → ValueText us v → label_of v ≡ Some n
     → Names n (m ∷ (us ++ rest))
 behind-mark m rest k (Vs.number x) e = never (cc)
 behind-mark {n = n} m rest k (Vs.label {t} w) e = names m t rest k (starts e)
   where
-    starts : ◌≡◌ {A = LabelIn} (Named (name_at t)) (Named n) → t.start ≡ n.start
+    starts : ◌≡◌ {A = Option Name} (Some (name_at t)) (Some n) → t.start ≡ n.start
     starts e = cc
 
-value-names : {b : ℕ} {us : List Token} {v : Value} {n : Name} {m : Token} → IsMark b m → ValueText us v → label_of v ≡ Named n → Names n (m ∷ us)
+value-names : {b : ℕ} {us : List Token} {v : Value} {n : Name} {m : Token} → IsMark b m → ValueText us v → label_of v ≡ Some n → Names n (m ∷ us)
 value-names {us = us} {n = n} {m} k t e = subst (λ (vs : List Token). Names n (m ∷ vs)) (append-nil us) (behind-mark m [] k t e)
 
 index_label : {r : ℕ} {v : Value} {o : Written} → Index r v o → label_in o ≡ label_of v
@@ -44,7 +43,7 @@ index_label by_IY = refl
 index_label by_SP = refl
 
 module _ (line : List ℕ) where
-  operand-names : {us : List Token} {o : Written} {n : Name} → OperandText line us o → label_in o ≡ Named n → Names n us
+  operand-names : {us : List Token} {o : Written} {n : Name} → OperandText line us o → label_in o ≡ Some n → Names n us
   unfolding label_in
   operand-names (immediate k t) e = value-names k t e
   operand-names (register k r) e = never (cc)
@@ -86,7 +85,7 @@ module _ (line : List ℕ) where
         let r = mark-exactly line m t (vs ++ rest) b k (h.0 ++ (w ∷ pre)) (subst (RowOf line) f s.row) in
         subst (Starts (m ∷ t ∷ vs)) (sym r ∙ ap (mark_before line) q) head
 
-    pub operand-marked : {us : List Token} {i : ℕ} {o : Written} {n : Name} → OperandThere line ts i us o → label_in o ≡ Named n
+    pub operand-marked : {us : List Token} {i : ℕ} {o : Written} {n : Name} → OperandThere line ts i us o → label_in o ≡ Some n
         → OperandStart line ts i (mark_before line n.start)
     operand-marked {us} {i} {o} there e =
         let p = its_part there in

@@ -7,14 +7,12 @@ use native.Mathlib.Omega.{arith}
 use lib.ListN.{length, get_or}
 use Rattle.isa.specs.declared.Opcode.{Opcode}
 use Rattle.tokens.specs.Bytes.{is_blank}
-use Rattle.values.specs.declared.LabelIn.{LabelIn}
-use Rattle.values.specs.declared.LabelIn.TheVariants.{Absent, Named}
+use Rattle.std.proofs.Common.{Option, Some, None, Ok}
 use Rattle.values.specs.declared.Name.{Name}
 use Rattle.values.proofs.Within.{LabelWithin, NameWithin}
 use Rattle.operands.specs.declared.Given.{Given}
 use Rattle.statements.specs.Reading.{line_read}
 use Rattle.statements.specs.declared.Statement.TheVariants.{Instruction}
-use Rattle.statements.specs.declared.StatementRead.TheVariants.{Passes}
 use Rattle.statements.proofs.Top.{operand_labels_within}
 use Rattle.columns.specs.Columns.{mark_before, name_by, name_column_at, name_column_by, name_column}
 use Rattle.columns.proofs.Found.{in_line}
@@ -33,8 +31,8 @@ module _ (line : List ℕ) where
       go true l = omega (arith, l)
       go false l = omega arith
 
-  module _ {op : Opcode} {a b : Given} (e : (line_read line).statement ≡ Passes (Instruction op a b)) where
-    by_label : (second : Bool) (n : Name) → name_by a.label b.label second ≡ Named n → NameWithin (length line) n → At line second n
+  module _ {op : Opcode} {a b : Given} (e : (line_read line).statement ≡ Ok (Instruction op a b)) where
+    by_label : (second : Bool) (n : Name) → name_by a.label b.label second ≡ Some n → NameWithin (length line) n → At line second n
     unfolding name_column
     by_label second n g w =
         let l : n.start ≤ length line = omega (arith, w.0, w.1) in (
@@ -43,16 +41,16 @@ module _ (line : List ℕ) where
               ∙ in_line line (mark_before line n.start) (omega (arith, l, mark-below n.start)),
         )
 
-    within : {l : LabelIn} {n : Name} → LabelWithin (length line) l → l ≡ Named n → NameWithin (length line) n
+    within : {l : Option Name} {n : Name} → LabelWithin (length line) l → l ≡ Some n → NameWithin (length line) n
     within h g = subst (LabelWithin (length line)) g h
 
-    pub first-name : {n : Name} → a.label ≡ Named n → At line false n
-    first-name {n} f = by_label false n (ap (λ (l : LabelIn). name_by l b.label false) f) (within (operand_labels_within line e).0 f)
+    pub first-name : {n : Name} → a.label ≡ Some n → At line false n
+    first-name {n} f = by_label false n (ap (λ (l : Option Name). name_by l b.label false) f) (within (operand_labels_within line e).0 f)
 
-    pub only-name : {n : Name} (second : Bool) → a.label ≡ Absent → b.label ≡ Named n → At line second n
+    pub only-name : {n : Name} (second : Bool) → a.label ≡ None → b.label ≡ Some n → At line second n
     only-name {n} second f g =
-        by_label second n (ap (λ (l : LabelIn). name_by l b.label second) f ∙ g) (within (operand_labels_within line e).1 g)
+        by_label second n (ap (λ (l : Option Name). name_by l b.label second) f ∙ g) (within (operand_labels_within line e).1 g)
 
-    pub second-name : {m n : Name} → a.label ≡ Named m → b.label ≡ Named n → At line true n
+    pub second-name : {m n : Name} → a.label ≡ Some m → b.label ≡ Some n → At line true n
     second-name {n = n} f g =
-        by_label true n (ap (λ (l : LabelIn). name_by l b.label true) f ∙ g) (within (operand_labels_within line e).1 g)
+        by_label true n (ap (λ (l : Option Name). name_by l b.label true) f ∙ g) (within (operand_labels_within line e).1 g)

@@ -5,7 +5,7 @@ use mathlib.Core.Logic.{◌⊎◌, inl, inr}
 use mathlib.Core.Path.{◌≡◌, refl, sym, ap, subst, ◌∙◌}
 use Rattle.tokens.specs.declared.Token.{Token}
 use Rattle.names.specs.declared.Word.{Word}
-use Rattle.values.specs.declared.LabelIn.{LabelIn}
+use Rattle.std.proofs.Common.{Option, Result, Ok, Err}
 use Rattle.values.specs.declared.Name.{Name}
 use Rattle.statements.specs.Statements as S
 use Rattle.statements.specs.Statements.{Labelled, Says, LineText, Body, Reading, nothing, StatementWord}
@@ -16,8 +16,6 @@ use Rattle.statements.specs.Reading.{line_read}
 use Rattle.statements.specs.declared.Failure.{Failure}
 use Rattle.statements.specs.declared.Failure.TheVariants.{UnknownWord, WrongForm, WrongCount, WrongKind, TooDeep, OutOfRange, ByZero, ResultOut}
 use Rattle.statements.specs.declared.Statement.{Statement as Said}
-use Rattle.statements.specs.declared.StatementRead.{StatementRead}
-use Rattle.statements.specs.declared.StatementRead.TheVariants.{Passes, Fails}
 use Rattle.statements.proofs.FirstFails.{pass-none}
 use Rattle.statements.proofs.Top.{fails-exactly}
 use Rattle.columns.specs.Points.{AfterLabel, labelled, unlabelled, Statement, PointsIn, label, own, statement, operand_of}
@@ -41,16 +39,16 @@ module _ (line : List ℕ) where
   own_read ByZero = refl
   own_read ResultOut = refl
 
-  own-pointed : {why : Failure} → (line_read line).statement ≡ Fails why → pointed line (number_of why) ≡ pointed_at (column_of line why) (operand_of why)
+  own-pointed : {why : Failure} → (line_read line).statement ≡ Err why → pointed line (number_of why) ≡ pointed_at (column_of line why) (operand_of why)
   unfolding read_again
   own-pointed {why} e = own_read why ∙ ap (again_by line) e
 
-  passes : Pass (failures line) → (s : Said) × ((line_read line).statement ≡ Passes s)
+  passes : Pass (failures line) → (s : Said) × ((line_read line).statement ≡ Ok s)
   passes p = go (line_read line).statement refl
     where
-      go : (r : StatementRead) → (line_read line).statement ≡ r → (s : Said) × ((line_read line).statement ≡ Passes s)
-      go (Passes s) e = (s, e)
-      go (Fails why) e = absurd (pass-none (failures line) why p ((fails-exactly line why).0 e))
+      go : (r : Result Statement Failure) → (line_read line).statement ≡ r → (s : Said) × ((line_read line).statement ≡ Ok s)
+      go (Ok s) e = (s, e)
+      go (Err why) e = absurd (pass-none (failures line) why p ((fails-exactly line why).0 e))
 
   statement-pointed : {number : ℕ} → (number ≡ 6) ⊎ ((number ≡ 11) ⊎ (number ≡ 12)) → Pass (failures line)
       → pointed line number ≡ pointed_at (word_column line) 0
@@ -88,7 +86,7 @@ module _ (line : List ℕ) where
   abbrev SomeStatement : Type 0
   SomeStatement = (w : Token) × (x : Word) × (ts : List Token) × Statement line w x ts
 
-  pub statement_of : {l : LabelIn} {r : Reading} → Says line l r → (r ≡ nothing → ⊥) → SomeStatement
+  pub statement_of : {l : Option Name} {r : Reading} → Says line l r → (r ≡ nothing → ⊥) → SomeStatement
   statement_of s n = by_label s.text n
     where
       begins : {w : Token} {x : Word} {ts : List Token} → AfterLabel s.tokens (w ∷ ts) → StatementWord line w x → SomeStatement
@@ -103,6 +101,6 @@ module _ (line : List ℕ) where
       by-word a (S.items k o) n = begins a k
       by-word a (S.ends k) n = begins a k
 
-      by_label : {l : LabelIn} {r : Reading} → LineText line s.tokens l r → (r ≡ nothing → ⊥) → SomeStatement
+      by_label : {l : Option Name} {r : Reading} → LineText line s.tokens l r → (r ≡ nothing → ⊥) → SomeStatement
       by_label (S.labelled l b) n = by-word (labelled l) b n
       by_label (S.unlabelled none b) n = by-word (unlabelled none) b n

@@ -11,8 +11,7 @@ use Rattle.tokens.specs.Reading.{line_length}
 use Rattle.tokens.specs.Rows.{RowOf}
 use Rattle.tokens.specs.declared.Token.{Token}
 use Rattle.names.specs.declared.Word.{Word}
-use Rattle.values.specs.declared.LabelIn.{LabelIn}
-use Rattle.values.specs.declared.LabelIn.TheVariants.{Absent, Named}
+use Rattle.std.proofs.Common.{Option, Some, None, Ok, Err}
 use Rattle.values.specs.declared.Name.{Name}
 use Rattle.operands.specs.Checks.{label_in}
 use Rattle.operands.specs.Places.{OperandThere, OperandStart}
@@ -26,7 +25,6 @@ use Rattle.statements.specs.Statements.{Labelled, Says, Reading, nothing}
 use Rattle.statements.specs.declared.Failure.{Failure}
 use Rattle.statements.specs.declared.Statement.{Statement as Said}
 use Rattle.statements.specs.declared.Statement.TheVariants.{Instruction}
-use Rattle.statements.specs.declared.StatementRead.TheVariants.{Passes, Fails}
 use Rattle.columns.specs.Points.{Statement, Points, operand_of, PointsIn}
 use Rattle.columns.specs.Columns.{label_column, word_column, mark_before, column_of, pointed_at, pointed, name_column, line_numbered, line_start}
 use Rattle.columns.proofs.Exactly as Exactly
@@ -42,14 +40,14 @@ use Rattle.columns.proofs.Examples.{Examples}
 -- ---- a line that fails a check of its own
 
 -- "Give every refusal from 3 on a column": where a check of the line fails, the column is exactly what that check points at.
-pub points_exactly : (line : List ℕ) {why : Failure} {c : ℕ} → (line_read line).statement ≡ Fails why → (column_of line why ≡ c) ↔ Points line why c
+pub points_exactly : (line : List ℕ) {why : Failure} {c : ℕ} → (line_read line).statement ≡ Err why → (column_of line why ≡ c) ↔ Points line why c
 points_exactly = Exactly.exactly
 
 -- So it points at something, and at one column only.
-pub has-column : (line : List ℕ) {why : Failure} → (line_read line).statement ≡ Fails why → (c : ℕ) × Points line why c
+pub has-column : (line : List ℕ) {why : Failure} → (line_read line).statement ≡ Err why → (c : ℕ) × Points line why c
 has-column = Exactly.some
 
-pub one-column : (line : List ℕ) {why : Failure} {c d : ℕ} → (line_read line).statement ≡ Fails why → Points line why c → Points line why d → c ≡ d
+pub one-column : (line : List ℕ) {why : Failure} {c d : ℕ} → (line_read line).statement ≡ Err why → Points line why c → Points line why d → c ≡ d
 one-column line e p q = sym (Exactly.one line p e) ∙ Exactly.one line q e
 
 -- ---- what `pointed` hands back
@@ -65,11 +63,11 @@ module _ (line : List ℕ) where
 
   module _ (number : ℕ) (nine : number ≡ 9 → ⊥) (ten : number ≡ 10 → ⊥) (eleven : number ≡ 11 → ⊥) (twelve : number ≡ 12 → ⊥) where
     -- the check's column, and for 16 the operand's place
-    pub failed : {why : Failure} → (line_read line).statement ≡ Fails why → pointed line number ≡ pointed_at (column_of line why) (operand_of why)
+    pub failed : {why : Failure} → (line_read line).statement ≡ Err why → pointed line number ≡ pointed_at (column_of line why) (operand_of why)
     failed = Exactly.failed line number nine ten eleven twelve
 
     -- "the statement's word .. for a result or label address in 6": a line that passes its own checks
-    pub passed : {s : Said} → (line_read line).statement ≡ Passes s → pointed line number ≡ pointed_at (word_column line) 0
+    pub passed : {s : Said} → (line_read line).statement ≡ Ok s → pointed line number ≡ pointed_at (word_column line) 0
     passed = Exactly.passed line number nine ten eleven twelve
 
 -- ---- a refused line
@@ -95,7 +93,7 @@ module _ (line : List ℕ) where
   statement_points = Refused.statement_points line
 
   -- A line that says something has a statement's word.
-  pub statement_of : {l : LabelIn} {r : Reading} → Says line l r → (r ≡ nothing → ⊥)
+  pub statement_of : {l : Option Name} {r : Reading} → Says line l r → (r ≡ nothing → ⊥)
       → (w : Token) × (x : Word) × (ts : List Token) × Statement line w x ts
   statement_of = Refused.statement_of line
 
@@ -115,23 +113,23 @@ mark-exactly = Marks.mark-exactly
 -- ---- the names in operands
 
 -- "the label in .. 13", "the operand in 14": of a line that passes, its first name or its second
-module _ (line : List ℕ) {op : Opcode} {a b : Given} (e : (line_read line).statement ≡ Passes (Instruction op a b)) where
-  pub first-name : {n : Name} → a.label ≡ Named n
+module _ (line : List ℕ) {op : Opcode} {a b : Given} (e : (line_read line).statement ≡ Ok (Instruction op a b)) where
+  pub first-name : {n : Name} → a.label ≡ Some n
       → (name_column line 13 false ≡ n.start + 1) × (name_column line 14 false ≡ mark_before line n.start + 1)
   first-name = OfNames.first-name line e
 
-  pub only-name : {n : Name} (second : Bool) → a.label ≡ Absent → b.label ≡ Named n
+  pub only-name : {n : Name} (second : Bool) → a.label ≡ None → b.label ≡ Some n
       → (name_column line 13 second ≡ n.start + 1) × (name_column line 14 second ≡ mark_before line n.start + 1)
   only-name = OfNames.only-name line e
 
-  pub second-name : {m n : Name} → a.label ≡ Named m → b.label ≡ Named n
+  pub second-name : {m n : Name} → a.label ≡ Some m → b.label ≡ Some n
       → (name_column line 13 true ≡ n.start + 1) × (name_column line 14 true ≡ mark_before line n.start + 1)
   second-name = OfNames.second-name line e
 
 -- What stands before a name in an operand is where that operand starts.
 pub operand-marked : (line : List ℕ) {w : Token} {x : Word} {ts us : List Token} {i : ℕ} {o : Written} {n : Name} → Statement line w x ts
     → OperandThere line ts i us o
-    → label_in o ≡ Named n
+    → label_in o ≡ Some n
     → OperandStart line ts i (mark_before line n.start)
 operand-marked line s = Marked.operand-marked line s
 

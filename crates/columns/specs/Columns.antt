@@ -6,8 +6,8 @@ use Rattle.tokens.specs.declared.Token.{Token}
 use Rattle.names.specs.Names.{word_of}
 use Rattle.names.specs.declared.Word.{Word}
 use Rattle.names.specs.declared.Word.TheVariants as W
-use Rattle.values.specs.declared.LabelIn.{LabelIn}
-use Rattle.values.specs.declared.LabelIn.TheVariants.{Absent, Named}
+use Rattle.std.specs.Prelude.{Option, Some, None, Result, Ok, Err}
+use Rattle.values.specs.declared.Name.{Name}
 use Rattle.expressions.specs.Places.{fault_in, too_deep_in}
 use Rattle.operands.specs.Operands.{word_at}
 use Rattle.operands.specs.Places as Operands
@@ -18,8 +18,6 @@ use Rattle.statements.specs.declared.Failure.{Failure}
 use Rattle.statements.specs.declared.Failure.TheVariants.{UnknownWord, WrongForm, WrongCount, WrongKind, TooDeep, OutOfRange, ByZero, ResultOut}
 use Rattle.statements.specs.declared.Statement.{Statement}
 use Rattle.statements.specs.declared.Statement.TheVariants.{Nothing, Instruction, Org, Equ, Res, Data, End}
-use Rattle.statements.specs.declared.StatementRead.{StatementRead}
-use Rattle.statements.specs.declared.StatementRead.TheVariants.{Passes, Fails}
 use Rattle.faults.specs.Walk.{place}
 use Rattle.columns.specs.Points.{operand_of}
 use Rattle.columns.specs.declared.Pointed.{Pointed}
@@ -31,9 +29,9 @@ unfoldable pub column_at : List ℕ → ℕ → ℕ
 column_at line p = cond (leb p (length line)) (p + 1) 0
 
 -- the label in front
-abbrev pub label_column_by : List ℕ → LabelIn → ℕ
-label_column_by line Absent = 0
-label_column_by line (Named n) = column_at line n.start
+abbrev pub label_column_by : List ℕ → Option Name → ℕ
+label_column_by line None = 0
+label_column_by line (Some n) = column_at line n.start
 
 unfoldable pub label_column : List ℕ → ℕ
 label_column line = label_column_by line (label_read (tokens_from line 0))
@@ -90,9 +88,9 @@ pointed_at column operand = record { column = record { 0 = column }; place = ope
 
 -- a line that passes its own checks was refused for its label's address or for what RES moves to: "the statement's word .. for a result
 -- or label address in 6"
-abbrev pub again_by : List ℕ → StatementRead → Pointed
-again_by line (Passes s) = pointed_at (word_column line) 0
-again_by line (Fails why) = pointed_at (column_of line why) (operand_of why)
+abbrev pub again_by : List ℕ → Result Statement Failure → Pointed
+again_by line (Ok s) = pointed_at (word_column line) 0
+again_by line (Err why) = pointed_at (column_of line why) (operand_of why)
 
 unfoldable pub read_again : List ℕ → Pointed
 read_again line = again_by line (line_read line).statement
@@ -107,14 +105,14 @@ pointed line number =
 -- ---- 13 and 14
 
 -- the label that the first operand names, or the second one's where the first names none or the second is asked for
-abbrev pub name_by : LabelIn → LabelIn → Bool → LabelIn
-name_by Absent b second = b
-name_by (Named n) b second = cond second b (Named n)
+abbrev pub name_by : Option Name → Option Name → Bool → Option Name
+name_by None b second = b
+name_by (Some n) b second = cond second b (Some n)
 
 -- "the label in .. 13", "the operand in 14"
-abbrev pub name_column_at : List ℕ → ℕ → LabelIn → ℕ
-name_column_at line number Absent = 0
-name_column_at line number (Named n) = cond (eqb number 14) (column_at line (mark_before line n.start)) (column_at line n.start)
+abbrev pub name_column_at : List ℕ → ℕ → Option Name → ℕ
+name_column_at line number None = 0
+name_column_at line number (Some n) = cond (eqb number 14) (column_at line (mark_before line n.start)) (column_at line n.start)
 
 abbrev pub name_column_in : List ℕ → ℕ → Bool → Statement → ℕ
 name_column_in line number second Nothing = 0
@@ -125,9 +123,9 @@ name_column_in line number second (Res v) = 0
 name_column_in line number second (Data n) = 0
 name_column_in line number second End = 0
 
-abbrev pub name_column_by : List ℕ → ℕ → Bool → StatementRead → ℕ
-name_column_by line number second (Passes s) = name_column_in line number second s
-name_column_by line number second (Fails why) = 0
+abbrev pub name_column_by : List ℕ → ℕ → Bool → Result Statement Failure → ℕ
+name_column_by line number second (Ok s) = name_column_in line number second s
+name_column_by line number second (Err why) = 0
 
 -- of a line that passes, whose first or second name in operands is refused with a number
 unfoldable pub name_column : List ℕ → ℕ → Bool → ℕ

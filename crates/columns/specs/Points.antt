@@ -8,7 +8,8 @@ use Rattle.names.specs.declared.Word.{Word}
 use Rattle.names.specs.declared.Word.TheVariants as W
 use Rattle.values.specs.declared.Name.{Name}
 use Rattle.expressions.specs.Places.{Placed, PlacedExpression, found_of, here, deep_at}
-use Rattle.expressions.specs.declared.Found.TheVariants as E
+use Rattle.std.specs.Prelude.{Err}
+use Rattle.expressions.specs.declared.Fault.TheVariants.{OutOfRange, ByZero}
 use Rattle.operands.specs.Places as Operands
 use Rattle.operands.specs.Places.{OperandStart}
 use Rattle.items.specs.Places as Items
@@ -58,10 +59,10 @@ module _ (line : List ℕ) where
         → Points TooDeep (p + 1)
     -- "the number or the operation's mark in 6, 7"
     zero : {w : Token} {x : Word} {ts : List Token} {e : Placed} {p : ℕ} → Statement line w x ts → TakesExpression x → PlacedExpression ts e
-        → found_of e ≡ E.ByZero p
+        → found_of e ≡ Err (record { fault = ByZero; at = p })
         → Points ByZero (p + 1)
     out : {w : Token} {x : Word} {ts : List Token} {e : Placed} {p : ℕ} → Statement line w x ts → TakesExpression x → PlacedExpression ts e
-        → found_of e ≡ E.OutOfRange p
+        → found_of e ≡ Err (record { fault = OutOfRange; at = p })
         → Points OutOfRange (p + 1)
     operand-out : {w : Token} {op : Opcode} {ts : List Token} {p : ℕ} → Statement line w (W.Instructs op) ts → Operands.NumberOut line ts p
         → Points OutOfRange (p + 1)

@@ -2,34 +2,34 @@
 ghost use Rattle.std.specs.Prelude.{◌≡◌};
 ghost use Rattle.columns.specs.Columns.{name_by, name_column_at, name_column_in, name_column};
 
+use values::Name;
 use super::Column;
 use super::own::{column_at, mark_before};
 use statements::line::read_line;
-use statements::{Statement, StatementRead};
-use values::LabelIn;
+use statements::Statement;
 
 // The first operand's label, or the second's.
-fn name_by(a: LabelIn, b: LabelIn, second: bool) -> LabelIn
+fn name_by(a: Option<Name>, b: Option<Name>, second: bool) -> Option<Name>
     ensures { result ≡ name_by a b second }
 {
     match a {
-        LabelIn::Absent => b,
-        LabelIn::Named(n) => {
+        None => b,
+        Some(n) => {
             if second {
                 return b;
             }
-            LabelIn::Named(n)
+            Some(n)
         }
     }
 }
 
 // 13 points at the name, 14 at its operand's mark.
-fn name_column_at(line: &[u8], number: u8, name: LabelIn) -> Column
+fn name_column_at(line: &[u8], number: u8, name: Option<Name>) -> Column
     ensures { result.0 ≡ name_column_at line.now number name }
 {
     match name {
-        LabelIn::Absent => Column(0),
-        LabelIn::Named(n) => {
+        None => Column(0),
+        Some(n) => {
             let start = n.start;
             if number == 14 {
                 return column_at(line, mark_before(line, start));
@@ -64,7 +64,7 @@ pub(crate) fn name_column(line: &[u8], number: u8, second: bool) -> Column
     let read = read_line(line);
     let statement = read.statement;
     match statement {
-        StatementRead::Fails(_) => Column(0),
-        StatementRead::Passes(says) => name_column_in(line, number, second, says),
+        Err(_) => Column(0),
+        Ok(says) => name_column_in(line, number, second, says),
     }
 }

@@ -6,7 +6,6 @@ ghost use Rattle.columns.specs.Columns.{column_at, label_column, word_column, ma
 use super::Column;
 use statements::labels::{is_word, label};
 use tokens::tokens::is_blank;
-use values::LabelIn;
 
 // The column of a place, which stands in the line or directly behind it; any other has none.
 pub(crate) fn column_at(line: &[u8], place: usize) -> Column
@@ -25,8 +24,8 @@ pub fn label_column(line: &[u8]) -> Column
     let found = label(line);
     let named = found.label;
     match named {
-        LabelIn::Absent => Column(0),
-        LabelIn::Named(n) => column_at(line, n.start),
+        None => Column(0),
+        Some(n) => column_at(line, n.start),
     }
 }
 

@@ -15,7 +15,7 @@ use numerals::Cursor;
 use operands::places::operand_start;
 use statements::labels::{is_word, label};
 use statements::line::read_line;
-use statements::{Failure, StatementRead};
+use statements::Failure;
 use tokens::Token;
 
 // The number out of range behind a statement's word: an operand's, an item's, or in an expression a number or an operation's mark.
@@ -102,8 +102,8 @@ fn read_again(line: &[u8]) -> Pointed
     let read = read_line(line);
     let statement = read.statement;
     match statement {
-        StatementRead::Passes(_) => beside(word_column(line)),
-        StatementRead::Fails(why) => Pointed {
+        Ok(_) => beside(word_column(line)),
+        Err(why) => Pointed {
             column: failure_column(line, why),
             place: operand_of(why),
         },

@@ -8,15 +8,16 @@ use Rattle.numerals.specs.Reading.{unsigned_at}
 use Rattle.numerals.specs.declared.Cursor.{Cursor}
 use Rattle.numerals.specs.declared.Numeral.{Numeral}
 use Rattle.numerals.specs.declared.Radix.TheVariants.{Decimal, Hexadecimal}
-use Rattle.numerals.specs.declared.NumberRead.TheVariants.{Found, Absent}
+use Rattle.std.proofs.Common.{Some, None}
+use Rattle.numerals.specs.Reading.{upto}
 use Rattle.desk.specs.Sizes.{size_of}
 
 module _ (word : List ℕ) where
-  pub size-absent : unsigned_at word 0 ≡ Absent → 0 ≡ size_of word
+  pub size-absent : unsigned_at word 0 ≡ None → 0 ≡ size_of word
   unfolding size_of
   size-absent e = rw e
 
-  module _ {n : Numeral} {c : Cursor} (read : unsigned_at word 0 ≡ Found n c) where
+  module _ {n : Numeral} {c : Cursor} (read : unsigned_at word 0 ≡ Some (upto n c)) where
     pub size-rest : (c.at ≡ length word → ⊥) → 0 ≡ size_of word
     unfolding size_of
     size-rest r = rw (read, ne_eqb _ _ r)

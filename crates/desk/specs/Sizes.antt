@@ -3,8 +3,9 @@ use Rattle.std.specs.Prelude.{ℕ, Bool, true, false, cond, ◌&&◌, List, eqb,
 use Rattle.numerals.specs.Reading.{unsigned_at}
 use Rattle.numerals.specs.declared.Radix.{Radix}
 use Rattle.numerals.specs.declared.Radix.TheVariants.{Decimal, Hexadecimal}
-use Rattle.numerals.specs.declared.NumberRead.{NumberRead}
-use Rattle.numerals.specs.declared.NumberRead.TheVariants.{Found, Absent}
+use Rattle.std.specs.Prelude.{Option, Some, None}
+use Rattle.numerals.specs.declared.Read.{Read}
+use Rattle.numerals.specs.declared.Numeral.{Numeral}
 
 abbrev pub largest_m : ℕ
 largest_m = 16384
@@ -14,9 +15,9 @@ is_decimal Decimal = true
 is_decimal Hexadecimal = false
 
 -- the number that a word of a length wholly is, and 0 for any other: for no number, a hexadecimal one, and one above 16,384
-abbrev pub size_in : ℕ → NumberRead → ℕ
-size_in end (Found n c) = cond (eqb c.at end && (leb n.magnitude largest_m && is_decimal n.radix)) n.magnitude 0
-size_in end Absent = 0
+abbrev pub size_in : ℕ → Option (Read Numeral) → ℕ
+size_in end (Some r) = cond (eqb r.next.at end && (leb r.value.magnitude largest_m && is_decimal r.value.radix)) r.value.magnitude 0
+size_in end None = 0
 
 -- the M that a word names, or 0
 unfoldable pub size_of : List ℕ → ℕ

@@ -3,7 +3,7 @@ ghost use Rattle.std.specs.Prelude.{◌≡◌, ◌≤◌, length, IfOk};
 ghost use Rattle.desk.specs.Sizes.{size_of};
 
 use super::rooms;
-use numerals::{Cursor, NumberRead, Radix};
+use numerals::{Cursor, Radix, Read};
 use std::env::FillError;
 use std::io;
 use std::rt::Env;
@@ -13,7 +13,7 @@ pub fn size_of(word: &[u8]) -> usize
     ensures { result ≡ size_of word.now }
 {
     match (Cursor { at: 0 }).unsigned(word) {
-        NumberRead::Found(n, c) => {
+        Some(Read { value: n, next: c }) => {
             if c.at != word.len() {
                 return 0;
             }
@@ -26,7 +26,7 @@ pub fn size_of(word: &[u8]) -> usize
                 Radix::Hexadecimal => 0,
             }
         }
-        NumberRead::Absent => 0,
+        None => 0,
     }
 }
 

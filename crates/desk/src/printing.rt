@@ -3,7 +3,6 @@ ghost use Rattle.std.specs.Prelude.{◌≡◌};
 ghost use Rattle.ports.specs.Output.{text_put};
 ghost use Rattle.desk.specs.Putting.{PutSo};
 
-use ports::Moved;
 use ports::output::put_text;
 use std::fmt::InlineText;
 use std::io;
@@ -14,8 +13,8 @@ pub fn put(out: &mut [u8], at: usize, text: &[u8]) -> usize
     ensures { PutSo at (text_put out.old at text.now) out.new result }
 {
     match put_text(out, at, text) {
-        Moved::To(next) => next,
-        Moved::Short(_) => at,
+        Ok(next) => next,
+        Err(_) => at,
     }
 }
 

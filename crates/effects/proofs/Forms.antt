@@ -14,13 +14,11 @@ use Rattle.isa.specs.declared.Opcode.{Opcode}
 use Rattle.isa.specs.declared.Opcode.TheVariants.{NOP, HALT, MOVE, PUSH, POP, ADD, SUB, MUL, DIV, MOD, INC, DEC, NEG, CMP, AND, OR, XOR, NOT, BR, BZ, BNZ, BP, BNP, BN, BNN, BV, BNV, BC, BNC, BE, BO, CALL, RET, INCHAR, ININT, INSTR, WRCHAR, WRINT, WRSTR}
 use Rattle.arithmetic.specs.Operations as Op
 use Rattle.arithmetic.specs.declared.Outcome.{Outcome}
-use Rattle.arithmetic.specs.declared.Division.{Division}
-use Rattle.arithmetic.specs.declared.Division.TheVariants.{Done, ByZero}
+use Rattle.std.proofs.Common.{Option, Some, None}
 use Rattle.arithmetic.proofs.Laws.{ADD-fits, SUB-fits, MUL-fits, DIV-fits, MOD-fits, AND-fits, OR_fits, XOR-fits, NOT-fits}
 use Rattle.effects.specs.Places.{place_of, there_in, target_of}
 use Rattle.effects.specs.Conditions.{taken_bz, taken_bnz, taken_bp, taken_bnp, taken_bn, taken_bnn, taken_bv, taken_bnv, taken_bc, taken_bnc, taken_be, taken_bo}
 use Rattle.effects.specs.Effects.{Found, goes_to, writes, divides_to, pushes, pops, by_opcode, found_at, addresses_there, perform_of}
-use Rattle.effects.specs.declared.Flags.{Flags}
 use Rattle.effects.specs.declared.Performed.{Performed}
 use Rattle.effects.specs.declared.Performed.TheVariants.{Does, Halts, Asks, Stops}
 use Rattle.effects.specs.declared.Place.{Place}
@@ -55,17 +53,17 @@ asked_place (PutString a) = Nowhere
 
 pub data Form (f : Found) (target : Bool) : Performed → Type 0 where
   goes : (taken : Bool) → Form f target (Does (goes_to (cond taken (target_of f.first) f.next) f.sp))
-  puts : {p : Place} → Written f target p → (v : ℕ) (fl : Flags) → (Small f → v < 65536) → Form f target (Does (writes f.next f.sp p v fl))
+  puts : {p : Place} → Written f target p → (v : ℕ) (fl : Option ℕ) → (Small f → v < 65536) → Form f target (Does (writes f.next f.sp p v fl))
   pushed : (v next : ℕ) → (Small f → v < 65536) → (Small f → next ≤ 65536) → Form f target (pushes f.m f.sp v next)
   popped : {p : Place} → Written f target p → Form f target (pops f.m f.sp f.next p)
   halts : Form f target Halts
   asks : (q : Port) → Written f target (asked_place q) → Form f target (Asks q)
   no_divisor : Form f target (Stops 6)
 
-division_form : (f : Found) (target : Bool) (d : Division) → ((o : Outcome) → d ≡ Done o → Small f → o.value < 65536) →
+division_form : (f : Found) (target : Bool) (d : Option Outcome) → ((o : Outcome) → d ≡ Some o → Small f → o.value < 65536) →
     Form f target (divides_to f.next f.sp d)
-division_form f target (Done o) h = puts (register A) _ _ (h o refl)
-division_form f target ByZero h = no_divisor
+division_form f target (Some o) h = puts (register A) _ _ (h o refl)
+division_form f target None h = no_divisor
 
 by_opcode_form : (f : Found) (o : Opcode) → Form f (is_target (table o).first) (by_opcode f o)
 unfolding by_opcode table

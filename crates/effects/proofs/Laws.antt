@@ -11,8 +11,7 @@ use lib.Seq.{get_or-set_same, get_or-set_other}
 use Rattle.codes.specs.Registers.{SR, SP, PC}
 use Rattle.effects.specs.Applied.{keeping_h, with_register, register_written, cell_written, flagged, registers_after, memory_after}
 use Rattle.effects.specs.declared.Effect.{Effect}
-use Rattle.effects.specs.declared.Flags.{Flags}
-use Rattle.effects.specs.declared.Flags.TheVariants.{Unchanged, Become}
+use Rattle.std.proofs.Common.{Option, Some, None}
 use Rattle.effects.specs.declared.Place.{Place}
 use Rattle.effects.specs.declared.Place.TheVariants.{Nowhere, Constant, InRegister, InCell}
 
@@ -29,9 +28,9 @@ result-length r (Constant k) v = refl
 result-length r (InRegister k) v = register-length (eqb k SR) r k v (keeping_h (get_or r SR 0) v)
 result-length r (InCell a) v = refl
 
-flags-length : (r : List ℕ) (fl : Flags) → length (flagged r fl) ≡ length r
-flags-length r Unchanged = refl
-flags-length r (Become b) = length-set r SR (keeping_h (get_or r SR 0) b)
+flags-length : (r : List ℕ) (fl : Option ℕ) → length (flagged r fl) ≡ length r
+flags-length r None = refl
+flags-length r (Some b) = length-set r SR (keeping_h (get_or r SR 0) b)
 
 -- the 16 registers stay 16
 pub registers-length : (r : List ℕ) (e : Effect) → length (registers_after r e) ≡ length r
@@ -93,9 +92,9 @@ result_keeps_H r (Constant k) v = refl
 result_keeps_H r (InRegister k) v = register_keeps_H r k v (eqb k SR) refl
 result_keeps_H r (InCell a) v = refl
 
-flags_keep_H : (r : List ℕ) (fl : Flags) → H_of (flagged r fl) ≡ H_of r
-flags_keep_H r Unchanged = refl
-flags_keep_H r (Become b) = masked_keeps_H r b
+flags_keep_H : (r : List ℕ) (fl : Option ℕ) → H_of (flagged r fl) ≡ H_of r
+flags_keep_H r None = refl
+flags_keep_H r (Some b) = masked_keeps_H r b
 
 elsewhere_keeps_H : (r : List ℕ) (k v : ℕ) → (SR ≡ k → ⊥) → H_of (set r k v) ≡ H_of r
 elsewhere_keeps_H r k v h = ap (λ (n : ℕ). n / 32) (get_or-set_other r k SR v 0 h)
@@ -116,7 +115,7 @@ pub SR_six_bits : (r : List ℕ) (e : Effect) → get_or r SR 0 ≤ 63 → get_o
 SR_six_bits r e h = let k = H_kept r e in omega arith
 
 -- "set Z, S, P .. after storing it": the flags of an operation overwrite what its result left in bits 0 to 4
-pub flags-after : (r : List ℕ) (e : Effect) (fl : ℕ) → length r ≡ 16 → e.flags ≡ Become fl →
+pub flags-after : (r : List ℕ) (e : Effect) (fl : ℕ) → length r ≡ 16 → e.flags ≡ Some fl →
     get_or (registers_after r e) SR 0 ≡ fl % 32 + get_or r SR 0 / 32 * 32
 unfolding registers_after keeping_h
 flags-after r e fl l q =
@@ -143,9 +142,9 @@ module _ (k : ℕ) where
   result-other r (InRegister j) v s h = register-other r j v (keeping_h (get_or r SR 0) v) (eqb j SR) s (λ q. h (ap InRegister (sym q)))
   result-other r (InCell a) v s h = refl
 
-  flags-other : (r : List ℕ) (fl : Flags) → (k ≡ SR → ⊥) → get_or (flagged r fl) k 0 ≡ get_or r k 0
-  flags-other r Unchanged s = refl
-  flags-other r (Become b) s = get_or-set_other r SR k (keeping_h (get_or r SR 0) b) 0 s
+  flags-other : (r : List ℕ) (fl : Option ℕ) → (k ≡ SR → ⊥) → get_or (flagged r fl) k 0 ≡ get_or r k 0
+  flags-other r None s = refl
+  flags-other r (Some b) s = get_or-set_other r SR k (keeping_h (get_or r SR 0) b) 0 s
 
 -- a register other than SR, SP and PC that an effect does not name
 pub register-kept : (r : List ℕ) (e : Effect) (k : ℕ) → (k ≡ SR → ⊥) → (k ≡ SP → ⊥) → (k ≡ PC → ⊥) → (e.to ≡ InRegister k → ⊥) →

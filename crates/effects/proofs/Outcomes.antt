@@ -18,8 +18,7 @@ use Rattle.effects.specs.Places.{plus, place_of, value_at, there_in, target_of}
 use Rattle.effects.specs.Stack.{push_cell, pushed_sp, pop_cell, popped_sp}
 use Rattle.effects.specs.Effects.{Found, goes_to, writes, pushes, pops, perform_of}
 use Rattle.effects.specs.declared.Effect.{Effect}
-use Rattle.effects.specs.declared.Flags.{Flags}
-use Rattle.effects.specs.declared.Flags.TheVariants.{Unchanged}
+use Rattle.std.proofs.Common.{Option, None}
 use Rattle.effects.specs.declared.Performed.{Performed}
 use Rattle.effects.specs.declared.Performed.TheVariants.{Does, Halts, Asks, Stops}
 use Rattle.effects.specs.declared.Place.{Place}
@@ -40,7 +39,7 @@ there-cond : (size : ℕ) (t : Bool) (a b : Effect) → there_in size a.to ≡ t
 there-cond size true a b p q = p
 there-cond size false a b p q = q
 
-writes-there : (size next sp : ℕ) (p : Place) (v : ℕ) (fl : Flags) → there_in size p ≡ true → there_in size (writes next sp p v fl).to ≡ true
+writes-there : (size next sp : ℕ) (p : Place) (v : ℕ) (fl : Option ℕ) → there_in size p ≡ true → there_in size (writes next sp p v fl).to ≡ true
 unfolding writes there_in
 writes-there size next sp Nowhere v fl h = refl
 writes-there size next sp (Constant k) v fl h = refl
@@ -104,7 +103,7 @@ sized-cond : (t : Bool) (a b : Effect) → Sized (Does a) → Sized (Does b) →
 sized-cond true a b p q = p
 sized-cond false a b p q = q
 
-writes-sized : (next sp : ℕ) (p : Place) (v : ℕ) (fl : Flags) → sp < 65536 → v < 65536 → next ≤ 65536 → Sized (Does (writes next sp p v fl))
+writes-sized : (next sp : ℕ) (p : Place) (v : ℕ) (fl : Option ℕ) → sp < 65536 → v < 65536 → next ≤ 65536 → Sized (Does (writes next sp p v fl))
 unfolding writes
 writes-sized next sp Nowhere v fl s w n = (s, w, n)
 writes-sized next sp (Constant k) v fl s w n = (s, w, n)
@@ -117,10 +116,10 @@ form-sized f target s (goes taken) = jump_sized taken _ _ _ s.sp (omega arith) s
 form-sized f target s (puts {p} w v fl h) = writes-sized _ _ p v fl s.sp (h s) s.next
 form-sized f target s (pushed v next h n) =
     guarded Sized (ltb (push_cell f.sp) (length f.m)) _ tt
-    (λ e. writes-sized next ((f.sp + 65535) % 65536) (InCell (push_cell f.sp)) v Unchanged (omega arith) (h s) (n s))
+    (λ e. writes-sized next ((f.sp + 65535) % 65536) (InCell (push_cell f.sp)) v None (omega arith) (h s) (n s))
 form-sized f target s (popped {p} w) =
     guarded Sized (ltb (pop_cell f.sp) (length f.m)) _ tt
-    (λ e. writes-sized f.next ((f.sp + 1) % 65536) p (get_or f.m (pop_cell f.sp) 0) Unchanged (omega arith) (s.cells (pop_cell f.sp)) s.next)
+    (λ e. writes-sized f.next ((f.sp + 1) % 65536) p (get_or f.m (pop_cell f.sp) 0) None (omega arith) (s.cells (pop_cell f.sp)) s.next)
 form-sized f target s halts = tt
 form-sized f target s (asks q w) = tt
 form-sized f target s no_divisor = tt

@@ -24,8 +24,7 @@ use Rattle.effects.specs.Stack.{push_cell, pushed_sp, pop_cell, popped_sp}
 use Rattle.effects.specs.Effects.{goes_to, writes, pushes, pops, by_opcode, addresses_there, perform_of}
 use Rattle.effects.specs.Applied.{registers_after, memory_after}
 use Rattle.effects.specs.declared.Effect.{Effect}
-use Rattle.effects.specs.declared.Flags.{Flags}
-use Rattle.effects.specs.declared.Flags.TheVariants.{Unchanged, Become}
+use Rattle.std.proofs.Common.{Option, Some, None}
 use Rattle.effects.specs.declared.Performed.{Performed}
 use Rattle.effects.specs.declared.Performed.TheVariants.{Does, Halts, Asks, Stops}
 use Rattle.effects.specs.declared.Place.{Place}
@@ -41,7 +40,7 @@ two o a b = record { op = o; first = a; second = b }
 abbrev one : Opcode → Operand → Instruction
 one o a = two o a Absent
 
-abbrev effect : ℕ → ℕ → Place → ℕ → Flags → Performed
+abbrev effect : ℕ → ℕ → Place → ℕ → Option ℕ → Performed
 effect next sp to v fl = Does (record { next = next; sp = sp; to = to; value = v; flags = fl })
 
 -- registers and memory after what an instruction comes to
@@ -68,14 +67,14 @@ module _ (r m : List ℕ) (next : ℕ) where
   -- "PUSH stores at SP, then SP falls", whatever is pushed
   pub push : (a : Operand) → there_in (length m) (place_of r next a) ≡ true → get_or r SP 0 < length m →
       perform_of r m next (one O.PUSH a) ≡
-      effect next ((get_or r SP 0 + 65535) % 65536) (InCell (get_or r SP 0)) (value_at r m next (place_of r next a)) Unchanged
+      effect next ((get_or r SP 0 + 65535) % 65536) (InCell (get_or r SP 0)) (value_at r m next (place_of r next a)) None
   unfolding perform_of addresses_there table place_of there_in by_opcode pushes push_cell pushed_sp writes
   push a t h = rw (t, lt-ltb (get_or r SP 0) (length m) h)
 
   -- "POP raises SP, then reads", wherever the number goes
   pub pop : (a : Operand) → there_in (length m) (place_of r next a) ≡ true → (get_or r SP 0 + 1) % 65536 < length m →
       perform_of r m next (one O.POP a) ≡
-      Does (writes next ((get_or r SP 0 + 1) % 65536) (place_of r next a) (get_or m ((get_or r SP 0 + 1) % 65536) 0) Unchanged)
+      Does (writes next ((get_or r SP 0 + 1) % 65536) (place_of r next a) (get_or m ((get_or r SP 0 + 1) % 65536) 0) None)
   unfolding perform_of addresses_there table place_of there_in by_opcode pops pop_cell popped_sp
   pop a t h = rw (t, lt-ltb ((get_or r SP 0 + 1) % 65536) (length m) h)
 
@@ -85,13 +84,13 @@ module _ (r m : List ℕ) (next : ℕ) where
   unfolding perform_of addresses_there table place_of there_in by_opcode pops pop_cell popped_sp writes
   pop_SP l h =
       let sp = (get_or r SP 0 + 1) % 65536 in
-      let e : Effect = record { next = next; sp = sp; to = InRegister SP; value = get_or m sp 0; flags = Unchanged } in
+      let e : Effect = record { next = next; sp = sp; to = InRegister SP; value = get_or m sp 0; flags = None } in
       rw (lt-ltb sp (length m) h) (register-written r e SP l refl (omega arith) (λ q. omega arith) (λ q. omega arith))
 
   -- "PUSH stores at SP, then SP falls": `PUSH .SP` stores the SP of before
   pub push_SP : get_or r SP 0 < length m →
       perform_of r m next (one O.PUSH (Register SP)) ≡
-      effect next ((get_or r SP 0 + 65535) % 65536) (InCell (get_or r SP 0)) (get_or r SP 0) Unchanged
+      effect next ((get_or r SP 0 + 65535) % 65536) (InCell (get_or r SP 0)) (get_or r SP 0) None
   unfolding perform_of addresses_there table place_of there_in value_at see by_opcode pushes push_cell pushed_sp writes
   push_SP h = rw (lt-ltb (get_or r SP 0) (length m) h)
 
@@ -104,35 +103,35 @@ module _ (r m : List ℕ) (next : ℕ) where
   -- "CALL pushes the next address", modulo 65536, and goes to its target, whatever that is
   pub calls : (a : Operand) → get_or r SP 0 < length m →
       perform_of r m next (one O.CALL a) ≡
-      effect (target_of (place_of r next a)) ((get_or r SP 0 + 65535) % 65536) (InCell (get_or r SP 0)) (next % 65536) Unchanged
+      effect (target_of (place_of r next a)) ((get_or r SP 0 + 65535) % 65536) (InCell (get_or r SP 0)) (next % 65536) None
   unfolding perform_of addresses_there table by_opcode pushes push_cell pushed_sp writes
   calls a h = rw (lt-ltb (get_or r SP 0) (length m) h)
 
   -- `CALL /a`
   pub call : (a : ℕ) → get_or r SP 0 < length m →
       perform_of r m next (one O.CALL (Memory a)) ≡
-      effect a ((get_or r SP 0 + 65535) % 65536) (InCell (get_or r SP 0)) (next % 65536) Unchanged
+      effect a ((get_or r SP 0 + 65535) % 65536) (InCell (get_or r SP 0)) (next % 65536) None
   unfolding perform_of addresses_there table place_of target_of by_opcode pushes push_cell pushed_sp writes
   call a h = rw (lt-ltb (get_or r SP 0) (length m) h)
 
   -- `CALL [.SP]` goes to the address that SP held
   pub call_at_SP : get_or r SP 0 < length m →
       perform_of r m next (one O.CALL (Indirect SP)) ≡
-      effect (get_or r SP 0) ((get_or r SP 0 + 65535) % 65536) (InCell (get_or r SP 0)) (next % 65536) Unchanged
+      effect (get_or r SP 0) ((get_or r SP 0 + 65535) % 65536) (InCell (get_or r SP 0)) (next % 65536) None
   unfolding perform_of addresses_there table place_of target_of see by_opcode pushes push_cell pushed_sp writes
   call_at_SP h = rw (lt-ltb (get_or r SP 0) (length m) h)
 
   -- RET takes the popped number for the next PC
   pub ret : (get_or r SP 0 + 1) % 65536 < length m →
       perform_of r m next (two O.RET Absent Absent) ≡
-      effect (get_or m ((get_or r SP 0 + 1) % 65536) 0) ((get_or r SP 0 + 1) % 65536) Nowhere (get_or m ((get_or r SP 0 + 1) % 65536) 0) Unchanged
+      effect (get_or m ((get_or r SP 0 + 1) % 65536) 0) ((get_or r SP 0 + 1) % 65536) Nowhere (get_or m ((get_or r SP 0 + 1) % 65536) 0) None
   unfolding perform_of addresses_there table place_of there_in by_opcode pops pop_cell popped_sp writes
   ret h = rw (lt-ltb ((get_or r SP 0 + 1) % 65536) (length m) h)
 
   -- ---- PC, SR and the flags
 
   -- "A write to register PC gives the next PC"
-  pub move_to_PC : (v : ℕ) → perform_of r m next (two O.MOVE (Immediate v) (Register PC)) ≡ effect v (get_or r SP 0) Nowhere v Unchanged
+  pub move_to_PC : (v : ℕ) → perform_of r m next (two O.MOVE (Immediate v) (Register PC)) ≡ effect v (get_or r SP 0) Nowhere v None
   unfolding perform_of addresses_there table place_of there_in value_at by_opcode writes
   move_to_PC v = refl
 
@@ -142,31 +141,31 @@ module _ (r m : List ℕ) (next : ℕ) where
   unfolding perform_of addresses_there table place_of there_in value_at see by_opcode writes
   inc_SR l =
       let o = Op.INC (get_or r SR 0) in
-      let e : Effect = record { next = next; sp = get_or r SP 0; to = InRegister SR; value = o.value; flags = Become o.flags } in
+      let e : Effect = record { next = next; sp = get_or r SP 0; to = InRegister SR; value = o.value; flags = Some o.flags } in
       omega (arith, flags-after r e o.flags l refl, (ADD-fits (get_or r SR 0) 1).flags)
 
   -- "Arithmetic and CMP set ..": CMP sets the flags alone
   pub compare : (x y : ℕ) →
-      perform_of r m next (two O.CMP (Immediate x) (Immediate y)) ≡ effect next (get_or r SP 0) Nowhere 0 (Become (Op.CMP x y))
+      perform_of r m next (two O.CMP (Immediate x) (Immediate y)) ≡ effect next (get_or r SP 0) Nowhere 0 (Some (Op.CMP x y))
   unfolding perform_of addresses_there table place_of there_in value_at by_opcode writes
   compare x y = refl
 
   -- "logic and moves set none"
   pub not_register : (k : ℕ) → (k ≡ PC → ⊥) →
-      perform_of r m next (one O.NOT (Register k)) ≡ effect next (get_or r SP 0) (InRegister k) (65535 - get_or r k 0) Unchanged
+      perform_of r m next (one O.NOT (Register k)) ≡ effect next (get_or r SP 0) (InRegister k) (65535 - get_or r k 0) None
   unfolding perform_of addresses_there table place_of there_in value_at see by_opcode writes
   not_register k h = rw (ne_eqb k PC h)
 
   -- ---- branches
 
   -- "Branch .. targets are addresses, never a cell's content": `BR /x` goes to x
-  pub branch_to : (x : ℕ) → perform_of r m next (one O.BR (Memory x)) ≡ effect x (get_or r SP 0) Nowhere 0 Unchanged
+  pub branch_to : (x : ℕ) → perform_of r m next (one O.BR (Memory x)) ≡ effect x (get_or r SP 0) Nowhere 0 None
   unfolding perform_of addresses_there table place_of target_of by_opcode goes_to
   branch_to x = refl
 
   -- taken, a branch goes to its target, and else to the next address; no target is outside memory before it is the next PC
   abbrev branches : Bool → Operand → Performed
-  branches taken a = effect (cond taken (target_of (place_of r next a)) next) (get_or r SP 0) Nowhere 0 Unchanged
+  branches taken a = effect (cond taken (target_of (place_of r next a)) next) (get_or r SP 0) Nowhere 0 None
 
   -- one line for each condition, whatever the target
   pub record Branches (a : Operand) : Type 0 where
@@ -204,7 +203,7 @@ module _ (r m : List ℕ) (next : ℕ) where
       }
 
   -- a branch not taken goes to the next address, whatever its target
-  pub not_taken : (a : Operand) → C.flag_z (get_or r SR 0) ≡ false → perform_of r m next (one O.BZ a) ≡ effect next (get_or r SP 0) Nowhere 0 Unchanged
+  pub not_taken : (a : Operand) → C.flag_z (get_or r SR 0) ≡ false → perform_of r m next (one O.BZ a) ≡ effect next (get_or r SP 0) Nowhere 0 None
   not_taken a z = rw z at (conditions a).BZ
 
   -- ---- stops
@@ -244,7 +243,7 @@ module _ (r m : List ℕ) (next : ℕ) where
 
 -- CALL at the top of a memory of 65,536 pushes 0
 pub call_at_top : (r m : List ℕ) (a : ℕ) → get_or r SP 0 < length m →
-    perform_of r m 65536 (one O.CALL (Memory a)) ≡ effect a ((get_or r SP 0 + 65535) % 65536) (InCell (get_or r SP 0)) 0 Unchanged
+    perform_of r m 65536 (one O.CALL (Memory a)) ≡ effect a ((get_or r SP 0 + 65535) % 65536) (InCell (get_or r SP 0)) 0 None
 call_at_top r m a h = call r m 65536 a h
 
 -- and `.PC` reads 0 there
@@ -253,6 +252,6 @@ unfolding see
 PC_at_top r = refl
 
 -- "Addresses add modulo 65536": `BR $10` with 65532 after it goes to 6
-pub wraps : (r m : List ℕ) → perform_of r m 65532 (one O.BR (Relative 10)) ≡ effect 6 (get_or r SP 0) Nowhere 0 Unchanged
+pub wraps : (r m : List ℕ) → perform_of r m 65532 (one O.BR (Relative 10)) ≡ effect 6 (get_or r SP 0) Nowhere 0 None
 unfolding perform_of addresses_there table place_of target_of plus see by_opcode goes_to
 wraps r m = refl

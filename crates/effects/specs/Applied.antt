@@ -4,8 +4,7 @@ use Rattle.codes.specs.Flags.{for_h}
 use Rattle.codes.specs.Registers.{SR, SP, PC}
 use Rattle.effects.specs.declared.Place.{Place}
 use Rattle.effects.specs.declared.Place.TheVariants.{Nowhere, Constant, InRegister, InCell}
-use Rattle.effects.specs.declared.Flags.{Flags}
-use Rattle.effects.specs.declared.Flags.TheVariants.{Unchanged, Become}
+use Rattle.std.specs.Prelude.{Option, Some, None}
 use Rattle.effects.specs.declared.Effect.{Effect}
 
 -- "Writing SR sets bits 0..4 and keeps H"
@@ -29,9 +28,9 @@ cell_written m (InRegister k) v = m
 cell_written m (InCell a) v = set m a v
 
 -- flags that an operation gave
-abbrev pub flagged : List ℕ → Flags → List ℕ
-flagged r Unchanged = r
-flagged r (Become fl) = set r SR (keeping_h (get_or r SR 0) fl)
+abbrev pub flagged : List ℕ → Option ℕ → List ℕ
+flagged r None = r
+flagged r (Some fl) = set r SR (keeping_h (get_or r SR 0) fl)
 
 -- SP, then the result, then "Arithmetic and CMP set Z, S, P .. after storing it", and PC "kept modulo 65536"
 unfoldable pub registers_after : List ℕ → Effect → List ℕ

@@ -12,15 +12,12 @@ use Rattle.isa.specs.declared.Opcode.TheVariants.{BR, BZ, BNZ, BP, BNP, BN, BNN,
 use Rattle.isa.specs.declared.Opcode.TheVariants.{INCHAR, ININT, INSTR, WRCHAR, WRINT, WRSTR}
 use Rattle.arithmetic.specs.Operations as Op
 use Rattle.arithmetic.specs.declared.Outcome.{Outcome}
-use Rattle.arithmetic.specs.declared.Division.{Division}
-use Rattle.arithmetic.specs.declared.Division.TheVariants.{Done, ByZero}
+use Rattle.std.specs.Prelude.{Option, Some, None}
 use Rattle.effects.specs.Places.{place_of, value_at, there_in, target_of}
 use Rattle.effects.specs.Conditions.{taken_bz, taken_bnz, taken_bp, taken_bnp, taken_bn, taken_bnn, taken_bv, taken_bnv, taken_bc, taken_bnc, taken_be, taken_bo}
 use Rattle.effects.specs.Stack.{push_cell, pushed_sp, pop_cell, popped_sp}
 use Rattle.effects.specs.declared.Place.{Place}
 use Rattle.effects.specs.declared.Place.TheVariants.{Nowhere, Constant, InRegister, InCell}
-use Rattle.effects.specs.declared.Flags.{Flags}
-use Rattle.effects.specs.declared.Flags.TheVariants.{Unchanged, Become}
 use Rattle.effects.specs.declared.Effect.{Effect}
 use Rattle.effects.specs.declared.Port.TheVariants.{TakeByte, TakeNumber, TakeString, PutByte, PutNumber, PutString}
 use Rattle.effects.specs.declared.Performed.{Performed}
@@ -40,10 +37,10 @@ pub record Found : Type 0 where
 
 -- nothing but going on at an address
 unfoldable pub goes_to : ℕ → ℕ → Effect
-goes_to next stack = record { next = next; sp = stack; to = Nowhere; value = 0; flags = Unchanged }
+goes_to next stack = record { next = next; sp = stack; to = Nowhere; value = 0; flags = None }
 
 -- a value written to a place: "A write to register PC gives the next PC"
-unfoldable pub writes : ℕ → ℕ → Place → ℕ → Flags → Effect
+unfoldable pub writes : ℕ → ℕ → Place → ℕ → Option ℕ → Effect
 writes next stack Nowhere v fl = record { next = next; sp = stack; to = Nowhere; value = v; flags = fl }
 writes next stack (Constant k) v fl = record { next = next; sp = stack; to = Nowhere; value = v; flags = fl }
 writes next stack (InRegister k) v fl =
@@ -53,25 +50,25 @@ writes next stack (InCell a) v fl = record { next = next; sp = stack; to = InCel
 
 -- a value alone, or a result with its flags, to an operand or to the accumulator
 abbrev pub moves : Found → Place → ℕ → Performed
-moves f place v = Does (writes f.next f.sp place v Unchanged)
+moves f place v = Does (writes f.next f.sp place v None)
 
 abbrev pub results : Found → Place → Outcome → Performed
-results f place o = Does (writes f.next f.sp place o.value (Become o.flags))
+results f place o = Does (writes f.next f.sp place o.value (Some o.flags))
 
 abbrev pub to_a : Place
 to_a = InRegister A
 
 -- the quotient or the remainder to the accumulator; a zero divisor is its stop, 6
-abbrev pub divides_to : ℕ → ℕ → Division → Performed
-divides_to next sp (Done o) = Does (writes next sp to_a o.value (Become o.flags))
-divides_to next sp ByZero = Stops (Op.stop_of_division ByZero)
+abbrev pub divides_to : ℕ → ℕ → Option Outcome → Performed
+divides_to next sp (Some o) = Does (writes next sp to_a o.value (Some o.flags))
+divides_to next sp None = Stops (Op.stop_of_division None)
 
-abbrev pub divides : Found → Division → Performed
+abbrev pub divides : Found → Option Outcome → Performed
 divides f d = divides_to f.next f.sp d
 
 -- the flags alone
 abbrev pub compares : Found → ℕ → Performed
-compares f fl = Does (writes f.next f.sp Nowhere 0 (Become fl))
+compares f fl = Does (writes f.next f.sp Nowhere 0 (Some fl))
 
 -- "Branch .. targets are addresses": taken, the target is the next PC
 abbrev pub jumps : Found → Bool → Performed
@@ -80,12 +77,12 @@ jumps f taken = Does (goes_to (cond taken (target_of f.first) f.next) f.sp)
 -- a value pushed on the way to the next address; a cell outside memory is stop 5
 unfoldable pub pushes : List ℕ → ℕ → ℕ → ℕ → Performed
 pushes m sp v next =
-    cond (ltb (push_cell sp) (length m)) (Does (writes next (pushed_sp sp) (InCell (push_cell sp)) v Unchanged)) (Stops memory_end)
+    cond (ltb (push_cell sp) (length m)) (Does (writes next (pushed_sp sp) (InCell (push_cell sp)) v None)) (Stops memory_end)
 
 -- what is popped, written to a place: `POP .SP` ends with the popped number
 unfoldable pub pops : List ℕ → ℕ → ℕ → Place → Performed
 pops m sp next place =
-    cond (ltb (pop_cell sp) (length m)) (Does (writes next (popped_sp sp) place (get_or m (pop_cell sp) 0) Unchanged)) (Stops memory_end)
+    cond (ltb (pop_cell sp) (length m)) (Does (writes next (popped_sp sp) place (get_or m (pop_cell sp) 0) None)) (Stops memory_end)
 
 -- one line for each opcode
 unfoldable pub by_opcode : Found → Opcode → Performed

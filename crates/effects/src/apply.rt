@@ -2,7 +2,7 @@
 ghost use Rattle.std.specs.Prelude.{◌≡◌, get_or, set};
 ghost use Rattle.effects.specs.Applied.{keeping_h, with_register, register_written, cell_written, flagged, registers_after, memory_after};
 
-use super::{Effect, Flags, Place};
+use super::{Effect, Place};
 use codes::flags::FOR_H;
 use codes::registers::{PC, SP, SR};
 
@@ -42,14 +42,14 @@ fn put_result(r: &mut [u16; 16], to: Place, v: u16)
     }
 }
 
-fn put_flags(r: &mut [u16; 16], flags: Flags)
+fn put_flags(r: &mut [u16; 16], flags: Option<usize>)
     ensures { r.new ≡ flagged r.old flags }
 {
     match flags {
-        Flags::Become(f) => {
+        Some(f) => {
             r[SR] = kept_h(r[SR], f);
         }
-        Flags::Unchanged => {}
+        None => {}
     }
 }
 

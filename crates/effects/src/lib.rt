@@ -26,13 +26,6 @@ pub struct Located {
     pub fault: u8,
 }
 
-// What becomes of the flags Z, C, V, P, S.
-#[derive(Clone, Copy)]
-pub enum Flags {
-    Unchanged,
-    Become(usize),
-}
-
 // The next PC, not reduced; SP; a value and the place it goes to; the flags.
 #[derive(Clone, Copy)]
 pub struct Effect {
@@ -40,7 +33,7 @@ pub struct Effect {
     pub sp: u16,
     pub to: Place,
     pub value: u16,
-    pub flags: Flags,
+    pub flags: Option<usize>,
 }
 
 // What an input or output instruction asks for.

@@ -5,8 +5,8 @@ ghost use Rattle.codes.specs.Stops.{zero_divisor};
 ghost use Rattle.effects.specs.Effects.{goes_to, writes, to_a, pushes, pops, divides_to};
 
 use super::places::{cell, target};
-use super::{Effect, Flags, Performed, Place};
-use arithmetic::{Division, Outcome};
+use super::{Effect, Performed, Place};
+use arithmetic::Outcome;
 use codes::registers::{A, PC};
 use codes::stops::{MEMORY_END, ZERO_DIVISOR};
 
@@ -18,11 +18,11 @@ fn goes_to(next: usize, sp: u16) -> Effect
         sp: sp,
         to: Place::Nowhere,
         value: 0,
-        flags: Flags::Unchanged,
+        flags: None,
     }
 }
 
-fn made(next: usize, sp: u16, to: Place, value: u16, flags: Flags) -> Effect
+fn made(next: usize, sp: u16, to: Place, value: u16, flags: Option<usize>) -> Effect
     ensures { result ≡ record { next = next; sp = sp; to = to; value = value; flags = flags } }
 {
     Effect {
@@ -35,7 +35,7 @@ fn made(next: usize, sp: u16, to: Place, value: u16, flags: Flags) -> Effect
 }
 
 // A value written to a place; a write to PC gives the next PC.
-pub fn written(next: usize, sp: u16, place: Place, value: u16, flags: Flags) -> Effect
+pub fn written(next: usize, sp: u16, place: Place, value: u16, flags: Option<usize>) -> Effect
     ensures { result ≡ writes next sp place value flags }
 {
     match place {
@@ -59,30 +59,30 @@ pub(crate) fn goes_on(next: usize, sp: u16) -> Performed
 }
 
 pub(crate) fn moved(next: usize, sp: u16, place: Place, value: u16) -> Performed
-    ensures { result ≡ Performed.Does (writes next sp place value Flags.Unchanged) }
+    ensures { result ≡ Performed.Does (writes next sp place value None) }
 {
-    Performed::Does(written(next, sp, place, value, Flags::Unchanged))
+    Performed::Does(written(next, sp, place, value, None))
 }
 
 pub(crate) fn resulted(next: usize, sp: u16, place: Place, o: Outcome) -> Performed
-    ensures { result ≡ Performed.Does (writes next sp place o.value (Flags.Become o.flags)) }
+    ensures { result ≡ Performed.Does (writes next sp place o.value (Some o.flags)) }
 {
-    Performed::Does(written(next, sp, place, o.value, Flags::Become(o.flags as usize)))
+    Performed::Does(written(next, sp, place, o.value, Some(o.flags as usize)))
 }
 
 pub(crate) fn compared(next: usize, sp: u16, flags: u16) -> Performed
-    ensures { result ≡ Performed.Does (writes next sp Place.Nowhere 0 (Flags.Become flags)) }
+    ensures { result ≡ Performed.Does (writes next sp Place.Nowhere 0 (Some flags)) }
 {
-    Performed::Does(written(next, sp, Place::Nowhere, 0, Flags::Become(flags as usize)))
+    Performed::Does(written(next, sp, Place::Nowhere, 0, Some(flags as usize)))
 }
 
 // To the accumulator; a zero divisor is stop 6.
-pub(crate) fn divided(next: usize, sp: u16, d: Division) -> Performed
+pub(crate) fn divided(next: usize, sp: u16, d: Option<Outcome>) -> Performed
     ensures { result ≡ divides_to next sp d }
 {
     match d {
-        Division::Done(o) => resulted(next, sp, Place::InRegister(A), o),
-        Division::ByZero => Performed::Stops(ZERO_DIVISOR),
+        Some(o) => resulted(next, sp, Place::InRegister(A), o),
+        None => Performed::Stops(ZERO_DIVISOR),
     }
 }
 

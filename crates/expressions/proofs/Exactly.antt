@@ -14,9 +14,10 @@ use Rattle.expressions.specs.Worths.{worth_of}
 use Rattle.expressions.specs.Reading.{nothing, Outcome, reads, wrong, operand, tree_read, judged, expression_read}
 use Rattle.expressions.specs.Inner.Scanning.{right_form, passes}
 use Rattle.expressions.specs.declared.Operation.{Operation}
-use Rattle.expressions.specs.declared.Worth.{Worth}
-use Rattle.expressions.specs.declared.ExpressionRead.{ExpressionRead}
-use Rattle.expressions.specs.declared.ExpressionRead.TheVariants.{Read, TooDeep, WrongForm}
+use Rattle.expressions.specs.Worths.{Worth}
+use Rattle.std.proofs.Common.{Result, Ok, Err}
+use Rattle.expressions.specs.declared.Malformed.{Malformed}
+use Rattle.expressions.specs.declared.Malformed.TheVariants.{TooDeep, WrongForm}
 use Rattle.expressions.proofs.Readings.{complete, sound}
 use Rattle.expressions.proofs.Scans.{is_read, form-read}
 use Rattle.expressions.proofs.Depths.{deeper}
@@ -53,11 +54,11 @@ module _ (ts : List Token) where
 
   -- ---- the three answers
 
-  with_tree : {tree : Tree} → tree_read ts ≡ reads tree → expression_read ts ≡ cond (leb (depth tree) deepest) (Read (worth_of tree)) TooDeep
+  with_tree : {tree : Tree} → tree_read ts ≡ reads tree → expression_read ts ≡ cond (leb (depth tree) deepest) (Ok (worth_of tree)) (Err TooDeep)
   unfolding expression_read
   with_tree e = ap judged e
 
-  with_none : tree_read ts ≡ wrong → expression_read ts ≡ WrongForm
+  with_none : tree_read ts ≡ wrong → expression_read ts ≡ Err WrongForm
   unfolding expression_read
   with_none e = ap judged e
 
@@ -68,15 +69,15 @@ module _ (ts : List Token) where
   DeepAs = (tree : Tree) × Expression ts tree × (deepest < depth tree)
 
   -- what an answer tells of the tree
-  abbrev Tells : ExpressionRead → Type 0
-  Tells (Read w) = ReadAs w
-  Tells TooDeep = DeepAs
-  Tells WrongForm = (tree : Tree) → Expression ts tree → ⊥
+  abbrev Tells : Result Worth Malformed → Type 0
+  Tells (Ok w) = ReadAs w
+  Tells (Err TooDeep) = DeepAs
+  Tells (Err WrongForm) = (tree : Tree) → Expression ts tree → ⊥
 
-  pub tells : {r : ExpressionRead} → expression_read ts ≡ r → Tells r
+  pub tells : {r : Result Worth Malformed} → expression_read ts ≡ r → Tells r
   tells {r} e = subst Tells e (go found)
     where
-      by_depth : (tree : Tree) → Expression ts tree → (b : Bool) → leb (depth tree) deepest ≡ b → Tells (cond b (Read (worth_of tree)) TooDeep)
+      by_depth : (tree : Tree) → Expression ts tree → (b : Bool) → leb (depth tree) deepest ≡ b → Tells (cond b (Ok (worth_of tree)) (Err TooDeep))
       by_depth tree s true f = (tree, s, leb-true (depth tree) deepest f, refl)
       by_depth tree s false f = (tree, s, leb-false (depth tree) deepest f)
 
@@ -84,13 +85,13 @@ module _ (ts : List Token) where
       go (tree_is tree f s) = rw (with_tree f) (by_depth tree s (leb (depth tree) deepest) refl)
       go (none_is f n) = rw (with_none f) n
 
-  pub read_back : {w : Worth} → ReadAs w → expression_read ts ≡ Read w
-  read_back h = with_tree (tree_exactly.1 h.1) ∙ rw (le-leb (depth h.0) 32 h.2) (ap Read h.3)
+  pub read_back : {w : Worth} → ReadAs w → expression_read ts ≡ Ok w
+  read_back h = with_tree (tree_exactly.1 h.1) ∙ rw (le-leb (depth h.0) 32 h.2) (ap Ok h.3)
 
-  pub deep_back : DeepAs → expression_read ts ≡ TooDeep
+  pub deep_back : DeepAs → expression_read ts ≡ Err TooDeep
   deep_back h = with_tree (tree_exactly.1 h.1) ∙ rw (lt-leb (depth h.0) 32 h.2)
 
-  pub wrong-back : ((tree : Tree) → Expression ts tree → ⊥) → expression_read ts ≡ WrongForm
+  pub wrong-back : ((tree : Tree) → Expression ts tree → ⊥) → expression_read ts ≡ Err WrongForm
   wrong-back n = with_none (no_tree.1 n)
 
   -- ---- the scan

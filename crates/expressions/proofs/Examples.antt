@@ -14,18 +14,20 @@ use Rattle.expressions.specs.Trees.{depth}
 use Rattle.expressions.specs.Worths.{within32, of_number, operation, operate, worth_of}
 use Rattle.expressions.specs.Reading.{mark_symbol, operand, operator, expression_read}
 use Rattle.expressions.specs.Places.{strip, evaluate, found_of, fault_in, deep_from, too_deep_in}
-use Rattle.expressions.specs.declared.Worth.TheVariants.{Is, OutOfRange, ByZero}
-use Rattle.expressions.specs.declared.ExpressionRead.{ExpressionRead}
-use Rattle.expressions.specs.declared.ExpressionRead.TheVariants.{Read, TooDeep, WrongForm}
+use Rattle.std.proofs.Common.{Result, Ok, Err}
+use Rattle.expressions.specs.declared.Fault.{Fault}
+use Rattle.expressions.specs.declared.Fault.TheVariants.{OutOfRange, ByZero}
+use Rattle.expressions.specs.declared.Malformed.{Malformed}
+use Rattle.expressions.specs.declared.Malformed.TheVariants.{TooDeep, WrongForm}
 
 -- a text is this, as an expression
-abbrev pub Says : String → ExpressionRead → Type 0
+abbrev pub Says : String → Result Worth Malformed → Type 0
 Says text r = expression_read (tokens_from (bytes text) 0) ≡ r
 
 -- each of these texts is of wrong form
 abbrev pub NoExpressions : List String → Type 0
 NoExpressions [] = Unit {0}
-NoExpressions (text ∷ texts) = Says text WrongForm × NoExpressions texts
+NoExpressions (text ∷ texts) = Says text (Err WrongForm) × NoExpressions texts
 
 -- a text in so many parentheses
 abbrev pub within : ℕ → String → List ℕ
@@ -40,38 +42,38 @@ abbrev pub Deep : List ℕ → ℕ → Type 0
 Deep s at = too_deep_in (tokens_from (bytes "EQU " ++ s) 3) ≡ at
 
 pub record Examples : Type 0 where
-  pub one_in_another : Says "(2+3*(5-1)/(4-2))%5" (Read (Is (pos 3)))
-  pub products-first : Says "2+3*4" (Read (Is (pos 14)))
-  pub parentheses-first : Says "(2+3)*4" (Read (Is (pos 20)))
-  pub differences_left_to_right : Says "7-2-1" (Read (Is (pos 4)))
-  pub quotients_left_to_right : Says "7/2*2" (Read (Is (pos 6)))
-  pub minus_is_a_mark : Says "5 -3" (Read (Is (pos 2)))
-  pub blanks_and_a_comment : Says " 0x10 + 1 ; +5" (Read (Is (pos 17)))
-  pub quotient_toward_zero : Says "(0-7)/2" (Read (Is (negsuc 2)))
-  pub quotient_by_a_negative : Says "7/(0-2)" (Read (Is (negsuc 2)))
-  pub rest_of_a_negative : Says "(0-7)%2" (Read (Is (negsuc 0)))
-  pub rest_by_a_negative : Says "7%(0-2)" (Read (Is (pos 1)))
-  pub greatest-number : Says "65535" (Read (Is (pos 65535)))
-  pub number_too_great : Says "65536" (Read OutOfRange)
-  pub number_of_many_digits : Says "99999999999" (Read OutOfRange)
-  pub greatest : Says "65535*32768+32767" (Read (Is (pos 2147483647)))
-  pub past_the_greatest : Says "65535*32768+32768" (Read OutOfRange)
-  pub least : Says "0-32768*65535-32768" (Read (Is (negsuc 2147483647)))
-  pub past_the_least : Says "0-32768*65535-32769" (Read OutOfRange)
-  pub least_over_minus_1 : Says "(0-32768*65535-32768)/(0-1)" (Read OutOfRange)
-  pub least_rest_minus_1 : Says "(0-32768*65535-32768)%(0-1)" (Read (Is (pos 0)))
-  pub by_zero : Says "5%0" (Read ByZero)
-  pub left_fault_7 : Says "1/0+65536" (Read ByZero)
-  pub left_fault_6 : Says "65536/0" (Read OutOfRange)
-  pub right_fault_6 : Says "1/65536" (Read OutOfRange)
-  pub left_operation_first : Says "65535*65535/0" (Read OutOfRange)
-  pub no_short_way : Says "0*(1/0)" (Read ByZero)
+  pub one_in_another : Says "(2+3*(5-1)/(4-2))%5" (Ok (Ok (pos 3)))
+  pub products-first : Says "2+3*4" (Ok (Ok (pos 14)))
+  pub parentheses-first : Says "(2+3)*4" (Ok (Ok (pos 20)))
+  pub differences_left_to_right : Says "7-2-1" (Ok (Ok (pos 4)))
+  pub quotients_left_to_right : Says "7/2*2" (Ok (Ok (pos 6)))
+  pub minus_is_a_mark : Says "5 -3" (Ok (Ok (pos 2)))
+  pub blanks_and_a_comment : Says " 0x10 + 1 ; +5" (Ok (Ok (pos 17)))
+  pub quotient_toward_zero : Says "(0-7)/2" (Ok (Ok (negsuc 2)))
+  pub quotient_by_a_negative : Says "7/(0-2)" (Ok (Ok (negsuc 2)))
+  pub rest_of_a_negative : Says "(0-7)%2" (Ok (Ok (negsuc 0)))
+  pub rest_by_a_negative : Says "7%(0-2)" (Ok (Ok (pos 1)))
+  pub greatest-number : Says "65535" (Ok (Ok (pos 65535)))
+  pub number_too_great : Says "65536" (Ok (Err OutOfRange))
+  pub number_of_many_digits : Says "99999999999" (Ok (Err OutOfRange))
+  pub greatest : Says "65535*32768+32767" (Ok (Ok (pos 2147483647)))
+  pub past_the_greatest : Says "65535*32768+32768" (Ok (Err OutOfRange))
+  pub least : Says "0-32768*65535-32768" (Ok (Ok (negsuc 2147483647)))
+  pub past_the_least : Says "0-32768*65535-32769" (Ok (Err OutOfRange))
+  pub least_over_minus_1 : Says "(0-32768*65535-32768)/(0-1)" (Ok (Err OutOfRange))
+  pub least_rest_minus_1 : Says "(0-32768*65535-32768)%(0-1)" (Ok (Ok (pos 0)))
+  pub by_zero : Says "5%0" (Ok (Err ByZero))
+  pub left_fault_7 : Says "1/0+65536" (Ok (Err ByZero))
+  pub left_fault_6 : Says "65536/0" (Ok (Err OutOfRange))
+  pub right_fault_6 : Says "1/65536" (Ok (Err OutOfRange))
+  pub left_operation_first : Says "65535*65535/0" (Ok (Err OutOfRange))
+  pub no_short_way : Says "0*(1/0)" (Ok (Err ByZero))
   pub no_expressions : NoExpressions ("" ∷ "-5" ∷ "+5" ∷ "5+" ∷ "5 5" ∷ "()" ∷ "(5" ∷ "5)" ∷ "2(3)" ∷ "5*-3" ∷ "x" ∷ "5+x" ∷ "\"a\"" ∷ "5/*3" ∷ "0x" ∷ "(5+)3" ∷ ")5(" ∷ [])
-  pub deepest-read : expression_read (tokens_from (within 32 "5") 0) ≡ Read (Is (pos 5))
-  pub too_deep : expression_read (tokens_from (within 33 "5") 0) ≡ TooDeep
-  pub depth_before_faults : expression_read (tokens_from (within 33 "1/0") 0) ≡ TooDeep
-  pub form_before_depth : expression_read (tokens_from (within 33 "5+") 0) ≡ WrongForm
-  pub unclosed : expression_read (tokens_from (replicate 100 40) 0) ≡ WrongForm
+  pub deepest-read : expression_read (tokens_from (within 32 "5") 0) ≡ Ok (Ok (pos 5))
+  pub too_deep : expression_read (tokens_from (within 33 "5") 0) ≡ Err TooDeep
+  pub depth_before_faults : expression_read (tokens_from (within 33 "1/0") 0) ≡ Err TooDeep
+  pub form_before_depth : expression_read (tokens_from (within 33 "5+") 0) ≡ Err WrongForm
+  pub unclosed : expression_read (tokens_from (replicate 100 40) 0) ≡ Err WrongForm
   pub mark_of_a_product : Fault "EQU 65535*65535" 9
   pub mark_before_a_number : Fault "EQU 65535*65535+70000" 9
   pub mark_of_a_quotient : Fault "EQU 1/0" 5

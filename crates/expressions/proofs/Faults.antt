@@ -12,11 +12,11 @@ use Rattle.expressions.specs.Trees.{Tree, depth, Expression}
 use Rattle.expressions.specs.Worths.{worth_of}
 use Rattle.expressions.specs.Reading.{Outcome, reads, wrong, expression_read, refusal_of}
 use Rattle.expressions.specs.Places.{Placed, literal_at, node_at, enclosed_at, PlacedExpression, placed_read, strip, found_of, plain, fault_place, fault_in, Place, here, nowhere, deep_at, place_or, deep_judged, too_deep_in}
-use Rattle.expressions.specs.declared.Found.{Found}
-use Rattle.expressions.specs.declared.Found.TheVariants.{Is, OutOfRange, ByZero}
-use Rattle.expressions.specs.declared.Worth.{Worth}
-use Rattle.expressions.specs.declared.Worth.TheVariants as W
-use Rattle.expressions.specs.declared.ExpressionRead.TheVariants.{Read, TooDeep}
+use Rattle.expressions.specs.Places.{Found}
+use Rattle.std.proofs.Common.{Ok, Err}
+use Rattle.expressions.specs.declared.Fault.TheVariants.{OutOfRange, ByZero}
+use Rattle.expressions.specs.declared.Malformed.TheVariants.{TooDeep}
+use Rattle.expressions.specs.Worths.{Worth}
 use Rattle.expressions.proofs.Readings.{complete, sound}
 use Rattle.expressions.proofs.Folds.{stripped, read-stripped}
 use Rattle.expressions.proofs.Verdicts.{tree-read, by_depth, verdict-wrong}
@@ -26,15 +26,15 @@ use Rattle.expressions.proofs.Numbers.{number_6, number_7}
 use Rattle.expressions.proofs.Steps.{never}
 
 -- what is found, by its worth and its place
-found_6 : (f : Found) {at : ℕ} → plain f ≡ W.OutOfRange → fault_place f ≡ at → f ≡ OutOfRange at
-found_6 (Is z) e g = never (cc)
-found_6 (OutOfRange at) e g = ap OutOfRange g
-found_6 (ByZero at) e g = never (cc)
+found_6 : (f : Found) {at : ℕ} → plain f ≡ Err OutOfRange → fault_place f ≡ at → f ≡ Err (record { fault = OutOfRange; at = at })
+found_6 (Ok z) e g = never (cc)
+found_6 (Err (record { fault = OutOfRange; at = at })) e g = ap (Err (record { fault = OutOfRange; at = g }))
+found_6 (Err (record { fault = ByZero; at = at })) e g = never (cc)
 
-found_7 : (f : Found) {at : ℕ} → plain f ≡ W.ByZero → fault_place f ≡ at → f ≡ ByZero at
-found_7 (Is z) e g = never (cc)
-found_7 (OutOfRange at) e g = never (cc)
-found_7 (ByZero at) e g = ap ByZero g
+found_7 : (f : Found) {at : ℕ} → plain f ≡ Err ByZero → fault_place f ≡ at → f ≡ Err (record { fault = ByZero; at = at })
+found_7 (Ok z) e g = never (cc)
+found_7 (Err (record { fault = OutOfRange; at = at })) e g = never (cc)
+found_7 (Err (record { fault = ByZero; at = at })) e g = ap (Err (record { fault = ByZero; at = g }))
 
 module _ (ts : List Token) where
   -- ---- the tree with places
@@ -62,33 +62,33 @@ module _ (ts : List Token) where
   abbrev FoundIn : Found → Type 0
   FoundIn f = (p : Placed) × PlacedExpression ts p × (depth (strip p) ≤ deepest) × (found_of p ≡ f)
 
-  pub found_back : {f : Found} → FoundIn f → (expression_read ts ≡ Read (plain f)) × (fault_in ts ≡ fault_place f)
+  pub found_back : {f : Found} → FoundIn f → (expression_read ts ≡ Ok (plain f)) × (fault_in ts ≡ fault_place f)
   found_back h =
       let v = by_depth ts (read_as h.1) (le-leb (depth (strip h.0)) 32 h.2) in
-      (v.0 ∙ ap (λ (f : Found). Read (plain f)) h.3, v.1 ∙ ap fault_place h.3)
+      (v.0 ∙ ap (λ (f : Found). Ok (plain f)) h.3, v.1 ∙ ap fault_place h.3)
 
-  found-tells : {w : Worth} → expression_read ts ≡ Read w → (f : Found) × FoundIn f × (plain f ≡ w) × (fault_in ts ≡ fault_place f)
+  found-tells : {w : Worth} → expression_read ts ≡ Ok w → (f : Found) × FoundIn f × (plain f ≡ w) × (fault_in ts ≡ fault_place f)
   found-tells e =
       let h = tells ts e in
       let p = is_placed h.1 in
       let i : FoundIn (found_of p.0) = (p.0, p.1, subst⁻¹ (λ (tree : Tree). depth tree ≤ deepest) p.2 h.2, refl) in
       (found_of p.0, i, plain-found p.0 ∙ ap worth_of p.2 ∙ h.3, (found_back i).1)
 
-  pub fault_6 : {at : ℕ} → ((refusal_of (expression_read ts) ≡ 6) × (fault_in ts ≡ at)) ↔ FoundIn (OutOfRange at)
+  pub fault_6 : {at : ℕ} → ((refusal_of (expression_read ts) ≡ 6) × (fault_in ts ≡ at)) ↔ FoundIn (Err (record { fault = OutOfRange; at = at }))
   fault_6 =
       (λ h. let f = found-tells (number_6 (expression_read ts) h.0) in subst FoundIn (found_6 f.0 f.2 (sym f.3 ∙ h.1)) f.1, λ h. let b = found_back h in (ap refusal_of b.0, b.1))
 
-  pub fault_7 : {at : ℕ} → ((refusal_of (expression_read ts) ≡ 7) × (fault_in ts ≡ at)) ↔ FoundIn (ByZero at)
+  pub fault_7 : {at : ℕ} → ((refusal_of (expression_read ts) ≡ 7) × (fault_in ts ≡ at)) ↔ FoundIn (Err (record { fault = ByZero; at = at }))
   fault_7 =
       (λ h. let f = found-tells (number_7 (expression_read ts) h.0) in subst FoundIn (found_7 f.0 f.2 (sym f.3 ∙ h.1)) f.1, λ h. let b = found_back h in (ap refusal_of b.0, b.1))
 
   pub fault_none : (refusal_of (expression_read ts) ≡ 6 → ⊥) → (refusal_of (expression_read ts) ≡ 7 → ⊥) → fault_in ts ≡ 0
   fault_none n m = go (placed_read ts) refl
     where
-      with-found : (f : Found) → expression_read ts ≡ Read (plain f) → fault_in ts ≡ fault_place f → fault_in ts ≡ 0
-      with-found (Is z) e g = g
-      with-found (OutOfRange at) e g = absurd (n (ap refusal_of e))
-      with-found (ByZero at) e g = absurd (m (ap refusal_of e))
+      with-found : (f : Found) → expression_read ts ≡ Ok (plain f) → fault_in ts ≡ fault_place f → fault_in ts ≡ 0
+      with-found (Ok z) e g = g
+      with-found (Err (record { fault = OutOfRange; at = at })) e g = absurd (n (ap refusal_of e))
+      with-found (Err (record { fault = ByZero; at = at })) e g = absurd (m (ap refusal_of e))
 
       with_placed : (p : Placed) → placed_read ts ≡ reads p → (q : Bool) → leb (depth (strip p)) deepest ≡ q → fault_in ts ≡ 0
       with_placed p e true d = let v = by_depth ts e d in with-found (found_of p) v.0 v.1
@@ -107,21 +107,21 @@ module _ (ts : List Token) where
   unfolding too_deep_in
   placed_deep e = ap deep_judged e
 
-  is_deep : {p : Placed} → PlacedExpression ts p → {at : ℕ} → deep_at p ≡ here at → expression_read ts ≡ TooDeep
+  is_deep : {p : Placed} → PlacedExpression ts p → {at : ℕ} → deep_at p ≡ here at → expression_read ts ≡ Err TooDeep
   is_deep {p} s {at} e = deep_back ts (strip p, (tree_exactly ts).0 (tree-read ts (read_as s)), (deep-exactly p).0 (at, e))
 
-  deep-tells : expression_read ts ≡ TooDeep → {at : ℕ} → too_deep_in ts ≡ at → DeepIn at
+  deep-tells : expression_read ts ≡ Err TooDeep → {at : ℕ} → too_deep_in ts ≡ at → DeepIn at
   deep-tells e g =
       let h = tells ts e in
       let p = is_placed h.1 in
       let d = (deep-exactly p.0).1 (subst⁻¹ (λ (tree : Tree). deepest < depth tree) p.2 h.2) in
       (p.0, p.1, d.1 ∙ ap here (sym (placed_deep (read_as p.1) ∙ ap (λ (x : Place). place_or x 0) d.1) ∙ g))
 
-  pub deep-place : {at : ℕ} → ((expression_read ts ≡ TooDeep) × (too_deep_in ts ≡ at)) ↔ DeepIn at
+  pub deep-place : {at : ℕ} → ((expression_read ts ≡ Err TooDeep) × (too_deep_in ts ≡ at)) ↔ DeepIn at
   deep-place =
       (λ h. deep-tells h.0 h.1, λ h. (is_deep h.1 h.2, placed_deep (read_as h.1) ∙ ap (λ (x : Place). place_or x 0) h.2))
 
-  pub deep_none : (expression_read ts ≡ TooDeep → ⊥) → too_deep_in ts ≡ 0
+  pub deep_none : (expression_read ts ≡ Err TooDeep → ⊥) → too_deep_in ts ≡ 0
   unfolding too_deep_in
   deep_none n = go (placed_read ts) refl
     where

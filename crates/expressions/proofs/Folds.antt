@@ -1,6 +1,7 @@
 -- Read over two kinds of value, a row is worth the same where the one's parts are made into the other's: so the reader over trees with
 -- places tells what the readers over trees and over worths find, and read over any kind of value a row is worth what its one tree is.
 use Prim.Native.Nat.{ℕ, suc, max}
+use Rattle.numerals.specs.declared.Read.{Read}
 use mathlib.Core.List.{List, [], ◌∷◌}
 use mathlib.Core.Path.{◌≡◌, refl, ap, ap₂, ◌∙◌}
 use Rattle.tokens.specs.declared.Token.{Token}
@@ -9,11 +10,11 @@ use Rattle.expressions.specs.Worths.{of_number, operate, worth_of}
 use Rattle.expressions.specs.Places.{Placed, literal_at, node_at, enclosed_at, placed_read, strip, found_of}
 use Rattle.expressions.specs.Reading.{kind_symbol, Waiting, nothing, waits, Outcome, reads, wrong, joined, Frame, at_operand, at_operator, operand, operator, tree_read}
 use Rattle.expressions.specs.Inner.Parts.{number_at, evaluate_at, inside_at, Answer, operand_f}
-use Rattle.expressions.specs.declared.Found.{Found}
+use Rattle.expressions.specs.Places.{Found}
 use Rattle.expressions.specs.declared.Operation.{Operation}
 use Rattle.expressions.specs.declared.Symbol.{Symbol}
 use Rattle.expressions.specs.declared.Symbol.TheVariants as Y
-use Rattle.expressions.specs.declared.Worth.{Worth}
+use Rattle.expressions.specs.Worths.{Worth}
 
 -- what the reader over U finds, made into values of W
 module _ (U : Type 0) (number_u : Token → ℕ → U) (operate_u : Token → Operation → U → U → U) (enclose_u : Token → U → U)
@@ -126,11 +127,11 @@ unfolding strip
 read-stripped ts = read_made Placed literal_at node_at enclosed_at Tree literal_of node_of enclosed_of strip (λ t n. refl) (λ t o a b. refl) (λ t a. refl) ts
 
 abbrev pub evaluated : Outcome Placed literal_at node_at enclosed_at → Answer
-evaluated r = outcome_made Placed literal_at node_at enclosed_at Found number_at evaluate_at inside_at found_of r
+evaluated r = outcome_made Placed literal_at node_at enclosed_at (Found) number_at evaluate_at inside_at found_of r
 
 pub read-evaluated : (ts : List Token) → operand_f ts nothing nothing [] ≡ evaluated (placed_read ts)
 unfolding found_of
-read-evaluated ts = read_made Placed literal_at node_at enclosed_at Found number_at evaluate_at inside_at found_of (λ t n. refl) (λ t o a b. refl) (λ t a. refl) ts
+read-evaluated ts = read_made Placed literal_at node_at enclosed_at (Found) number_at evaluate_at inside_at found_of (λ t n. refl) (λ t o a b. refl) (λ t a. refl) ts
 
 -- ---- any kind of value that leaves the tokens out
 
@@ -151,7 +152,7 @@ module _ (W : Type 0) (of : ℕ → W) (operated : Operation → W → W → W) 
       read_made Tree literal_of node_of enclosed_of W (λ t. of) (λ t. operated) (λ t. enclose) fold (λ t n. refl) (λ t o a b. refl) (λ t a. refl) ts
 
 -- an expression's worth and its depth are such worths
-pub worth-folds : (tree : Tree) → fold Worth of_number operate (λ w. w) tree ≡ worth_of tree
+pub worth-folds : (tree : Tree) → fold (Worth) of_number operate (λ w. w) tree ≡ worth_of tree
 unfolding fold worth_of
 worth-folds (literal v) = refl
 worth-folds (node o a b) = ap₂ (operate o) (worth-folds a) (worth-folds b)

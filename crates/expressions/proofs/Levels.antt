@@ -19,8 +19,8 @@ use Rattle.expressions.specs.Places.{Placed, literal_at, node_at, enclosed_at, P
 use Rattle.expressions.specs.Inner.Scanning.{scan_step, level_on, right_form, level_at}
 use Rattle.expressions.specs.Inner.Parts.{is_end}
 use Rattle.expressions.specs.declared.Operation.{Operation}
-use Rattle.expressions.specs.declared.ScanStep.{ScanStep}
-use Rattle.expressions.specs.declared.ScanStep.TheVariants.{On, Wrong}
+use Rattle.std.proofs.Common.{Option, Some, None}
+use Rattle.expressions.specs.declared.Scan.{Scan}
 use Rattle.expressions.specs.declared.Symbol.{Symbol}
 use Rattle.expressions.specs.declared.Symbol.TheVariants as Y
 use Rattle.expressions.proofs.Meanings.{sum-mark, product-mark, open_mark, shut-mark}
@@ -31,26 +31,26 @@ use Rattle.expressions.proofs.Steps.{never}
 
 -- ---- a token of the scan
 
-module _ (t : Token) (ts : List Token) (q : Bool) (h : ℕ) {q' : Bool} {h' : ℕ} (e : scan_step (kind_symbol t.kind) q h ≡ On q' h') where
+module _ (t : Token) (ts : List Token) (q : Bool) (h : ℕ) {q' : Bool} {h' : ℕ} (e : scan_step (kind_symbol t.kind) q h ≡ Some (record { operand = q'; height = h' })) where
   pub goes_on_lem : h' ≤ deepest → level_at (t ∷ ts) q h ≡ level_at ts q' h'
   unfolding level_at
   goes_on_lem l =
-      ap (λ (r : ScanStep). level_on r t.start (λ q h. level_at ts q h)) e
+      ap (λ (r : Option Scan). level_on r t.start (λ q h. level_at ts q h)) e
       ∙ ap (λ (b : Bool). cond b (level_at ts q' h') t.start) (le-leb h' 32 l)
 
   pub goes-past : deepest < h' → level_at (t ∷ ts) q h ≡ t.start
   unfolding level_at
   goes-past l =
-      ap (λ (r : ScanStep). level_on r t.start (λ q h. level_at ts q h)) e
+      ap (λ (r : Option Scan). level_on r t.start (λ q h. level_at ts q h)) e
       ∙ ap (λ (b : Bool). cond b (level_at ts q' h') t.start) (lt-leb h' 32 l)
 
-step_as : {y z : Symbol} (q : Bool) (h : ℕ) {r : ScanStep} → y ≡ z → scan_step z q h ≡ r → scan_step y q h ≡ r
+step_as : {y z : Symbol} (q : Bool) (h : ℕ) {r : Option Scan} → y ≡ z → scan_step z q h ≡ r → scan_step y q h ≡ r
 step_as q h e f = ap (λ (y : Symbol). scan_step y q h) e ∙ f
 
-shuts_one : (h : ℕ) → scan_step Y.Shuts false (h + 1) ≡ On false h
+shuts_one : (h : ℕ) → scan_step Y.Shuts false (h + 1) ≡ Some (record { operand = false; height = h })
 shuts_one h =
     let e : h + 1 - 1 ≡ h = omega arith in
-    ap (λ (b : Bool). cond b Wrong (On false (h + 1 - 1))) (ne_eqb (h + 1) 0 (λ z. omega (arith, z))) ∙ ap (On false) e
+    ap (λ (b : Bool). cond b None (Some (record { operand = false; height = (h + 1 - 1) }))) (ne_eqb (h + 1) 0 (λ z. omega (arith, z))) ∙ ap (λ (h : ℕ). Some (record { operand = false; height = h })) e
 
 -- ---- a row's tree
 
@@ -63,7 +63,7 @@ abbrev Levels : List Token → Placed → Type 0
 Levels ts p = (rest : List Token) (h : ℕ) → h ≤ deepest → level_at (ts ++ rest) true h ≡ place_or (deep_from h p) (level_at rest false h)
 
 level_node : (ts us : List Token) (a b : Placed) (o : Operation) (t : Token)
-    → ((h : ℕ) → scan_step (kind_symbol t.kind) false h ≡ On true h) → Levels ts a → Levels us b → Levels (ts ++ (t ∷ us)) (node_at t o a b)
+    → ((h : ℕ) → scan_step (kind_symbol t.kind) false h ≡ Some (record { operand = true; height = h })) → Levels ts a → Levels us b → Levels (ts ++ (t ∷ us)) (node_at t o a b)
 unfolding deep_from
 level_node ts us a b o t m f g rest h l =
     rw append_assoc
@@ -80,7 +80,7 @@ level_parentheses : (a z : Token) (ts : List Token) (p : Placed) → IsMark (cod
 unfolding deep_from
 level_parentheses a z ts p m n f rest h l = rw append_assoc (go (leb (h + 1) deepest) refl)
   where
-    opens : scan_step (kind_symbol a.kind) true h ≡ On true (h + 1)
+    opens : scan_step (kind_symbol a.kind) true h ≡ Some (record { operand = true; height = (h + 1) })
     opens = step_as true h (open_mark a m) refl
 
     go : (q : Bool) → leb (h + 1) deepest ≡ q
@@ -135,16 +135,16 @@ module _ (s : List ℕ) (at : ℕ) (q : Bool) (h : ℕ) {t : Token} (k : t ≡ t
   unfolding level_at
   level_ended g = ap (λ (ts : List Token). level_at ts q h) (row-ended s at (ends_as s at q h k f ∙ g))
 
-  module _ {y : Symbol} (l : y ≡ kind_symbol t.kind) {r : ScanStep} (m : r ≡ scan_step y q h) where
-    pub level_wrong : r ≡ Wrong → level_at (tokens_from s at) q h ≡ 0
+  module _ {y : Symbol} (l : y ≡ kind_symbol t.kind) {r : Option Scan} (m : r ≡ scan_step y q h) where
+    pub level_wrong : r ≡ None → level_at (tokens_from s at) q h ≡ 0
     unfolding level_at
     level_wrong n = go (begins s at)
       where
         go : {ts : List Token} → Begins s at ts → level_at ts q h ≡ 0
         go (ended x y) = refl
-        go (some {ts} x) = ap (λ (r : ScanStep). level_on r (token_at s at).start (λ q h. level_at ts q h)) (steps_as s at q h k f l m ∙ n)
+        go (some {ts} x) = ap (λ (r : Option Scan). level_on r (token_at s at).start (λ q h. level_at ts q h)) (steps_as s at q h k f l m ∙ n)
 
-    module _ {q' : Bool} {h' : ℕ} (n : r ≡ On q' h') where
+    module _ {q' : Bool} {h' : ℕ} (n : r ≡ Some (record { operand = q'; height = h' })) where
       row_as : tokens_from s at ≡ token_at s at ∷ tokens_from s (token_at s at).next.at
       row_as = (on_by s at q h k f l m n).row
 

@@ -12,26 +12,26 @@ use Rattle.expressions.specs.Trees.{depth}
 use Rattle.expressions.specs.Worths.{operate, worth_of}
 use Rattle.expressions.specs.Places.{Placed, literal, node, enclosed, strip, found_at, evaluate, found_of, plain, Place, here, nowhere, leftmost, deep_from, deep_at}
 use Rattle.expressions.specs.declared.Operation.{Operation}
-use Rattle.expressions.specs.declared.Found.{Found}
-use Rattle.expressions.specs.declared.Found.TheVariants.{Is, OutOfRange, ByZero}
-use Rattle.expressions.specs.declared.Worth.{Worth}
-use Rattle.expressions.specs.declared.Worth.TheVariants as W
+use Rattle.expressions.specs.Places.{Found}
+use Rattle.std.proofs.Common.{Ok, Err}
+use Rattle.expressions.specs.declared.Fault.TheVariants.{OutOfRange, ByZero}
+use Rattle.expressions.specs.Worths.{Worth}
 use Rattle.expressions.proofs.Steps.{never}
 
 -- ---- 6 and 7
 
 plain_at : (at : ℕ) (w : Worth) → plain (found_at at w) ≡ w
-plain_at at (W.Is z) = refl
-plain_at at W.OutOfRange = refl
-plain_at at W.ByZero = refl
+plain_at at (Ok z) = refl
+plain_at at (Err OutOfRange) = refl
+plain_at at (Err ByZero) = refl
 
 plain-evaluate : (at : ℕ) (o : Operation) (a b : Found) → plain (evaluate at o a b) ≡ operate o (plain a) (plain b)
 unfolding evaluate operate
-plain-evaluate at o (Is a) (Is b) = plain_at at _
-plain-evaluate at o (Is a) (OutOfRange right) = refl
-plain-evaluate at o (Is a) (ByZero right) = refl
-plain-evaluate at o (OutOfRange left) b = refl
-plain-evaluate at o (ByZero left) b = refl
+plain-evaluate at o (Ok a) (Ok b) = plain_at at _
+plain-evaluate at o (Ok a) (Err (record { fault = OutOfRange; at = right })) = refl
+plain-evaluate at o (Ok a) (Err (record { fault = ByZero; at = right })) = refl
+plain-evaluate at o (Err (record { fault = OutOfRange; at = left })) b = refl
+plain-evaluate at o (Err (record { fault = ByZero; at = left })) b = refl
 
 pub plain-found : (p : Placed) → plain (found_of p) ≡ worth_of (strip p)
 unfolding found_of strip worth_of

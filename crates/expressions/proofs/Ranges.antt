@@ -12,8 +12,9 @@ use mir.Syntax.{w32, w64}
 use mir.Val.{SFits, to_z, of_z}
 use mir.Facts.{to_z-of_z, sfits_widen}
 use Rattle.expressions.specs.Worths.{within32, is_zero}
-use Rattle.expressions.specs.declared.Worth.{Worth}
-use Rattle.expressions.specs.declared.Worth.TheVariants.{Is, OutOfRange}
+use Rattle.expressions.specs.Worths.{Worth}
+use Rattle.std.proofs.Common.{Ok, Err}
+use Rattle.expressions.specs.declared.Fault.TheVariants.{OutOfRange}
 
 -- ---- 64 bits are enough
 
@@ -95,12 +96,12 @@ module _ (f : ℤ → ℤ → ℤ) {a b : ℤ} (h : SFits w32 a) (k : SFits w32 
 never : {X : Type 0} → false ≡ true → X
 never e = let z : ◌≡◌ {A = ℕ} 0 1 = cc in absurd (omega arith)
 
-pub below_range : (z : ℤ) → lt_z z (negsuc 2147483647) ≡ true → within32 z ≡ OutOfRange
+pub below_range : (z : ℤ) → lt_z z (negsuc 2147483647) ≡ true → within32 z ≡ Err OutOfRange
 unfolding within32
 below_range (pos n) e = never e
 below_range (negsuc n) e = rw (lt-leb n 2147483647 (ltb-true 2147483647 n e))
 
-pub above_range : (z : ℤ) → lt_z (pos 2147483647) z ≡ true → within32 z ≡ OutOfRange
+pub above_range : (z : ℤ) → lt_z (pos 2147483647) z ≡ true → within32 z ≡ Err OutOfRange
 unfolding within32
 above_range (pos n) e = rw (lt-leb n 2147483647 (ltb-true 2147483647 n e))
 above_range (negsuc n) e = never e
@@ -109,7 +110,7 @@ pub in-range : (z : ℤ) → lt_z z (negsuc 2147483647) ≡ false → lt_z (pos 
 in-range (pos n) e f = let h = ltb-false 2147483647 n f in omega arith
 in-range (negsuc n) e f = let h = ltb-false 2147483647 n e in omega arith
 
-pub kept_range : (z : ℤ) → mag z < 2 ^ 31 → within32 z ≡ Is z
+pub kept_range : (z : ℤ) → mag z < 2 ^ 31 → within32 z ≡ Ok z
 unfolding within32
 kept_range (pos n) h = rw (le-leb n 2147483647 (omega arith))
 kept_range (negsuc n) h = rw (le-leb n 2147483647 (omega arith))

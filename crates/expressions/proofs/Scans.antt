@@ -13,8 +13,8 @@ use Rattle.expressions.specs.Reading.{kind_symbol, Waiting, nothing, waits, Outc
 use Rattle.expressions.specs.Inner.Scanning.{scan_step, scan_end, scan_on, right_form}
 use Rattle.expressions.specs.Inner.Parts.{is_end}
 use Rattle.expressions.specs.declared.Operation.{Operation}
-use Rattle.expressions.specs.declared.ScanStep.{ScanStep}
-use Rattle.expressions.specs.declared.ScanStep.TheVariants.{On, Wrong}
+use Rattle.std.proofs.Common.{Option, Some, None}
+use Rattle.expressions.specs.declared.Scan.{Scan}
 use Rattle.expressions.specs.declared.Symbol.{Symbol}
 use Rattle.expressions.specs.declared.Symbol.TheVariants as Y
 use Rattle.expressions.proofs.Rows.{Heads, heads, Begins, ended, some, begins, row-ended}
@@ -91,9 +91,9 @@ module _ (W : Type 0) (of : Token → ℕ → W) (operated : Token → Operation
 -- ---- one token of the scan, as the code meets it
 
 -- a token more opens one parenthesis at most
-abbrev Grows : ℕ → ScanStep → Type 0
-Grows h (On q h') = h' ≤ h + 1
-Grows h Wrong = Unit {0}
+abbrev Grows : ℕ → Option Scan → Type 0
+Grows h (Some r) = r.height ≤ h + 1
+Grows h None = Unit {0}
 
 grows : (y : Symbol) (q : Bool) (h : ℕ) → Grows h (scan_step y q h)
 grows (Y.Number v) true h = omega arith
@@ -107,14 +107,14 @@ grows Y.Opens false h = tt
 grows Y.Shuts true h = tt
 grows Y.Shuts false h = go (eqb h 0)
   where
-    go : (b : Bool) → Grows h (cond b Wrong (On false (h - 1)))
+    go : (b : Bool) → Grows h (cond b None (Some (record { operand = false; height = (h - 1) })))
     go true = tt
     go false = omega arith
 grows Y.Other true h = tt
 grows Y.Other false h = tt
 
 -- what no expression has stops the scan
-other-stops : (q : Bool) (h : ℕ) → scan_step Y.Other q h ≡ Wrong
+other-stops : (q : Bool) (h : ℕ) → scan_step Y.Other q h ≡ None
 other-stops true h = refl
 other-stops false h = refl
 
@@ -126,29 +126,29 @@ module _ (s : List ℕ) (at : ℕ) (q : Bool) (h : ℕ) {t : Token} (k : t ≡ t
   unfolding right_form
   scan_ended g = ap (λ (ts : List Token). right_form ts q h) (row-ended s at (ends_as ∙ g))
 
-  module _ {y : Symbol} (l : y ≡ kind_symbol t.kind) {r : ScanStep} (m : r ≡ scan_step y q h) where
+  module _ {y : Symbol} (l : y ≡ kind_symbol t.kind) {r : Option Scan} (m : r ≡ scan_step y q h) where
     pub steps_as : scan_step (kind_symbol (token_at s at).kind) q h ≡ r
     steps_as = sym (m ∙ ap (λ (y : Symbol). scan_step y q h) (l ∙ ap (λ (t : Token). kind_symbol t.kind) k))
 
-    pub scan_wrong : e ≡ false → r ≡ Wrong → right_form (tokens_from s at) q h ≡ false
+    pub scan_wrong : e ≡ false → r ≡ None → right_form (tokens_from s at) q h ≡ false
     unfolding right_form
     scan_wrong g n = go (begins s at)
       where
         go : {ts : List Token} → Begins s at ts → right_form ts q h ≡ false
         go (ended x y) = let z : true ≡ false = sym x ∙ ends_as ∙ g in never (cc)
-        go (some {ts} x) = ap (λ (r : ScanStep). scan_on r (λ q h. right_form ts q h)) (steps_as ∙ n)
+        go (some {ts} x) = ap (λ (r : Option Scan). scan_on r (λ q h. right_form ts q h)) (steps_as ∙ n)
 
-    module _ {q' : Bool} {h' : ℕ} (n : r ≡ On q' h') where
+    module _ {q' : Bool} {h' : ℕ} (n : r ≡ Some (record { operand = q'; height = h' })) where
       pub on_by : Heads s at
       on_by =
           heads s at refl
-          (λ x. let z : Wrong ≡ On q' h' = sym (ap (λ (y : Symbol). scan_step y q h) x ∙ other-stops q h) ∙ steps_as ∙ n in never (cc))
+          (λ x. let z : None ≡ Some (record { operand = q'; height = h' }) = sym (ap (λ (y : Symbol). scan_step y q h) x ∙ other-stops q h) ∙ steps_as ∙ n in never (cc))
 
       pub scan-on : right_form (tokens_from s at) q h ≡ right_form (tokens_from s t.next.at) q' h'
       unfolding right_form
       scan-on =
           ap (λ (ts : List Token). right_form ts q h) on_by.row
-          ∙ ap (λ (r : ScanStep). scan_on r (λ q h. right_form (tokens_from s (token_at s at).next.at) q h)) (steps_as ∙ n)
+          ∙ ap (λ (r : Option Scan). scan_on r (λ q h. right_form (tokens_from s (token_at s at).next.at) q h)) (steps_as ∙ n)
           ∙ ap (λ (t : Token). right_form (tokens_from s t.next.at) q' h') (sym k)
 
       pub scan_moves : (at < t.next.at) × (t.next.at ≤ length s) × (h' ≤ h + 1)

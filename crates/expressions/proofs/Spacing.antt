@@ -12,8 +12,8 @@ use Rattle.tokens.proofs.Spacing.{AlikeRow, over, next}
 use Rattle.tokens.proofs.Respacing.{is_stray, NoStray}
 use Rattle.expressions.specs.Trees.{Tree, enclosed, literal_of, node_of, enclosed_of}
 use Rattle.expressions.specs.Reading.{kind_symbol, Waiting, nothing, waits, Outcome, reads, wrong, joined, Frame, at_operand, shut, at_operator, operand, operator, tree_read, judged, expression_read}
-use Rattle.expressions.specs.declared.ExpressionRead.TheVariants.{Read}
-use Rattle.expressions.specs.declared.Worth.{Worth}
+use Rattle.std.proofs.Common.{Ok}
+use Rattle.expressions.specs.Worths.{Worth}
 use Rattle.expressions.specs.declared.Symbol.{Symbol}
 use Rattle.expressions.specs.declared.Symbol.TheVariants.{Number, Sums, Products, Opens, Shuts, Other}
 
@@ -181,10 +181,10 @@ whole (t ∷ ts) =
     }
 
 -- an expression that is read has whole tokens
-pub expression-whole : (ts : List Token) {w : Worth} → expression_read ts ≡ Read w → NoStray ts
+pub expression-whole : (ts : List Token) {w : Worth} → expression_read ts ≡ Ok w → NoStray ts
 unfolding expression_read
 expression-whole ts {w} e = go (tree_read ts) refl e
   where
-    go : (r : Answer) → tree_read ts ≡ r → judged r ≡ Read w → NoStray ts
+    go : (r : Answer) → tree_read ts ≡ r → judged r ≡ Ok w → NoStray ts
     go (reads tree) q e = (whole ts).operands nothing nothing [] tree q
     go wrong q e = apart (cc e)

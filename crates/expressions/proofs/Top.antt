@@ -14,10 +14,11 @@ use Rattle.expressions.specs.Reading.{nothing, reads, wrong, operand, tree_read,
 use Rattle.expressions.specs.Places.{Placed, literal_at, node_at, enclosed_at, PlacedExpression, strip, found_of, plain, fault_in, here, deep_at, place_or, too_deep_in}
 use Rattle.expressions.specs.Inner.Scanning.{right_form, passes, level_at}
 use Rattle.expressions.specs.declared.Operation.{Operation}
-use Rattle.expressions.specs.declared.Found.TheVariants as F
-use Rattle.expressions.specs.declared.Worth.{Worth}
-use Rattle.expressions.specs.declared.Worth.TheVariants.{Is, OutOfRange, ByZero}
-use Rattle.expressions.specs.declared.ExpressionRead.TheVariants.{Read, TooDeep, WrongForm}
+use Rattle.std.proofs.Common.{Ok, Err}
+use Rattle.numerals.specs.declared.Read.{Read}
+use Rattle.expressions.specs.declared.Fault.TheVariants.{OutOfRange, ByZero}
+use Rattle.expressions.specs.declared.Malformed.TheVariants.{TooDeep, WrongForm}
+use Rattle.expressions.specs.Worths.{Worth}
 use Rattle.expressions.proofs.Readings as Readings
 use Rattle.expressions.proofs.Folds as Folds
 use Rattle.expressions.proofs.Folds.{fold_outcome}
@@ -59,21 +60,21 @@ folds = Folds.read-folds
 
 -- An expression is read exactly where there is a tree at most 32 parentheses deep, and its worth is the tree's.
 pub read-exactly : (ts : List Token) {w : Worth}
-    → (expression_read ts ≡ Read w) ↔ ((tree : Tree) × Expression ts tree × (depth tree ≤ deepest) × (worth_of tree ≡ w))
+    → (expression_read ts ≡ Ok w) ↔ ((tree : Tree) × Expression ts tree × (depth tree ≤ deepest) × (worth_of tree ≡ w))
 read-exactly ts = (Exactly.tells ts, Exactly.read_back ts)
 
 -- "too deep" (8): a tree more than 32 parentheses deep, whatever it is worth.
-pub deep-exactly : (ts : List Token) → (expression_read ts ≡ TooDeep) ↔ ((tree : Tree) × Expression ts tree × (deepest < depth tree))
+pub deep-exactly : (ts : List Token) → (expression_read ts ≡ Err TooDeep) ↔ ((tree : Tree) × Expression ts tree × (deepest < depth tree))
 deep-exactly ts = (Exactly.tells ts, Exactly.deep_back ts)
 
 -- "form" (3): no tree at all, however deep.
-pub wrong-exactly : (ts : List Token) → (expression_read ts ≡ WrongForm) ↔ ((tree : Tree) → Expression ts tree → ⊥)
+pub wrong-exactly : (ts : List Token) → (expression_read ts ≡ Err WrongForm) ↔ ((tree : Tree) → Expression ts tree → ⊥)
 wrong-exactly ts = (Exactly.tells ts, Exactly.wrong-back ts)
 
 -- The same by the paper's numbers: 0, 3, 8, 6, 7, each answered exactly where its check is the first that fails.
 module _ (ts : List Token) where
   pub read_0 : (refusal_of (expression_read ts) ≡ 0)
-      ↔ ((z : ℤ) × (tree : Tree) × Expression ts tree × (depth tree ≤ deepest) × (worth_of tree ≡ Is z))
+      ↔ ((z : ℤ) × (tree : Tree) × Expression ts tree × (depth tree ≤ deepest) × (worth_of tree ≡ Ok z))
   read_0 =
       (λ e. let h = Numbers.number_0 (expression_read ts) e in let t = (read-exactly ts).0 h.1 in (h.0, t.0, t.1, t.2, t.3), λ h. ap refusal_of ((read-exactly ts).1 (h.1, h.2, h.3, h.4)))
 
@@ -83,37 +84,37 @@ module _ (ts : List Token) where
   pub deep_8 : (refusal_of (expression_read ts) ≡ 8) ↔ ((tree : Tree) × Expression ts tree × (deepest < depth tree))
   deep_8 = (λ e. (deep-exactly ts).0 (Numbers.number_8 (expression_read ts) e), λ h. ap refusal_of ((deep-exactly ts).1 h))
 
-  pub range_6 : (refusal_of (expression_read ts) ≡ 6) ↔ ((tree : Tree) × Expression ts tree × (depth tree ≤ deepest) × (worth_of tree ≡ OutOfRange))
+  pub range_6 : (refusal_of (expression_read ts) ≡ 6) ↔ ((tree : Tree) × Expression ts tree × (depth tree ≤ deepest) × (worth_of tree ≡ Err OutOfRange))
   range_6 = (λ e. (read-exactly ts).0 (Numbers.number_6 (expression_read ts) e), λ h. ap refusal_of ((read-exactly ts).1 h))
 
-  pub zero_7 : (refusal_of (expression_read ts) ≡ 7) ↔ ((tree : Tree) × Expression ts tree × (depth tree ≤ deepest) × (worth_of tree ≡ ByZero))
+  pub zero_7 : (refusal_of (expression_read ts) ≡ 7) ↔ ((tree : Tree) × Expression ts tree × (depth tree ≤ deepest) × (worth_of tree ≡ Err ByZero))
   zero_7 = (λ e. (read-exactly ts).0 (Numbers.number_7 (expression_read ts) e), λ h. ap refusal_of ((read-exactly ts).1 h))
 
 -- ---- worths
 
 -- "Intermediates are exact, within a signed 32-bit range": what any part is worth lies in the range.
-pub worth-within : (tree : Tree) {z : ℤ} → worth_of tree ≡ Is z → Within z
+pub worth-within : (tree : Tree) {z : ℤ} → worth_of tree ≡ Ok z → Within z
 worth-within = Kept.worth-within
 
 -- "6 or 7 in order of evaluation (left, right, operation)"
 module _ (o : Operation) (a b : Tree) where
-  pub left_out_of_range : worth_of a ≡ OutOfRange → worth_of (node o a b) ≡ OutOfRange
+  pub left_out_of_range : worth_of a ≡ Err OutOfRange → worth_of (node o a b) ≡ Err OutOfRange
   unfolding worth_of operate
   left_out_of_range e = ap (λ (w : Worth). operate o w (worth_of b)) e
 
-  pub left_by_zero : worth_of a ≡ ByZero → worth_of (node o a b) ≡ ByZero
+  pub left_by_zero : worth_of a ≡ Err ByZero → worth_of (node o a b) ≡ Err ByZero
   unfolding worth_of operate
   left_by_zero e = ap (λ (w : Worth). operate o w (worth_of b)) e
 
-  pub right_out_of_range : {x : ℤ} → worth_of a ≡ Is x → worth_of b ≡ OutOfRange → worth_of (node o a b) ≡ OutOfRange
+  pub right_out_of_range : {x : ℤ} → worth_of a ≡ Ok x → worth_of b ≡ Err OutOfRange → worth_of (node o a b) ≡ Err OutOfRange
   unfolding worth_of operate
   right_out_of_range e f = ap₂ (operate o) e f
 
-  pub right_by_zero : {x : ℤ} → worth_of a ≡ Is x → worth_of b ≡ ByZero → worth_of (node o a b) ≡ ByZero
+  pub right_by_zero : {x : ℤ} → worth_of a ≡ Ok x → worth_of b ≡ Err ByZero → worth_of (node o a b) ≡ Err ByZero
   unfolding worth_of operate
   right_by_zero e f = ap₂ (operate o) e f
 
-  pub then-operation : {x y : ℤ} → worth_of a ≡ Is x → worth_of b ≡ Is y → worth_of (node o a b) ≡ operation o x y
+  pub then-operation : {x y : ℤ} → worth_of a ≡ Ok x → worth_of b ≡ Ok y → worth_of (node o a b) ≡ operation o x y
   unfolding worth_of operate
   then-operation e f = ap₂ (operate o) e f
 
@@ -134,9 +135,9 @@ plain-found = Placed.plain-found
 -- its first fault there.
 pub fault_exactly : (ts : List Token) {at : ℕ}
     → (((refusal_of (expression_read ts) ≡ 6) × (fault_in ts ≡ at))
-    ↔ ((p : Placed) × PlacedExpression ts p × (depth (strip p) ≤ deepest) × (found_of p ≡ F.OutOfRange at)))
+    ↔ ((p : Placed) × PlacedExpression ts p × (depth (strip p) ≤ deepest) × (found_of p ≡ Err (record { fault = OutOfRange; at = at }))))
     × (((refusal_of (expression_read ts) ≡ 7) × (fault_in ts ≡ at))
-    ↔ ((p : Placed) × PlacedExpression ts p × (depth (strip p) ≤ deepest) × (found_of p ≡ F.ByZero at)))
+    ↔ ((p : Placed) × PlacedExpression ts p × (depth (strip p) ≤ deepest) × (found_of p ≡ Err (record { fault = ByZero; at = at }))))
 fault_exactly ts = (Faults.fault_6 ts, Faults.fault_7 ts)
 
 pub fault_none : (ts : List Token) → (refusal_of (expression_read ts) ≡ 6 → ⊥) → (refusal_of (expression_read ts) ≡ 7 → ⊥) → fault_in ts ≡ 0
@@ -148,10 +149,10 @@ pub opens-exactly : (p : Placed) → ((at : ℕ) × (deep_at p ≡ here at)) ↔
 opens-exactly = Placed.deep-exactly
 
 pub deep-place : (ts : List Token) {at : ℕ}
-    → ((expression_read ts ≡ TooDeep) × (too_deep_in ts ≡ at)) ↔ ((p : Placed) × PlacedExpression ts p × (deep_at p ≡ here at))
+    → ((expression_read ts ≡ Err TooDeep) × (too_deep_in ts ≡ at)) ↔ ((p : Placed) × PlacedExpression ts p × (deep_at p ≡ here at))
 deep-place = Faults.deep-place
 
-pub deep_none : (ts : List Token) → (expression_read ts ≡ TooDeep → ⊥) → too_deep_in ts ≡ 0
+pub deep_none : (ts : List Token) → (expression_read ts ≡ Err TooDeep → ⊥) → too_deep_in ts ≡ 0
 deep_none = Faults.deep_none
 
 pub deep-leftmost : {ts : List Token} {p : Placed} → PlacedExpression ts p → level_at ts true 0 ≡ place_or (deep_at p) 0

@@ -14,12 +14,13 @@ use Rattle.expressions.specs.Reading.{nothing, Outcome, reads, wrong, operator, 
 use Rattle.expressions.specs.Places.{Placed, literal_at, node_at, enclosed_at, placed_read, strip, found_of, plain, fault_place, fault_judged, fault_in}
 use Rattle.expressions.specs.Inner.Scanning.{right_form, passes}
 use Rattle.expressions.specs.Inner.Parts.{is_end, sums, Says, Answer, operand_f, operator_f}
-use Rattle.expressions.specs.declared.Found.{Found}
-use Rattle.expressions.specs.declared.Worth.{Worth}
-use Rattle.expressions.specs.declared.ExpressionRead.{ExpressionRead}
-use Rattle.expressions.specs.declared.ExpressionRead.TheVariants.{Read, TooDeep, WrongForm}
-use Rattle.expressions.specs.declared.Part.{Part}
-use Rattle.expressions.specs.declared.Part.TheVariants.{Done, Wrong, Deep}
+use Rattle.expressions.specs.Places.{Found}
+use Rattle.expressions.specs.Worths.{Worth}
+use Rattle.std.proofs.Common.{Result, Ok, Err}
+use Rattle.numerals.specs.Reading.{upto}
+use Rattle.numerals.specs.declared.Read.{Read}
+use Rattle.expressions.specs.declared.Malformed.{Malformed}
+use Rattle.expressions.specs.declared.Malformed.TheVariants.{TooDeep, WrongForm}
 use Rattle.expressions.proofs.Readings.{sound}
 use Rattle.expressions.proofs.Folds.{stripped, read-stripped, evaluated, read-evaluated}
 use Rattle.expressions.proofs.Scans.{is_read, form-read}
@@ -30,7 +31,7 @@ use Rattle.expressions.proofs.Steps.{never}
 use Rattle.expressions.proofs.Operands.{sum_not_last}
 
 -- a row is an answer, with its first fault at a place
-abbrev pub Verdict : List Token → ExpressionRead → ℕ → Type 0
+abbrev pub Verdict : List Token → Result Worth Malformed → ℕ → Type 0
 Verdict ts r at = (expression_read ts ≡ r) × (fault_in ts ≡ at)
 
 module _ (ts : List Token) where
@@ -43,21 +44,21 @@ module _ (ts : List Token) where
     is_deeper = deeper (sound Tree literal_of node_of enclosed_of ts (strip p) tree-read) deepest
 
     pub by_depth : {q : Bool} → leb (depth (strip p)) deepest ≡ q
-        → Verdict ts (cond q (Read (plain (found_of p))) TooDeep) (cond q (fault_place (found_of p)) 0)
+        → Verdict ts (cond q (Ok (plain (found_of p))) (Err TooDeep)) (cond q (fault_place (found_of p)) 0)
     unfolding expression_read fault_in
     by_depth {q} l = (
-      ap judged tree-read ∙ ap (λ (w : Worth). cond (leb (depth (strip p)) deepest) (Read w) TooDeep) (sym (plain-found p))
-          ∙ ap (λ (q : Bool). cond q (Read (plain (found_of p))) TooDeep) l,
+      ap judged tree-read ∙ ap (λ (w : Worth). cond (leb (depth (strip p)) deepest) (Ok w) (Err TooDeep)) (sym (plain-found p))
+          ∙ ap (λ (q : Bool). cond q (Ok (plain (found_of p))) (Err TooDeep)) l,
       ap fault_judged e ∙ ap (λ (q : Bool). cond q (fault_place (found_of p)) 0) l,
     )
 
-    verdict-read : passes ts deepest ≡ false → Verdict ts (Read (plain (found_of p))) (fault_place (found_of p))
+    verdict-read : passes ts deepest ≡ false → Verdict ts (Ok (plain (found_of p))) (fault_place (found_of p))
     verdict-read f = by_depth (le-leb (depth (strip p)) 32 (ltb-false 32 (depth (strip p)) (sym is_deeper ∙ f)))
 
-    verdict-deep : passes ts deepest ≡ true → Verdict ts TooDeep 0
+    verdict-deep : passes ts deepest ≡ true → Verdict ts (Err TooDeep) 0
     verdict-deep f = by_depth (lt-leb (depth (strip p)) 32 (ltb-true 32 (depth (strip p)) (sym is_deeper ∙ f)))
 
-  pub verdict-wrong : placed_read ts ≡ wrong → Verdict ts WrongForm 0
+  pub verdict-wrong : placed_read ts ≡ wrong → Verdict ts (Err WrongForm) 0
   unfolding expression_read fault_in
   verdict-wrong e = (ap judged (read-stripped ts ∙ ap stripped e), ap fault_judged e)
 
@@ -65,33 +66,33 @@ module _ (ts : List Token) where
   abbrev found_read : Answer
   found_read = operand_f ts nothing nothing []
 
-  pub by_found : {w : Found} → found_read ≡ reads w → passes ts deepest ≡ false → Verdict ts (Read (plain w)) (fault_place w)
+  pub by_found : {w : Found} → found_read ≡ reads w → passes ts deepest ≡ false → Verdict ts (Ok (plain w)) (fault_place w)
   by_found {w} e f = go (placed_read ts) refl
     where
-      go : (r : Outcome Placed literal_at node_at enclosed_at) → placed_read ts ≡ r → Verdict ts (Read (plain w)) (fault_place w)
+      go : (r : Outcome Placed literal_at node_at enclosed_at) → placed_read ts ≡ r → Verdict ts (Ok (plain w)) (fault_place w)
       go (reads p) q =
           let z : reads (found_of p) ≡ reads w = sym (read-evaluated ts ∙ ap evaluated q) ∙ e in
           let y : found_of p ≡ w = cc in
-          subst (λ (w : Found). Verdict ts (Read (plain w)) (fault_place w)) y (verdict-read q f)
+          subst (λ (w : Found). Verdict ts (Ok (plain w)) (fault_place w)) y (verdict-read q f)
       go wrong q =
           let z : wrong ≡ reads w = sym (read-evaluated ts ∙ ap evaluated q) ∙ e in
           never (cc)
 
-  pub by_wrong : found_read ≡ wrong → Verdict ts WrongForm 0
+  pub by_wrong : found_read ≡ wrong → Verdict ts (Err WrongForm) 0
   by_wrong e = go (placed_read ts) refl
     where
-      go : (r : Outcome Placed literal_at node_at enclosed_at) → placed_read ts ≡ r → Verdict ts WrongForm 0
+      go : (r : Outcome Placed literal_at node_at enclosed_at) → placed_read ts ≡ r → Verdict ts (Err WrongForm) 0
       go (reads p) q =
           let z : reads (found_of p) ≡ wrong = sym (read-evaluated ts ∙ ap evaluated q) ∙ e in
           never (cc)
       go wrong q = verdict-wrong q
 
   -- by the scan, where the height passes the limit
-  pub by_scan : passes ts deepest ≡ true → {right : Bool} → right_form ts true 0 ≡ right → Verdict ts (cond right TooDeep WrongForm) 0
+  pub by_scan : passes ts deepest ≡ true → {right : Bool} → right_form ts true 0 ≡ right → Verdict ts (cond right (Err TooDeep) (Err WrongForm)) 0
   by_scan f {right} e = go (placed_read ts) refl right (sym e ∙ form-read Placed literal_at node_at enclosed_at ts)
     where
       go : (r : Outcome Placed literal_at node_at enclosed_at) → placed_read ts ≡ r → (right : Bool)
-          → right ≡ is_read Placed literal_at node_at enclosed_at (placed_read ts) → Verdict ts (cond right TooDeep WrongForm) 0
+          → right ≡ is_read Placed literal_at node_at enclosed_at (placed_read ts) → Verdict ts (cond right (Err TooDeep) (Err WrongForm)) 0
       go (reads p) q true g = verdict-deep q f
       go (reads p) q false g = let z : false ≡ true = g ∙ ap (is_read Placed literal_at node_at enclosed_at) q in never (cc)
       go wrong q true g = let z : true ≡ false = g ∙ ap (is_read Placed literal_at node_at enclosed_at) q in never (cc)
@@ -99,15 +100,15 @@ module _ (ts : List Token) where
 
 -- ---- by what the reader of sums gave, as the code meets it
 
-module _ (s : List ℕ) (at : ℕ) (p : Part) (h : Says sums sums s at deepest p) where
-  module _ {w : Found} {c : Cursor} (d : p ≡ Done w c) {t : Token} {e : Bool} (k : t ≡ token_at s c.at) (l : e ≡ is_end t.kind) where
-    sum-read : Says sums sums s at deepest (Done w c)
-    sum-read = subst (λ (p : Part). Says sums sums s at deepest p) d h
+module _ (s : List ℕ) (at : ℕ) (p : Result (Read Found) Malformed) (h : Says sums sums s at deepest p) where
+  module _ {w : Found} {c : Cursor} (d : p ≡ Ok (upto w c)) {t : Token} {e : Bool} (k : t ≡ token_at s c.at) (l : e ≡ is_end t.kind) where
+    sum-read : Says sums sums s at deepest (Ok (upto w c))
+    sum-read = subst (λ (p : Result (Read Found) Malformed). Says sums sums s at deepest p) d h
 
     ends_as : is_end (token_at s c.at).kind ≡ e
     ends_as = sym (l ∙ ap (λ (t : Token). is_end t.kind) k)
 
-    whole : e ≡ true → Verdict (tokens_from s at) (Read (plain w)) (fault_place w)
+    whole : e ≡ true → Verdict (tokens_from s at) (Ok (plain w)) (fault_place w)
     unfolding operator passes
     whole g =
         let r = row-ended s c.at (ends_as ∙ g) in
@@ -115,35 +116,35 @@ module _ (s : List ℕ) (at : ℕ) (p : Part) (h : Says sums sums s at deepest p
         (sum-read.read [] ∙ ap (λ (ts : List Token). operator_f ts nothing w []) r)
         (sum-read.room-left ∙ ap (λ (ts : List Token). passes ts deepest) r)
 
-    more : e ≡ false → Verdict (tokens_from s at) WrongForm 0
+    more : e ≡ false → Verdict (tokens_from s at) (Err WrongForm) 0
     more g = by_wrong (tokens_from s at) (sum-read.read [] ∙ sum_not_last s c.at w sum-read.ends (ends_as ∙ g))
 
-    pub found-whole : {r : Worth} → e ≡ true → r ≡ plain w → Read r ≡ expression_read (tokens_from s at)
-    found-whole g m = ap Read m ∙ sym (whole g).0
+    pub found-whole : {r : Worth} → e ≡ true → r ≡ plain w → Ok r ≡ expression_read (tokens_from s at)
+    found-whole g m = ap Ok m ∙ sym (whole g).0
 
     pub fault_whole : {r : ℕ} → e ≡ true → r ≡ fault_place w → r ≡ fault_in (tokens_from s at)
     fault_whole g m = m ∙ sym (whole g).1
 
-    pub found-more : e ≡ false → WrongForm ≡ expression_read (tokens_from s at)
+    pub found-more : e ≡ false → Err WrongForm ≡ expression_read (tokens_from s at)
     found-more g = sym (more g).0
 
     pub fault_more : e ≡ false → 0 ≡ fault_in (tokens_from s at)
     fault_more g = sym (more g).1
 
-  no_sum : p ≡ Wrong → Verdict (tokens_from s at) WrongForm 0
-  no_sum d = let f : Says sums sums s at deepest Wrong = subst (λ (p : Part). Says sums sums s at deepest p) d h in by_wrong (tokens_from s at) (f [])
+  no_sum : p ≡ Err WrongForm → Verdict (tokens_from s at) (Err WrongForm) 0
+  no_sum d = let f : Says sums sums s at deepest (Err WrongForm) = subst (λ (p : Result (Read Found) Malformed). Says sums sums s at deepest p) d h in by_wrong (tokens_from s at) (f [])
 
-  pub found-wrong : p ≡ Wrong → WrongForm ≡ expression_read (tokens_from s at)
+  pub found-wrong : p ≡ Err WrongForm → Err WrongForm ≡ expression_read (tokens_from s at)
   found-wrong d = sym (no_sum d).0
 
-  pub fault_wrong : p ≡ Wrong → 0 ≡ fault_in (tokens_from s at)
+  pub fault_wrong : p ≡ Err WrongForm → 0 ≡ fault_in (tokens_from s at)
   fault_wrong d = sym (no_sum d).1
 
-  deep-sum : p ≡ Deep → {right : Bool} → right_form (tokens_from s at) true 0 ≡ right → Verdict (tokens_from s at) (cond right TooDeep WrongForm) 0
-  deep-sum d e = by_scan (tokens_from s at) (subst (λ (p : Part). Says sums sums s at deepest p) d h) e
+  deep-sum : p ≡ Err TooDeep → {right : Bool} → right_form (tokens_from s at) true 0 ≡ right → Verdict (tokens_from s at) (cond right (Err TooDeep) (Err WrongForm)) 0
+  deep-sum d e = by_scan (tokens_from s at) (subst (λ (p : Result (Read Found) Malformed). Says sums sums s at deepest p) d h) e
 
-  pub found-deep : p ≡ Deep → {r right : Bool} → r ≡ right_form (tokens_from s at) true 0 → r ≡ right → cond right TooDeep WrongForm ≡ expression_read (tokens_from s at)
+  pub found-deep : p ≡ Err TooDeep → {r right : Bool} → r ≡ right_form (tokens_from s at) true 0 → r ≡ right → cond right (Err TooDeep) (Err WrongForm) ≡ expression_read (tokens_from s at)
   found-deep d e f = sym (deep-sum d (sym e ∙ f)).0
 
-  pub fault_deep : p ≡ Deep → 0 ≡ fault_in (tokens_from s at)
+  pub fault_deep : p ≡ Err TooDeep → 0 ≡ fault_in (tokens_from s at)
   fault_deep d = sym (deep-sum d refl).1

@@ -9,10 +9,9 @@ use Rattle.expressions.specs.Trees.{Tree, depth}
 use Rattle.expressions.specs.Worths.{of_number, operation}
 use Rattle.expressions.specs.Reading.{nothing, Outcome, reads, wrong, operand}
 use Rattle.expressions.specs.declared.Operation.{Operation}
-use Rattle.expressions.specs.declared.Found.{Found}
-use Rattle.expressions.specs.declared.Found.TheVariants.{Is, OutOfRange, ByZero}
-use Rattle.expressions.specs.declared.Worth.{Worth}
-use Rattle.expressions.specs.declared.Worth.TheVariants as W
+use Rattle.std.specs.Prelude.{Result, Ok, Err, ℤ}
+use Rattle.expressions.specs.declared.FaultAt.{FaultAt}
+use Rattle.expressions.specs.Worths.{Worth}
 
 -- ---- trees with places
 
@@ -46,19 +45,20 @@ strip (enclosed at a) = T.enclosed (strip a)
 
 -- ---- 6 and 7: "the number or the operation's mark"
 
+-- a number, or 6 or 7 with its place
+abbrev pub Found : Type 0
+Found = Result ℤ FaultAt
+
 -- what is worth something at a place has its fault there
 abbrev pub found_at : ℕ → Worth → Found
-found_at at (W.Is z) = Is z
-found_at at W.OutOfRange = OutOfRange at
-found_at at W.ByZero = ByZero at
+found_at at (Ok z) = Ok z
+found_at at (Err f) = Err (record { fault = f; at = at })
 
 -- the first fault "in order of evaluation (left, right, operation)" (01), the operation's at its mark
 unfoldable pub evaluate : ℕ → Operation → Found → Found → Found
-evaluate at o (Is a) (Is b) = found_at at (operation o a b)
-evaluate at o (Is a) (OutOfRange right) = OutOfRange right
-evaluate at o (Is a) (ByZero right) = ByZero right
-evaluate at o (OutOfRange left) b = OutOfRange left
-evaluate at o (ByZero left) b = ByZero left
+evaluate at o (Ok a) (Ok b) = found_at at (operation o a b)
+evaluate at o (Ok a) (Err right) = Err right
+evaluate at o (Err left) b = Err left
 
 unfoldable pub found_of : Placed → Found
 found_of (literal at v) = found_at at (of_number v)
@@ -67,14 +67,12 @@ found_of (enclosed at a) = found_of a
 
 -- the worth without its place, and the place of its fault, 0 where there is none
 abbrev pub plain : Found → Worth
-plain (Is z) = W.Is z
-plain (OutOfRange at) = W.OutOfRange
-plain (ByZero at) = W.ByZero
+plain (Ok z) = Ok z
+plain (Err f) = Err f.fault
 
 abbrev pub fault_place : Found → ℕ
-fault_place (Is z) = 0
-fault_place (OutOfRange at) = at
-fault_place (ByZero at) = at
+fault_place (Ok z) = 0
+fault_place (Err f) = f.at
 
 -- the place of a row's first fault: form 3 and depth 8 come before it
 abbrev pub fault_judged : Outcome Placed literal_at node_at enclosed_at → ℕ

@@ -6,13 +6,14 @@ use Rattle.tokens.specs.declared.Kind.TheVariants as K
 use Rattle.tokens.specs.declared.Token.{Token}
 use Rattle.codes.specs.Limits.{deepest}
 use Rattle.expressions.specs.Trees.{Tree, literal_of, node_of, enclosed_of, depth}
-use Rattle.expressions.specs.Worths.{worth_of, fault_of}
+use Rattle.expressions.specs.Worths.{Worth, worth_of, fault_of}
 use Rattle.expressions.specs.declared.Operation.{Operation}
 use Rattle.expressions.specs.declared.Operation.TheVariants.{Plus, Minus, Times, Over, Rest}
 use Rattle.expressions.specs.declared.Symbol.{Symbol}
 use Rattle.expressions.specs.declared.Symbol.TheVariants.{Number, Sums, Products, Opens, Shuts, Other}
-use Rattle.expressions.specs.declared.ExpressionRead.{ExpressionRead}
-use Rattle.expressions.specs.declared.ExpressionRead.TheVariants.{Read, TooDeep, WrongForm}
+use Rattle.std.specs.Prelude.{Result, Ok, Err}
+use Rattle.expressions.specs.declared.Malformed.{Malformed}
+use Rattle.expressions.specs.declared.Malformed.TheVariants.{TooDeep, WrongForm}
 
 -- what a token is to an expression
 unfoldable pub mark_symbol : ℕ → Symbol
@@ -95,15 +96,15 @@ abbrev pub tree_read : List Token → Outcome Tree literal_of node_of enclosed_o
 tree_read ts = operand Tree literal_of node_of enclosed_of ts nothing nothing []
 
 -- form 3, then depth 8, then the worth with its 6 or 7
-abbrev pub judged : Outcome Tree literal_of node_of enclosed_of → ExpressionRead
-judged (reads tree) = cond (leb (depth tree) deepest) (Read (worth_of tree)) TooDeep
-judged wrong = WrongForm
+abbrev pub judged : Outcome Tree literal_of node_of enclosed_of → Result Worth Malformed
+judged (reads tree) = cond (leb (depth tree) deepest) (Ok (worth_of tree)) (Err TooDeep)
+judged wrong = Err WrongForm
 
-unfoldable pub expression_read : List Token → ExpressionRead
+unfoldable pub expression_read : List Token → Result Worth Malformed
 expression_read ts = judged (tree_read ts)
 
 -- the paper's number for each answer: 3 form, 8 too deep, 6 or 7 of the worth, 0 for a number
-abbrev pub refusal_of : ExpressionRead → ℕ
-refusal_of (Read w) = fault_of w
-refusal_of TooDeep = 8
-refusal_of WrongForm = 3
+abbrev pub refusal_of : Result Worth Malformed → ℕ
+refusal_of (Ok w) = fault_of w
+refusal_of (Err TooDeep) = 8
+refusal_of (Err WrongForm) = 3

@@ -20,28 +20,31 @@ pub enum Operation {
     Rest,
 }
 
-// What an expression is worth: a number, or refusal 6 or 7.
-#[derive(Clone, Copy)]
-pub enum Worth {
-    Is(i32),
+// Why an expression is worth nothing: refusal 6 or 7.
+#[derive(Clone, Copy, Debug, PartialEq, Eq)]
+pub enum Fault {
     OutOfRange,
     ByZero,
 }
 
-// What an expression is worth, with the place of the fault: the number, or the operation's mark.
-#[derive(Clone, Copy)]
-pub enum Found {
-    Is(i32),
-    OutOfRange(usize),
-    ByZero(usize),
+// What an expression is worth.
+pub type Worth = Result<i32, Fault>;
+
+// A fault with its place: that of the number, or of the operation's mark.
+#[derive(Clone, Copy, Debug, PartialEq, Eq)]
+pub struct FaultAt {
+    pub fault: Fault,
+    pub at: usize,
 }
 
-// What a line's tokens from a cursor on are as an expression: refusal 3 for form, 8 for depth, or the worth.
-#[derive(Clone, Copy)]
-pub enum ExpressionRead {
-    Read(Worth),
-    TooDeep,
+// What an expression is worth, with the place of the fault.
+pub type Found = Result<i32, FaultAt>;
+
+// Why a line's tokens are no expression: refusal 3 for form, 8 for depth.
+#[derive(Clone, Copy, Debug, PartialEq, Eq)]
+pub enum Malformed {
     WrongForm,
+    TooDeep,
 }
 
 // What a token is to an expression: an operand, a mark of sums or of products, a parenthesis, or nothing that one has.
@@ -63,24 +66,9 @@ enum Start {
     Neither,
 }
 
-// A mark that joins a further operand, or none.
+// Where the scan of a row stands: whether an operand is next, and how many parentheses are open.
 #[derive(Clone, Copy)]
-enum Mark {
-    Joins(Operation),
-    Absent,
-}
-
-// What reading a sum, a product or a factor gives: what was found and the cursor after it, a wrong form, or parentheses too deep.
-#[derive(Clone, Copy)]
-enum Part {
-    Done(Found, Cursor),
-    Wrong,
-    Deep,
-}
-
-// A token more of the scan: whether an operand is next and how many parentheses are open, or the form is wrong.
-#[derive(Clone, Copy)]
-pub enum ScanStep {
-    On(bool, usize),
-    Wrong,
+pub struct Scan {
+    pub operand: bool,
+    pub height: usize,
 }

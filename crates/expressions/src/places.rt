@@ -4,13 +4,13 @@ ghost use Rattle.tokens.specs.Reading.{tokens_from};
 ghost use Rattle.expressions.specs.Places.{fault_in, too_deep_in};
 ghost use Rattle.expressions.specs.Inner.Scanning.{level_at};
 
+use super::{Malformed, Scan};
 use super::parts::sum;
 use super::scanning::{right_form, scan_step};
 use super::symbols::{is_end, symbol_of};
 use super::worths::fault_place;
-use super::{Part, ScanStep};
 use codes::limits::DEEPEST;
-use numerals::Cursor;
+use numerals::{Cursor, Read};
 use tokens::tokens::next_token;
 
 // The place of the number or the mark that is the first fault (6 or 7) of the expression from a cursor on, 0 where there is none.
@@ -19,13 +19,13 @@ pub fn fault(s: &[u8], from: Cursor) -> usize
 {
     let start = from.at;
     match sum(s, Cursor { at: start }, DEEPEST) {
-        Part::Done(w, c) => {
+        Ok(Read { value: w, next: c }) => {
             let t = next_token(s, c);
             let kind = t.kind;
             if is_end(kind) { fault_place(w) } else { 0 }
         }
-        Part::Wrong => 0,
-        Part::Deep => 0,
+        Err(Malformed::WrongForm) => 0,
+        Err(Malformed::TooDeep) => 0,
     }
 }
 
@@ -46,7 +46,7 @@ fn level_past(s: &[u8], from: Cursor) -> usize
             return 0;
         }
         match scan_step(symbol_of(kind), operand, height) {
-            ScanStep::On(further, h) => {
+            Some(Scan { operand: further, height: h }) => {
                 if (DEEPEST as usize) < h {
                     return place;
                 }
@@ -54,7 +54,7 @@ fn level_past(s: &[u8], from: Cursor) -> usize
                 operand = further;
                 height = h;
             }
-            ScanStep::Wrong => {
+            None => {
                 return 0;
             }
         }

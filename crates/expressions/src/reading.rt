@@ -3,37 +3,37 @@ ghost use Rattle.std.specs.Prelude.{◌≡◌};
 ghost use Rattle.tokens.specs.Reading.{tokens_from};
 ghost use Rattle.expressions.specs.Reading.{expression_read};
 
+use super::{Malformed, Worth};
 use super::parts::sum;
 use super::scanning::right_form;
 use super::symbols::is_end;
 use super::worths::plain_worth;
-use super::{ExpressionRead, Part};
 use codes::limits::DEEPEST;
-use numerals::Cursor;
+use numerals::{Cursor, Read};
 use tokens::tokens::next_token;
 
 // What the tokens of a line from a cursor on are as an expression. Only where parentheses are too deep is the row scanned once
 // more, for its form.
-pub fn expression(s: &[u8], from: Cursor) -> ExpressionRead
+pub fn expression(s: &[u8], from: Cursor) -> Result<Worth, Malformed>
     ensures { result ≡ expression_read (tokens_from s.now from.at) }
 {
     let start = from.at;
     match sum(s, Cursor { at: start }, DEEPEST) {
-        Part::Done(w, c) => {
+        Ok(Read { value: w, next: c }) => {
             let t = next_token(s, c);
             let kind = t.kind;
             if is_end(kind) {
-                ExpressionRead::Read(plain_worth(w))
+                Ok(plain_worth(w))
             } else {
-                ExpressionRead::WrongForm
+                Err(Malformed::WrongForm)
             }
         }
-        Part::Wrong => ExpressionRead::WrongForm,
-        Part::Deep => {
+        Err(Malformed::WrongForm) => Err(Malformed::WrongForm),
+        Err(Malformed::TooDeep) => {
             if right_form(s, Cursor { at: start }) {
-                ExpressionRead::TooDeep
+                Err(Malformed::TooDeep)
             } else {
-                ExpressionRead::WrongForm
+                Err(Malformed::WrongForm)
             }
         }
     }

@@ -4,43 +4,43 @@ ghost use Rattle.tokens.specs.Reading.{tokens_from};
 ghost use Rattle.expressions.specs.Inner.Scanning.{scan_step, shut_step, scan_end, right_form};
 
 use super::symbols::{is_end, symbol_of};
-use super::{ScanStep, Symbol};
+use super::{Symbol, Scan};
 use numerals::Cursor;
 use tokens::tokens::next_token;
 
 // One token where an operand is next or not, and so many parentheses are open.
-pub fn scan_step(y: Symbol, operand: bool, height: usize) -> ScanStep
+pub fn scan_step(y: Symbol, operand: bool, height: usize) -> Option<Scan>
     requires { height < 18446744073709551615 }
     ensures { result ≡ scan_step y operand height }
 {
     if operand {
         match y {
-            Symbol::Number(_) => ScanStep::On(false, height),
-            Symbol::Sums(_) => ScanStep::Wrong,
-            Symbol::Products(_) => ScanStep::Wrong,
-            Symbol::Opens => ScanStep::On(true, height + 1),
-            Symbol::Shuts => ScanStep::Wrong,
-            Symbol::Other => ScanStep::Wrong,
+            Symbol::Number(_) => Some(Scan { operand: false, height }),
+            Symbol::Sums(_) => None,
+            Symbol::Products(_) => None,
+            Symbol::Opens => Some(Scan { operand: true, height: height + 1 }),
+            Symbol::Shuts => None,
+            Symbol::Other => None,
         }
     } else {
         match y {
-            Symbol::Number(_) => ScanStep::Wrong,
-            Symbol::Sums(_) => ScanStep::On(true, height),
-            Symbol::Products(_) => ScanStep::On(true, height),
-            Symbol::Opens => ScanStep::Wrong,
+            Symbol::Number(_) => None,
+            Symbol::Sums(_) => Some(Scan { operand: true, height }),
+            Symbol::Products(_) => Some(Scan { operand: true, height }),
+            Symbol::Opens => None,
             Symbol::Shuts => shut_step(height),
-            Symbol::Other => ScanStep::Wrong,
+            Symbol::Other => None,
         }
     }
 }
 
-fn shut_step(height: usize) -> ScanStep
+fn shut_step(height: usize) -> Option<Scan>
     ensures { result ≡ shut_step height }
 {
     if height == 0 {
-        return ScanStep::Wrong;
+        return None;
     }
-    ScanStep::On(false, height - 1)
+    Some(Scan { operand: false, height: height - 1 })
 }
 
 // Whether a row may end here.
@@ -69,12 +69,12 @@ pub(crate) fn right_form(s: &[u8], from: Cursor) -> bool
             return may_end(operand, height);
         }
         match scan_step(symbol_of(kind), operand, height) {
-            ScanStep::On(further, h) => {
+            Some(Scan { operand: further, height: h }) => {
                 at = next.at;
                 operand = further;
                 height = h;
             }
-            ScanStep::Wrong => {
+            None => {
                 return false;
             }
         }

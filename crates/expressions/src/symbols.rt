@@ -3,7 +3,7 @@ ghost use Rattle.std.specs.Prelude.{◌≡◌};
 ghost use Rattle.expressions.specs.Reading.{mark_symbol, kind_symbol};
 ghost use Rattle.expressions.specs.Inner.Parts.{start_of, sum_mark, product_mark, is_shut, is_end};
 
-use super::{Mark, Operation, Start, Symbol};
+use super::{Operation, Start, Symbol};
 use tokens::Kind;
 
 pub fn mark_symbol(b: u8) -> Symbol
@@ -47,29 +47,29 @@ pub(crate) fn start_of(y: Symbol) -> Start
     }
 }
 
-pub(crate) fn sum_mark(y: Symbol) -> Mark
+pub(crate) fn sum_mark(y: Symbol) -> Option<Operation>
     ensures { result ≡ sum_mark y }
 {
     match y {
-        Symbol::Number(_) => Mark::Absent,
-        Symbol::Sums(o) => Mark::Joins(o),
-        Symbol::Products(_) => Mark::Absent,
-        Symbol::Opens => Mark::Absent,
-        Symbol::Shuts => Mark::Absent,
-        Symbol::Other => Mark::Absent,
+        Symbol::Number(_) => None,
+        Symbol::Sums(o) => Some(o),
+        Symbol::Products(_) => None,
+        Symbol::Opens => None,
+        Symbol::Shuts => None,
+        Symbol::Other => None,
     }
 }
 
-pub(crate) fn product_mark(y: Symbol) -> Mark
+pub(crate) fn product_mark(y: Symbol) -> Option<Operation>
     ensures { result ≡ product_mark y }
 {
     match y {
-        Symbol::Number(_) => Mark::Absent,
-        Symbol::Sums(_) => Mark::Absent,
-        Symbol::Products(o) => Mark::Joins(o),
-        Symbol::Opens => Mark::Absent,
-        Symbol::Shuts => Mark::Absent,
-        Symbol::Other => Mark::Absent,
+        Symbol::Number(_) => None,
+        Symbol::Sums(_) => None,
+        Symbol::Products(o) => Some(o),
+        Symbol::Opens => None,
+        Symbol::Shuts => None,
+        Symbol::Other => None,
     }
 }
 

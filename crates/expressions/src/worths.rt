@@ -4,18 +4,18 @@ ghost use Rattle.std.specs.Prelude.{◌≡◌};
 ghost use Rattle.expressions.specs.Worths.{within32, of_number, operation};
 ghost use Rattle.expressions.specs.Places.{found_at, evaluate, plain, fault_place};
 
-use super::{Found, Operation, Worth};
+use super::{Found, Operation, Worth, Fault, FaultAt};
 
 fn within(v: i64) -> Worth
     ensures { result ≡ within32 v }
 {
     if v < -2147483648 {
-        return Worth::OutOfRange;
+        return Err(Fault::OutOfRange);
     }
     if 2147483647 < v {
-        return Worth::OutOfRange;
+        return Err(Fault::OutOfRange);
     }
-    Worth::Is(v as i32)
+    Ok(v as i32)
 }
 
 // The worth of a number that stands in an expression.
@@ -23,9 +23,9 @@ pub(crate) fn number_worth(v: u32) -> Worth
     ensures { result ≡ of_number v }
 {
     if v <= 65535 {
-        Worth::Is(v as i32)
+        Ok(v as i32)
     } else {
-        Worth::OutOfRange
+        Err(Fault::OutOfRange)
     }
 }
 
@@ -40,13 +40,13 @@ fn operation_on(o: Operation, a: i32, b: i32) -> Worth
         Operation::Times => within(x * y),
         Operation::Over => {
             if b == 0 {
-                return Worth::ByZero;
+                return Err(Fault::ByZero);
             }
             within(x / y)
         }
         Operation::Rest => {
             if b == 0 {
-                return Worth::ByZero;
+                return Err(Fault::ByZero);
             }
             within(x % y)
         }
@@ -58,9 +58,9 @@ pub(crate) fn found_at(at: usize, w: Worth) -> Found
     ensures { result ≡ found_at at w }
 {
     match w {
-        Worth::Is(z) => Found::Is(z),
-        Worth::OutOfRange => Found::OutOfRange(at),
-        Worth::ByZero => Found::ByZero(at),
+        Ok(z) => Ok(z),
+        Err(Fault::OutOfRange) => Err(FaultAt { fault: Fault::OutOfRange, at }),
+        Err(Fault::ByZero) => Err(FaultAt { fault: Fault::ByZero, at }),
     }
 }
 
@@ -69,13 +69,13 @@ pub(crate) fn combined(at: usize, o: Operation, a: Found, b: Found) -> Found
     ensures { result ≡ evaluate at o a b }
 {
     match a {
-        Found::Is(x) => match b {
-            Found::Is(y) => found_at(at, operation_on(o, x, y)),
-            Found::OutOfRange(right) => Found::OutOfRange(right),
-            Found::ByZero(right) => Found::ByZero(right),
+        Ok(x) => match b {
+            Ok(y) => found_at(at, operation_on(o, x, y)),
+            Err(FaultAt { fault: Fault::OutOfRange, at: right }) => Err(FaultAt { fault: Fault::OutOfRange, at: right }),
+            Err(FaultAt { fault: Fault::ByZero, at: right }) => Err(FaultAt { fault: Fault::ByZero, at: right }),
         },
-        Found::OutOfRange(left) => Found::OutOfRange(left),
-        Found::ByZero(left) => Found::ByZero(left),
+        Err(FaultAt { fault: Fault::OutOfRange, at: left }) => Err(FaultAt { fault: Fault::OutOfRange, at: left }),
+        Err(FaultAt { fault: Fault::ByZero, at: left }) => Err(FaultAt { fault: Fault::ByZero, at: left }),
     }
 }
 
@@ -84,9 +84,9 @@ pub(crate) fn plain_worth(w: Found) -> Worth
     ensures { result ≡ plain w }
 {
     match w {
-        Found::Is(z) => Worth::Is(z),
-        Found::OutOfRange(_) => Worth::OutOfRange,
-        Found::ByZero(_) => Worth::ByZero,
+        Ok(z) => Ok(z),
+        Err(FaultAt { fault: Fault::OutOfRange, at: _ }) => Err(Fault::OutOfRange),
+        Err(FaultAt { fault: Fault::ByZero, at: _ }) => Err(Fault::ByZero),
     }
 }
 
@@ -95,8 +95,8 @@ pub(crate) fn fault_place(w: Found) -> usize
     ensures { result ≡ fault_place w }
 {
     match w {
-        Found::Is(_) => 0,
-        Found::OutOfRange(at) => at,
-        Found::ByZero(at) => at,
+        Ok(_) => 0,
+        Err(FaultAt { fault: Fault::OutOfRange, at }) => at,
+        Err(FaultAt { fault: Fault::ByZero, at }) => at,
     }
 }

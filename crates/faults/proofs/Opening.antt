@@ -16,7 +16,7 @@ use Rattle.names.specs.declared.Word.{Word}
 use Rattle.names.specs.declared.Word.TheVariants as W
 use Rattle.expressions.specs.Reading.{mark_symbol}
 use Rattle.expressions.specs.Inner.Scanning.{scan_step}
-use Rattle.expressions.specs.declared.ScanStep.TheVariants.{On, Wrong}
+use Rattle.std.proofs.Common.{Some, None}
 use Rattle.expressions.specs.declared.Symbol.{Symbol}
 use Rattle.expressions.specs.declared.Symbol.TheVariants as Y
 use Rattle.faults.specs.declared.State.{State}
@@ -73,7 +73,7 @@ scan_opens Y.Opens false h = omega arith
 scan_opens Y.Shuts true h = omega arith
 scan_opens Y.Shuts false h = go (eqb h 0)
   where
-    go : (y : Bool) → opens (scanned (cond y Wrong (On false (h - 1)))) ≤ h + 1
+    go : (y : Bool) → opens (scanned (cond y None (Some (record { operand = false; height = (h - 1) })))) ≤ h + 1
     go true = omega arith
     go false = omega arith
 scan_opens Y.Other true h = omega arith

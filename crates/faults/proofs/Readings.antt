@@ -33,8 +33,8 @@ use Rattle.names.specs.declared.Word as N
 use Rattle.codes.specs.Registers.{IX, IY, SP, is_register}
 use Rattle.expressions.specs.Inner.Scanning.{scan_step}
 use Rattle.expressions.specs.Reading.{mark_symbol}
-use Rattle.expressions.specs.declared.ScanStep.{ScanStep}
-use Rattle.expressions.specs.declared.ScanStep.TheVariants.{On, Wrong}
+use Rattle.std.proofs.Common.{Option, Some, None}
+use Rattle.expressions.specs.declared.Scan.{Scan}
 use Rattle.operands.specs.Operands.{word_at}
 use Rattle.items.proofs.Readings.{in_line}
 use Rattle.statements.specs.Reading.{after_label}
@@ -70,9 +70,9 @@ put-not : (i : Bool) → is_start (put i) ≡ false
 put-not true = refl
 put-not false = refl
 
-scanned-not : (x : ScanStep) → is_start (scanned x) ≡ false
-scanned-not (On q h) = refl
-scanned-not Wrong = refl
+scanned-not : (x : Option Scan) → is_start (scanned x) ≡ false
+scanned-not (Some g) = refl
+scanned-not None = refl
 
 indexes-not : (r : ℕ) → is_start (indexes r) ≡ false
 unfolding indexes

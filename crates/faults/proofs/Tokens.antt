@@ -18,8 +18,8 @@ use Rattle.names.specs.declared.Word.TheVariants as W
 use Rattle.expressions.specs.Trees.{Tree, Expression}
 use Rattle.expressions.specs.Reading.{kind_symbol}
 use Rattle.expressions.specs.Inner.Scanning.{scan_step, scan_on, right_form}
-use Rattle.expressions.specs.declared.ScanStep.{ScanStep}
-use Rattle.expressions.specs.declared.ScanStep.TheVariants.{On, Wrong}
+use Rattle.std.proofs.Common.{Option, Some, None}
+use Rattle.expressions.specs.declared.Scan.{Scan}
 use Rattle.expressions.proofs.Top.{form-exactly}
 use Rattle.operands.specs.Operands.{word_at, OperandField}
 use Rattle.operands.specs.Reading as O
@@ -31,15 +31,13 @@ use Rattle.items.specs.Reading as I
 use Rattle.items.proofs.Readings.{InLine, sound, complete}
 use Rattle.values.specs.Values.{numeral, name_at}
 use Rattle.values.specs.Reading.{value_by, digits_by}
-use Rattle.values.specs.Walks.{Step, to, emit, halt, Result, reads, wrong, cons, stepped, walk}
+use Rattle.values.specs.Walks.{Step, to, emit, halt, RowRead, reads, wrong, cons, stepped, walk}
 use Rattle.values.specs.declared.Name.{Name}
 use Rattle.values.specs.declared.Value.{Value}
 use Rattle.values.specs.declared.Value.TheVariants as V'
 use Rattle.statements.specs.Statements.{Reading, Label, label, StatementWord, Body, empty, opcode, origin, equals, reserve, items, ends, LineText, labelled, unlabelled}
 use Rattle.statements.specs.Statements as S
 use Rattle.statements.specs.Reading.{after_label}
-use Rattle.values.specs.declared.LabelIn.{LabelIn}
-use Rattle.values.specs.declared.LabelIn.TheVariants.{Absent, Named}
 use Rattle.statements.proofs.Labelling.{never, Labels, label_is, none_is, labels, label_after}
 use Rattle.faults.specs.declared.State.{State}
 use Rattle.faults.specs.declared.State.TheVariants as At
@@ -113,15 +111,15 @@ module _ {S A : Type 0} (erase : S → State) (begin : S) where
   only-moves : (x b : ℕ) (st : State) (f : Step S A) → Moves st f → Moves (only At.Dead x st b) (only halt x f b)
   only-moves x b st f h = cond-moves (eqb b x) st At.Dead f halt h refl
 
-abbrev is_read : {A : Type 0} → Result A → Bool
+abbrev is_read : {A : Type 0} → RowRead A → Bool
 is_read (reads xs) = true
 is_read wrong = false
 
-cons-read : {A : Type 0} (a : A) (r : Result A) → is_read (cons a r) ≡ is_read r
+cons-read : {A : Type 0} (a : A) (r : RowRead A) → is_read (cons a r) ≡ is_read r
 cons-read a (reads xs) = refl
 cons-read a wrong = refl
 
-module _ (line : List ℕ) {S A : Type 0} (erase : S → State) (begin : S) (step : S → Token → Step S A) (finish : S → Result A)
+module _ (line : List ℕ) {S A : Type 0} (erase : S → State) (begin : S) (step : S → Token → Step S A) (finish : S → RowRead A)
     (ends_so : (s : S) → final (erase s) ≡ is_read (finish s))
     (moves_so : (s : S) (t : Token) → Moves erase begin (token_step line (blank_if t.directly (erase s)) t.kind t) (step s t)) where
   walk-finishes : (ts : List Token) (s : S) → finishes line (erase s) ts ≡ is_read (walk begin step finish s ts)
@@ -326,10 +324,10 @@ module _ (line : List ℕ) where
 -- ---- expressions
 
 module _ (line : List ℕ) where
-  scanned-finishes : (x : ScanStep) (ts : List Token) → ((q : Bool) (h : ℕ) → finishes line (At.Expression q h) ts ≡ right_form ts q h)
+  scanned-finishes : (x : Option Scan) (ts : List Token) → ((q : Bool) (h : ℕ) → finishes line (At.Expression q h) ts ≡ right_form ts q h)
       → finishes line (scanned x) ts ≡ scan_on x (λ q h. right_form ts q h)
-  scanned-finishes (On q h) ts ih = ih q h
-  scanned-finishes Wrong ts ih = dead_never line ts
+  scanned-finishes (Some r) ts ih = ih r.operand r.height
+  scanned-finishes None ts ih = dead_never line ts
 
   symbol_step : (k : Kind) (t : Token) (q : Bool) (h : ℕ) → token_step line (At.Expression q h) k t ≡ scanned (scan_step (kind_symbol k) q h)
   symbol_step K.End t true h = refl
@@ -481,16 +479,16 @@ module _ (line : List ℕ) where
   behind (label a b c) i = i.1.1
 
   pub line-sound : (ts : List Token) → InLine line ts → finishes line At.Body (after_label ts) ≡ true
-      → (l : LabelIn) × (r : Reading) × LineText line ts l r
+      → (l : Option Name) × (r : Reading) × LineText line ts l r
   line-sound ts i f = go (labels ts)
     where
-      go : Labels ts → (l : LabelIn) × (r : Reading) × LineText line ts l r
+      go : Labels ts → (l : Option Name) × (r : Reading) × LineText line ts l r
       go (label_is n us a) =
           let h = body_sound us (behind a i) (ap (finishes line At.Body) (sym (label_after a)) ∙ f) in
-          (Named n, h.0, labelled a h.1)
-      go (none_is none e g) = let h = body_sound ts i (ap (finishes line At.Body) (sym g) ∙ f) in (Absent, h.0, unlabelled none h.1)
+          (Some n, h.0, labelled a h.1)
+      go (none_is none e g) = let h = body_sound ts i (ap (finishes line At.Body) (sym g) ∙ f) in (None, h.0, unlabelled none h.1)
 
-  pub line-complete : {ts : List Token} {l : LabelIn} {r : Reading} → LineText line ts l r → finishes line At.Body (after_label ts) ≡ true
+  pub line-complete : {ts : List Token} {l : Option Name} {r : Reading} → LineText line ts l r → finishes line At.Body (after_label ts) ≡ true
   line-complete (labelled a b) = ap (finishes line At.Body) (label_after a) ∙ body_complete b
   line-complete (unlabelled {ts} none b) = go (labels ts)
     where

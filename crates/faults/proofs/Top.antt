@@ -8,7 +8,7 @@ use lib.Dec.{T}
 use Rattle.tokens.specs.Lines.{no_lf}
 use Rattle.statements.specs.Reading.{line_read}
 use Rattle.statements.specs.declared.Failure.TheVariants.{WrongForm}
-use Rattle.statements.specs.declared.StatementRead.TheVariants.{Fails}
+use Rattle.std.proofs.Common.{Err}
 use Rattle.statements.proofs.Top.{form-exactly}
 use Rattle.faults.specs.Faults.{Right, CanGoOn, Fault, Column, column}
 use Rattle.faults.specs.Walk.{accepts, live, run, first, place}
@@ -37,7 +37,7 @@ pub right-none : {line : List ℕ} {p : ℕ} → T (no_lf line) → Right line �
 right-none = Places.right-none
 
 -- So refusal 3 has exactly one column.
-pub refused_has_column : (line : List ℕ) → (line_read line).statement ≡ Fails WrongForm → Column line (place line + 1)
+pub refused_has_column : (line : List ℕ) → (line_read line).statement ≡ Err WrongForm → Column line (place line + 1)
 refused_has_column line e = column (Places.has_fault line (λ r. ((form-exactly line).0 e).1 r.0 r.1 r.2))
 
 pub one-column : {line : List ℕ} {c : ℕ} → Column line c → place line + 1 ≡ c

@@ -7,12 +7,13 @@ use Rattle.numerals.specs.Bytes.{is_digit, is_word_byte}
 use Rattle.numerals.specs.Digits.{ends_word}
 use Rattle.tokens.specs.Lines.{no_lf}
 use Rattle.tokens.specs.Words.{Word, begins_word}
-use Rattle.values.specs.declared.LabelIn.{LabelIn}
+use Rattle.std.specs.Prelude.{Option}
+use Rattle.values.specs.declared.Name.{Name}
 use Rattle.statements.specs.Statements.{Reading, Says}
 
 -- a line of right form: it says something, "whatever the number and kinds of its operands"
 abbrev pub Right : List ℕ → Type 0
-Right line = (l : LabelIn) × (r : Reading) × Says line l r
+Right line = (l : Option Name) × (r : Reading) × Says line l r
 
 -- ---- words and bytes
 

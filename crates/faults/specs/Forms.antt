@@ -12,8 +12,8 @@ use Rattle.names.specs.declared.Word.{Word}
 use Rattle.names.specs.declared.Word.TheVariants as W
 use Rattle.expressions.specs.Reading.{mark_symbol}
 use Rattle.expressions.specs.Inner.Scanning.{scan_step, scan_end}
-use Rattle.expressions.specs.declared.ScanStep.{ScanStep}
-use Rattle.expressions.specs.declared.ScanStep.TheVariants.{On, Wrong}
+use Rattle.std.specs.Prelude.{Option, Some, None}
+use Rattle.expressions.specs.declared.Scan.{Scan}
 use Rattle.faults.specs.declared.State.{State}
 use Rattle.faults.specs.declared.State.TheVariants.{Start, Body, Field, Operand, Value, Digits, AfterHash, IndexDot, IndexName, RegisterName, IndirectDot, IndirectName, Closing, Done, Expression, Item, ItemDigits, ItemDone, Ended, Dead}
 
@@ -23,9 +23,9 @@ put true = AfterHash
 put false = Done
 
 -- in an expression: the scan of the crate `expressions`, at any depth
-abbrev pub scanned : ScanStep → State
-scanned (On next height) = Expression next height
-scanned Wrong = Dead
+abbrev pub scanned : Option Scan → State
+scanned (Some r) = Expression r.operand r.height
+scanned None = Dead
 
 -- behind a statement's word: "`ORG e`", "`EQU e`", "`RES e`", "`DATA` with one or more numbers and strings"; "All bytes after END as a
 -- statement's word are ignored"

@@ -9,9 +9,9 @@ ghost use Rattle.faults.specs.Forms.{put, scanned, enter, indexes, decimal, star
 ghost use Rattle.faults.specs.Inner.Stages.{opens};
 ghost use Rattle.faults.specs.declared.State.TheVariants.{AfterHash, Expression, Dead};
 
+use expressions::Scan;
 use super::State;
 use codes::registers::{IX, IY, REGISTER_COUNT, SP};
-use expressions::ScanStep;
 use expressions::scanning::scan_step;
 use expressions::symbols::mark_symbol;
 use names::Word;
@@ -207,8 +207,8 @@ fn behind_symbol(b: u8, operand: bool, height: usize) -> State
     ensures { result ≡ scanned (scan_step (mark_symbol b) operand height) }
 {
     match scan_step(mark_symbol(b), operand, height) {
-        ScanStep::On(further, now_open) => State::Expression(further, now_open),
-        ScanStep::Wrong => State::Dead,
+        Some(Scan { operand: further, height: now_open }) => State::Expression(further, now_open),
+        None => State::Dead,
     }
 }
 

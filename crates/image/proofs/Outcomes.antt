@@ -7,7 +7,8 @@ use borrow.Author.Tests.{leb-true, eqb-true, le-leb, lt-leb, eq-eqb, ne_eqb}
 use lib.ListN.{length, drop}
 use Rattle.image.specs.Image.{image_text}
 use Rattle.image.specs.Printing.{known_marks, good_loan, leaves, printed}
-use Rattle.image.specs.declared.Printed.TheVariants.{Done, BadLoan, RoomShort}
+use Rattle.std.proofs.Common.{Ok, Err}
+use Rattle.image.specs.declared.NotPrinted.TheVariants.{BadLoan, RoomShort}
 use Rattle.ports.specs.Overwriting.{overwrite}
 use Rattle.image.proofs.Texts.{both_true}
 use Rattle.texts.proofs.Rooms.{overwrite-front}
@@ -44,11 +45,11 @@ loan-good memory marks e =
 -- ---- what is left in the room
 
 module _ (memory marks room : List ℕ) where
-  pub printed-bad : good_loan memory marks ≡ false → leaves BadLoan room ≡ printed memory marks room
+  pub printed-bad : good_loan memory marks ≡ false → leaves (Err BadLoan) room ≡ printed memory marks room
   unfolding printed
   printed-bad e = rw e
 
-  pub printed-short : good_loan memory marks ≡ true → length room < length (image_text memory marks) → leaves RoomShort room ≡ printed memory marks room
+  pub printed-short : good_loan memory marks ≡ true → length room < length (image_text memory marks) → leaves (Err RoomShort) room ≡ printed memory marks room
   unfolding printed
   printed-short e h = rw (e, lt-leb (length (image_text memory marks)) (length room) h)
 
@@ -61,5 +62,5 @@ module _ (memory marks room : List ℕ) where
   pub printed-done : {after : List ℕ} {n : ℕ} → good_loan memory marks ≡ true → n ≡ length (image_text memory marks)
       → length (image_text memory marks) ≤ length room
       → after ≡ overwrite room 0 (image_text memory marks)
-      → leaves (Done n) after ≡ printed memory marks room
+      → leaves (Ok n) after ≡ printed memory marks room
   printed-done e l h w = rw (printed-room e h, w, overwrite-front room (image_text memory marks), l)

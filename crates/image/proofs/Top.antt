@@ -14,8 +14,9 @@ use Rattle.numerals.specs.Writing.{DecimalOf, decimal_before, decimal}
 use Rattle.numerals.proofs.Top as decimals
 use Rattle.image.specs.Image.{cell_line, cell_lines, claimed, image_text}
 use Rattle.image.specs.Printing.{good_loan, refusal_of, length_of, Leaves, leaves, printed}
-use Rattle.image.specs.declared.Printed.{Printed}
-use Rattle.image.specs.declared.Printed.TheVariants.{Done, BadLoan, RoomShort}
+use Rattle.std.proofs.Common.{Result, Ok, Err}
+use Rattle.image.specs.declared.NotPrinted.{NotPrinted}
+use Rattle.image.specs.declared.NotPrinted.TheVariants.{BadLoan, RoomShort}
 use Rattle.image.proofs.Texts as texts
 use Rattle.image.proofs.CellLines.{LineOf}
 use Rattle.image.proofs.CellLines as CellLines
@@ -45,16 +46,16 @@ good-exactly memory marks = (there, back)
 
 module _ (memory marks room : List ℕ) where
   -- 1: "bad lengths or a mark above 2" (01), now above 3 (02, K2), whatever the room, which is as it was.
-  pub bad-loan : (Loan memory marks → ⊥) → printed memory marks room ≡ leaves BadLoan room
+  pub bad-loan : (Loan memory marks → ⊥) → printed memory marks room ≡ leaves (Err BadLoan) room
   bad-loan n = go (good_loan memory marks) refl
     where
-      go : (b : Bool) → good_loan memory marks ≡ b → printed memory marks room ≡ leaves BadLoan room
+      go : (b : Bool) → good_loan memory marks ≡ b → printed memory marks room ≡ leaves (Err BadLoan) room
       go true e = absurd (n ((good-exactly memory marks).0 e))
       go false e = sym (outcomes.printed-bad memory marks room e)
 
   module _ (good : Loan memory marks) where
     -- "2 room short": the room is as it was.
-    pub room-short : length room < length (image_text memory marks) → printed memory marks room ≡ leaves RoomShort room
+    pub room-short : length room < length (image_text memory marks) → printed memory marks room ≡ leaves (Err RoomShort) room
     room-short h = sym (outcomes.printed-short memory marks room ((good-exactly memory marks).1 good) h)
 
     -- Room equal to the text's length is enough: the text stands at its head, and the rest is as it was.
@@ -105,17 +106,17 @@ pub examples : Examples
 examples = worked.examples
 
 -- "That two replies meeting it coincide".
-pub answers_coincide : (r s : Printed) {meaning : Leaves} {xs ys : List ℕ} → leaves r xs ≡ meaning → leaves s ys ≡ meaning → (r ≡ s) × (xs ≡ ys)
+pub answers_coincide : (r s : Result ℕ NotPrinted) {meaning : Leaves} {xs ys : List ℕ} → leaves r xs ≡ meaning → leaves s ys ≡ meaning → (r ≡ s) × (xs ≡ ys)
 answers_coincide r s p q =
     (same r s (ap (λ (a : Leaves). a.refusal) (p ∙ sym q)) (ap (λ (a : Leaves). a.text) (p ∙ sym q)), ap (λ (a : Leaves). a.room) (p ∙ sym q))
   where
-    same : (r s : Printed) → refusal_of r ≡ refusal_of s → length_of r ≡ length_of s → r ≡ s
-    same (Done n) (Done m) e f = ap Done f
-    same (Done n) BadLoan e f = absurd (omega (arith, e))
-    same (Done n) RoomShort e f = absurd (omega (arith, e))
-    same BadLoan (Done m) e f = absurd (omega (arith, e))
-    same BadLoan BadLoan e f = refl
-    same BadLoan RoomShort e f = absurd (omega (arith, e))
-    same RoomShort (Done m) e f = absurd (omega (arith, e))
-    same RoomShort BadLoan e f = absurd (omega (arith, e))
-    same RoomShort RoomShort e f = refl
+    same : (r s : Result ℕ NotPrinted) → refusal_of r ≡ refusal_of s → length_of r ≡ length_of s → r ≡ s
+    same (Ok n) (Ok m) e f = ap Ok f
+    same (Ok n) (Err BadLoan) e f = absurd (omega (arith, e))
+    same (Ok n) (Err RoomShort) e f = absurd (omega (arith, e))
+    same (Err BadLoan) (Ok m) e f = absurd (omega (arith, e))
+    same (Err BadLoan) (Err BadLoan) e f = refl
+    same (Err BadLoan) (Err RoomShort) e f = absurd (omega (arith, e))
+    same (Err RoomShort) (Ok m) e f = absurd (omega (arith, e))
+    same (Err RoomShort) (Err BadLoan) e f = absurd (omega (arith, e))
+    same (Err RoomShort) (Err RoomShort) e f = refl

@@ -4,20 +4,21 @@ use Rattle.std.specs.Prelude.{ℕ, Bool, true, cond, not, ◌&&◌, List, [], �
 use Rattle.codes.specs.Limits.{most_cells}
 use Rattle.codes.specs.Marks.{largest_mark}
 use Rattle.image.specs.Image.{image_text}
-use Rattle.image.specs.declared.Printed.{Printed}
-use Rattle.image.specs.declared.Printed.TheVariants.{Done, BadLoan, RoomShort}
+use Rattle.std.specs.Prelude.{Result, Ok, Err}
+use Rattle.image.specs.declared.NotPrinted.{NotPrinted}
+use Rattle.image.specs.declared.NotPrinted.TheVariants.{BadLoan, RoomShort}
 
 -- the paper's number of an answer, 0 where the image is printed
-abbrev pub refusal_of : Printed → ℕ
-refusal_of (Done n) = 0
-refusal_of BadLoan = 1
-refusal_of RoomShort = 2
+abbrev pub refusal_of : Result ℕ NotPrinted → ℕ
+refusal_of (Ok n) = 0
+refusal_of (Err BadLoan) = 1
+refusal_of (Err RoomShort) = 2
 
 -- the length of the text that an answer tells
-abbrev pub length_of : Printed → ℕ
-length_of (Done n) = n
-length_of BadLoan = 0
-length_of RoomShort = 0
+abbrev pub length_of : Result ℕ NotPrinted → ℕ
+length_of (Ok n) = n
+length_of (Err BadLoan) = 0
+length_of (Err RoomShort) = 0
 
 -- a refusal or 0, the text's length, and the room after
 pub record Leaves : Type 0 where
@@ -25,7 +26,7 @@ pub record Leaves : Type 0 where
   pub text : ℕ
   pub room : List ℕ
 
-abbrev pub leaves : Printed → List ℕ → Leaves
+abbrev pub leaves : Result ℕ NotPrinted → List ℕ → Leaves
 leaves answer room = record { refusal = refusal_of answer; text = length_of answer; room = room }
 
 -- no mark is above the largest

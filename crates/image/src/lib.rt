@@ -6,10 +6,9 @@ pub mod printing;
 mod lengths; // how long the text is
 mod lines; // the text, written
 
-// The length of the text that was printed; or why nothing was.
-#[derive(Clone, Copy)]
-pub enum Printed {
-    Done(usize),
+// Why no image is printed.
+#[derive(Clone, Copy, Debug, PartialEq, Eq)]
+pub enum NotPrinted {
     BadLoan,
     RoomShort,
 }

@@ -2,7 +2,7 @@
 ghost use Rattle.std.specs.Prelude.{◌≡◌};
 ghost use Rattle.image.specs.Printing.{known_marks, good_loan, leaves, printed};
 
-use super::Printed;
+use super::NotPrinted;
 use super::lengths::text_length;
 use super::lines::write;
 use codes::limits::MOST_CELLS;
@@ -39,16 +39,16 @@ pub fn good_loan(memory: &[u16], map: &[u8]) -> bool
 }
 
 // Prints memory and map at the head of a room. Nothing is written before it is certain that all of the text fits.
-pub fn print(memory: &[u16], map: &[u8], room: &mut [u8]) -> Printed
+pub fn print(memory: &[u16], map: &[u8], room: &mut [u8]) -> Result<usize, NotPrinted>
     ensures { leaves result room.new ≡ printed memory.now map.now room.old }
 {
     if !good_loan(memory, map) {
-        return Printed::BadLoan;
+        return Err(NotPrinted::BadLoan);
     }
     let length = text_length(memory, map);
     if room.len() < length {
-        return Printed::RoomShort;
+        return Err(NotPrinted::RoomShort);
     }
     write(room, memory, map);
-    Printed::Done(length)
+    Ok(length)
 }

@@ -13,9 +13,10 @@ use lib.Seq.{get_or-append_seam, get_or-append-add, drop-cons, length-take-le}
 use Rattle.isa.specs.declared.Instruction.{Instruction}
 use Rattle.isa.specs.declared.Address.{Address}
 use Rattle.isa.specs.declared.Opcode.{Opcode}
-use Rattle.isa.specs.declared.FirstWord.TheVariants.{Allowed, UnknownOpcode, UnknownMode}
+use Rattle.std.proofs.Common.{Result, Ok, Err}
+use Rattle.isa.specs.declared.Undecoded.{Undecoded}
+use Rattle.isa.specs.declared.Undecoded.TheVariants.{NoOpcode, NoMode, NoRegister, PastMemory}
 use Rattle.isa.specs.declared.Decoded.{Decoded}
-use Rattle.isa.specs.declared.Decoded.TheVariants.{Read, NoRegister, PastMemory}
 use Rattle.isa.specs.Opcodes.{table}
 use Rattle.isa.specs.Operands.{mode_of, operand_words, register_there, modes_of, one_of, operand_of}
 use Rattle.isa.specs.Inner.Words.{word_of}
@@ -69,7 +70,7 @@ second_operand_at i after h k = rw (one_word i.first (λ none. (omega arith)), o
 
 -- the words of an allowed instruction, wherever they stand, are decoded to it
 pub decode_encode : (i : Instruction) (before after : List ℕ) → allowed i ≡ true
-    → decode_of (before ++ (words_of i ++ after)) (length before) ≡ Read i (record { 0 = length before + length (words_of i) })
+    → decode_of (before ++ (words_of i ++ after)) (length before) ≡ Ok (record { instruction = i; next = (record { 0 = length before + length (words_of i) }) })
 unfolding words_of
 decode_encode i before after t =
     let m = before ++ (words_of i ++ after) in
@@ -84,11 +85,11 @@ decode_encode i before after t =
     whole m n (first_word_of i) i
     (get_or-append_seam before (first_word_of i) ((operand_words i.first ++ operand_words i.second) ++ after) 0)
     (first_word_below i) (first_word_allowed i t) (omega arith) its registers ∙
-    ap (λ (k : ℕ). Read i (record { 0 = n + k })) (sym size)
+    ap (λ (k : ℕ). (Ok (record { instruction = i; next = (record { 0 = n + k }) }))) (sym size)
 
 -- the same of words that stand at an address of a list
 pub decode_there : (i : Instruction) (m : List ℕ) (at : ℕ) → allowed i ≡ true → take (length (words_of i)) (drop at m) ≡ words_of i
-    → decode_of m at ≡ Read i (record { 0 = at + length (words_of i) })
+    → decode_of m at ≡ Ok (record { instruction = i; next = (record { 0 = at + length (words_of i) }) })
 decode_there i m at t e =
     let n = length (words_of i) in
     let rest = drop n (drop at m) in
@@ -176,34 +177,34 @@ record Decodes (m : List ℕ) (at : ℕ) (i : Instruction) (next : Address) : Ty
   its : instruction_in (get_or m at 0) (get_or m (at + 1) 0) (get_or m (at + 2) 0) ≡ i
   after : at + size_in (get_or m at 0) ≡ next.0
 
-passed : (b : Bool) (x y : Decoded) (i : Instruction) (next : Address) → 0 < stop_of x → cond b x y ≡ Read i next
-    → (b ≡ false) × (y ≡ Read i next)
+passed : (b : Bool) (x y : Result Decoded Undecoded) (i : Instruction) (next : Address) → 0 < stop_of x → cond b x y ≡ Ok (record { instruction = i; next = next })
+    → (b ≡ false) × (y ≡ Ok (record { instruction = i; next = next }))
 passed true x y i next stop e = let none = ap stop_of e in absurd (omega arith)
 passed false x y i next stop e = (refl, e)
 
-held : (b : Bool) (x y : Decoded) (i : Instruction) (next : Address) → 0 < stop_of x → cond b y x ≡ Read i next
-    → (b ≡ true) × (y ≡ Read i next)
+held : (b : Bool) (x y : Result Decoded Undecoded) (i : Instruction) (next : Address) → 0 < stop_of x → cond b y x ≡ Ok (record { instruction = i; next = next })
+    → (b ≡ true) × (y ≡ Ok (record { instruction = i; next = next }))
 held true x y i next stop e = (refl, e)
 held false x y i next stop e = let none = ap stop_of e in absurd (omega arith)
 
 -- what an instruction that was read says of its first word: below 2,496, its modes allowed, and read as one that is
 first_word_passed : (m : List ℕ) (at w : ℕ) (past modes : Bool) (o : Opcode) (i : Instruction) (next : Address)
-    → followed m at w (cond past UnknownOpcode (cond modes (Allowed o) UnknownMode)) ≡ Read i next
-    → (past ≡ false) × (modes ≡ true) × (followed m at w (Allowed o) ≡ Read i next)
+    → followed m at w (cond past (Err NoOpcode) (cond modes (Ok o) (Err NoMode))) ≡ Ok (record { instruction = i; next = next })
+    → (past ≡ false) × (modes ≡ true) × (followed m at w (Ok o) ≡ Ok (record { instruction = i; next = next }))
 first_word_passed m at w true modes o i next e = let none = ap stop_of e in absurd (omega arith)
 first_word_passed m at w false true o i next e = (refl, refl, e)
 first_word_passed m at w false false o i next e = let none = ap stop_of e in absurd (omega arith)
 
-decodes : (m : List ℕ) (at : ℕ) (i : Instruction) (next : Address) → decode_of m at ≡ Read i next → Decodes m at i next
+decodes : (m : List ℕ) (at : ℕ) (i : Instruction) (next : Address) → decode_of m at ≡ Ok (record { instruction = i; next = next }) → Decodes m at i next
 unfolding decode_of decode_word first_word_read read_unless
 decodes m at i next e =
     let w = get_or m at 0 in
     let x = instruction_in w (get_or m (at + 1) 0) (get_or m (at + 2) 0) in
     let n = at + size_in w in
-    let p1 = passed (leb (length m) at) PastMemory (decode_word m at w) i next (omega arith) e in
+    let p1 = passed (leb (length m) at) (Err PastMemory) (decode_word m at w) i next (omega arith) e in
     let p2 = first_word_passed m at w (leb 2496 w) (modes_allowed w) (opcode_in w) i next p1.1 in
-    let p4 = passed (ltb (length m) n) PastMemory (read_unless x n) i next (omega arith) p2.2 in
-    let p5 = held (registers_there x) NoRegister (Read x (record { 0 = n })) i next (omega arith) p4.1 in
+    let p4 = passed (ltb (length m) n) (Err PastMemory) (read_unless x n) i next (omega arith) p2.2 in
+    let p5 = held (registers_there x) (Err NoRegister) (Ok (record { instruction = x; next = (record { 0 = n }) })) i next (omega arith) p4.1 in
     let read = p5.1 in
     let to : ◌≡◌ {A = Address} (record { 0 = n }) next = cc in
     record {
@@ -244,7 +245,7 @@ pub record Returns (m : List ℕ) (at : ℕ) (i : Instruction) (next : Address) 
   pub within : next.0 ≤ length m
   pub short : next.0 ≤ at + 3
 
-pub encode_decode : (m : List ℕ) (at : ℕ) (i : Instruction) (next : Address) → decode_of m at ≡ Read i next → Returns m at i next
+pub encode_decode : (m : List ℕ) (at : ℕ) (i : Instruction) (next : Address) → decode_of m at ≡ Ok (record { instruction = i; next = next }) → Returns m at i next
 encode_decode m at i next e =
     let d = decodes m at i next e in
     let w = get_or m at 0 in
@@ -266,7 +267,7 @@ encode_decode m at i next e =
     }
 
 -- an instruction that was read ends behind its words
-pub size-read : (m : List ℕ) (at : ℕ) (i : Instruction) (next : Address) → decode_of m at ≡ Read i next → at + length (words_of i) ≡ next.0
+pub size-read : (m : List ℕ) (at : ℕ) (i : Instruction) (next : Address) → decode_of m at ≡ Ok (record { instruction = i; next = next }) → at + length (words_of i) ≡ next.0
 size-read m at i next e =
     let r = encode_decode m at i next e in
     let l = length-take-le (next.0 - at) (drop at m) (omega (arith, r.within, length-drop at m)) in

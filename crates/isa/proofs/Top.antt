@@ -14,7 +14,7 @@ use Rattle.isa.specs.declared.Operand.{Operand}
 use Rattle.isa.specs.declared.Operand.TheVariants.{Absent, Register, IndexedSp, Relative}
 use Rattle.isa.specs.declared.Instruction.{Instruction}
 use Rattle.isa.specs.declared.Address.{Address}
-use Rattle.isa.specs.declared.Decoded.TheVariants.{Read}
+use Rattle.std.proofs.Common.{Option, Ok}
 use Rattle.isa.specs.declared.Encoded.{Encoded}
 use Rattle.isa.specs.Opcodes.{table, opcodes, opcode_of, count_of}
 use Rattle.isa.specs.Operands.{allows, operand_of}
@@ -43,11 +43,11 @@ words_count = words.words_count
 
 -- What is encoded is decoded to itself, with the address after it, wherever its words stand
 pub decode_encode : (i : Instruction) (before after : List ℕ) → allowed i ≡ true
-    → decode_of (before ++ (words_of i ++ after)) (length before) ≡ Read i (record { 0 = length before + length (words_of i) })
+    → decode_of (before ++ (words_of i ++ after)) (length before) ≡ Ok (record { instruction = i; next = (record { 0 = length before + length (words_of i) }) })
 decode_encode = round_trip.decode_encode
 
 -- What is decoded is an allowed instruction whose words, operand words included, are those that were read; they are all there
-pub encode_decode : (m : List ℕ) (at : ℕ) (i : Instruction) (next : Address) → decode_of m at ≡ Read i next
+pub encode_decode : (m : List ℕ) (at : ℕ) (i : Instruction) (next : Address) → decode_of m at ≡ Ok (record { instruction = i; next = next })
     → (allowed i ≡ true) × ((encode_of i).words ≡ take (next.0 - at) (drop at m)) × (at < next.0) × (next.0 ≤ length m)
 encode_decode m at i next e =
     let r = round_trip.encode_decode m at i next e in
@@ -126,5 +126,5 @@ pub one-reply : {A : Type 0} {meaning r s : A} → r ≡ meaning → s ≡ meani
 one-reply e f = e ∙ sym f
 
 -- and the encoder's says its number and words, so two answers that keep it are one
-pub one-encoding : {meaning : Encoding} {r s : Encoded} → answered r ≡ meaning → answered s ≡ meaning → r ≡ s
+pub one-encoding : {meaning : Encoding} {r s : Option Encoded} → answered r ≡ meaning → answered s ≡ meaning → r ≡ s
 one-encoding {r = r} {s = s} e f = words.same_answer r s (e ∙ sym f)

@@ -11,7 +11,8 @@ use Rattle.isa.specs.declared.Opcode.{Opcode}
 use Rattle.isa.specs.declared.Operand.{Operand}
 use Rattle.isa.specs.declared.Instruction.{Instruction}
 use Rattle.isa.specs.declared.Encoded.{Encoded}
-use Rattle.isa.specs.declared.Encoded.TheVariants.{One, Two, Three, Refused}
+use Rattle.std.proofs.Common.{Option, Some, None}
+use Rattle.isa.specs.declared.Encoded.TheVariants.{One, Two, Three}
 use Rattle.isa.specs.Opcodes.{table, opcodes, opcode_of, present_in, count_of}
 use Rattle.isa.specs.Operands.{mode_of, operand_words, register_there, modes_of, one_of, seventh_fits, allows}
 use Rattle.isa.specs.Encoding.{first_word_of, words_of, allowed, Encoding, encoding, encode_of, refusal_of, words_in, answered}
@@ -132,11 +133,11 @@ unfolding words_of
 words_handed_back i =
     handed-back (first_word_of i) (operand_words i.first) (operand_words i.second) (at_most_one i.first) (at_most_one i.second)
 
-no_refusal : (e : Encoded) (w : ℕ) (ws : List ℕ) → words_in e ≡ w ∷ ws → refusal_of e ≡ 0
-no_refusal (One a) w ws e = refl
-no_refusal (Two a b) w ws e = refl
-no_refusal (Three a b c) w ws e = refl
-no_refusal Refused w ws e = let z : ◌≡◌ {A = ℕ} 0 1 = cc in absurd (omega arith)
+no_refusal : (e : Option Encoded) (w : ℕ) (ws : List ℕ) → words_in e ≡ w ∷ ws → refusal_of e ≡ 0
+no_refusal (Some (One a)) w ws e = refl
+no_refusal (Some (Two a b)) w ws e = refl
+no_refusal (Some (Three a b c)) w ws e = refl
+no_refusal None w ws e = let z : ◌≡◌ {A = ℕ} 0 1 = cc in absurd (omega arith)
 
 -- an allowed instruction is handed back as its words, whichever way its first word was found
 pub encoded : (i : Instruction) (w : ℕ) → allowed i ≡ true → w ≡ first_word_of i
@@ -165,11 +166,11 @@ module _ (i : Instruction) where
       by false = refl
 
 -- an answer is told by its words
-back_in_hand : (e : Encoded) → handed_back (words_in e) ≡ e
-back_in_hand (One a) = refl
-back_in_hand (Two a b) = refl
-back_in_hand (Three a b c) = refl
-back_in_hand Refused = refl
+back_in_hand : (e : Option Encoded) → handed_back (words_in e) ≡ e
+back_in_hand (Some (One a)) = refl
+back_in_hand (Some (Two a b)) = refl
+back_in_hand (Some (Three a b c)) = refl
+back_in_hand None = refl
 
-pub same_answer : (e f : Encoded) → answered e ≡ answered f → e ≡ f
+pub same_answer : (e f : Option Encoded) → answered e ≡ answered f → e ≡ f
 same_answer e f q = sym (back_in_hand e) ∙ ap (λ (x : Encoding). handed_back x.words) q ∙ back_in_hand f

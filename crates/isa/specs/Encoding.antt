@@ -7,7 +7,8 @@ use Rattle.isa.specs.Opcodes.{table}
 use Rattle.isa.specs.Operands.{mode_of, operand_words, register_there, allows}
 use Rattle.isa.specs.declared.Instruction.{Instruction}
 use Rattle.isa.specs.declared.Encoded.{Encoded}
-use Rattle.isa.specs.declared.Encoded.TheVariants.{One, Two, Three, Refused}
+use Rattle.std.specs.Prelude.{Option, Some, None}
+use Rattle.isa.specs.declared.Encoded.TheVariants.{One, Two, Three}
 
 -- "First word = opcode × 64 + mode1 × 8 + mode2"
 unfoldable pub first_word_of : Instruction → ℕ
@@ -36,18 +37,18 @@ unfoldable pub encode_of : Instruction → Encoding
 encode_of i = cond (allowed i) (encoding 0 (words_of i)) (encoding 5 [])
 
 -- the paper's number for an answer, and the words it stands for
-abbrev pub refusal_of : Encoded → ℕ
-refusal_of (One w) = 0
-refusal_of (Two w a) = 0
-refusal_of (Three w a b) = 0
-refusal_of Refused = 5
+abbrev pub refusal_of : Option Encoded → ℕ
+refusal_of (Some (One w)) = 0
+refusal_of (Some (Two w a)) = 0
+refusal_of (Some (Three w a b)) = 0
+refusal_of None = 5
 
-abbrev pub words_in : Encoded → List ℕ
-words_in (One w) = w ∷ []
-words_in (Two w a) = w ∷ a ∷ []
-words_in (Three w a b) = w ∷ a ∷ b ∷ []
-words_in Refused = []
+abbrev pub words_in : Option Encoded → List ℕ
+words_in (Some (One w)) = w ∷ []
+words_in (Some (Two w a)) = w ∷ a ∷ []
+words_in (Some (Three w a b)) = w ∷ a ∷ b ∷ []
+words_in None = []
 
 -- what an answer says
-abbrev pub answered : Encoded → Encoding
+abbrev pub answered : Option Encoded → Encoding
 answered r = encoding (refusal_of r) (words_in r)

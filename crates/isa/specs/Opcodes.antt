@@ -9,8 +9,7 @@ use Rattle.isa.specs.declared.Opcode.{Opcode}
 use Rattle.isa.specs.declared.Opcode.TheVariants.{NOP, HALT, MOVE, PUSH, POP, ADD, SUB, MUL, DIV, MOD, INC, DEC, NEG, CMP, AND, OR, XOR, NOT}
 use Rattle.isa.specs.declared.Opcode.TheVariants.{BR, BZ, BNZ, BP, BNP, BN, BNN, BV, BNV, BC, BNC, BE, BO, CALL, RET}
 use Rattle.isa.specs.declared.Opcode.TheVariants.{INCHAR, ININT, INSTR, WRCHAR, WRINT, WRSTR}
-use Rattle.isa.specs.declared.FoundOpcode.{FoundOpcode}
-use Rattle.isa.specs.declared.FoundOpcode.TheVariants.{Known, Unknown}
+use Rattle.std.specs.Prelude.{Option, Some, None}
 use Rattle.isa.specs.declared.Row.{Row}
 use Rattle.isa.specs.declared.Kinds.{Kinds}
 use Rattle.isa.specs.declared.Kinds.TheVariants.{Nothing, Source, Destination, Place, Target}
@@ -77,8 +76,8 @@ unfoldable pub opcode_of : ℕ → Opcode
 opcode_of n = get_or opcodes n NOP
 
 -- the opcode of a number, if there is one
-unfoldable pub found_of : ℕ → FoundOpcode
-found_of n = cond (ltb n 39) (Known (opcode_of n)) Unknown
+unfoldable pub found_of : ℕ → Option Opcode
+found_of n = cond (ltb n 39) (Some (opcode_of n)) None
 
 -- the table's line without the name, as the code hands it on
 abbrev pub row_of : Opcode → Row

@@ -4,26 +4,26 @@ ghost use Rattle.isa.specs.Decoding.{first_word_read, size_in, read_unless, deco
 
 use super::opcodes::{opcode, row};
 use super::operands::{operand, permits, register_there};
-use super::{Address, Decoded, FirstWord, FoundOpcode, Instruction, Opcode};
+use super::{Address, Decoded, Instruction, Opcode, Undecoded};
 
 // What a first word alone decides: the one place that a table of 2,496 entries may replace.
-pub fn first_word(w: u16) -> FirstWord
+pub fn first_word(w: u16) -> Result<Opcode, Undecoded>
     ensures { result ≡ first_word_read w }
 {
     match opcode(w / 64) {
-        FoundOpcode::Known(op) => {
+        Some(op) => {
             let its = row(op);
             let k1 = its.first;
             let k2 = its.second;
             if !permits(k1, w / 8 % 8) {
-                return FirstWord::UnknownMode;
+                return Err(Undecoded::NoMode);
             }
             if !permits(k2, w % 8) {
-                return FirstWord::UnknownMode;
+                return Err(Undecoded::NoMode);
             }
-            FirstWord::Allowed(op)
+            Ok(op)
         }
-        FoundOpcode::Unknown => FirstWord::UnknownOpcode,
+        None => Err(Undecoded::NoOpcode),
     }
 }
 
@@ -45,28 +45,28 @@ pub fn word_at(m: &[u16], at: usize) -> u16
     if at < m.len() { m[at] } else { 0 }
 }
 
-fn read_unless(i: Instruction, after: usize) -> Decoded
+fn read_unless(i: Instruction, after: usize) -> Result<Decoded, Undecoded>
     ensures { result ≡ read_unless i after }
 {
     let a = i.first;
     let b = i.second;
     if !register_there(a) {
-        return Decoded::NoRegister;
+        return Err(Undecoded::NoRegister);
     }
     if !register_there(b) {
-        return Decoded::NoRegister;
+        return Err(Undecoded::NoRegister);
     }
-    Decoded::Read(i, Address(after))
+    Ok(Decoded { instruction: i, next: Address(after) })
 }
 
 // The operands of an opcode whose first word w stands at a place.
-fn operands_at(m: &[u16], at: usize, w: u16, op: Opcode) -> Decoded
-    requires { (at < length m.now) × (first_word_read w ≡ FirstWord.Allowed op) }
+fn operands_at(m: &[u16], at: usize, w: u16, op: Opcode) -> Result<Decoded, Undecoded>
+    requires { (at < length m.now) × (first_word_read w ≡ Ok op) }
     ensures { result ≡ decode_word m.now at w }
 {
     let size = size_of(w);
     if m.len() - at < size {
-        return Decoded::PastMemory;
+        return Err(Undecoded::PastMemory);
     }
     let its = row(op);
     let k1 = its.first;
@@ -84,17 +84,14 @@ fn operands_at(m: &[u16], at: usize, w: u16, op: Opcode) -> Decoded
 }
 
 // The instruction that stands at an address of a list of words.
-pub fn decode(m: &[u16], at: Address) -> Decoded
+pub fn decode(m: &[u16], at: Address) -> Result<Decoded, Undecoded>
     ensures { result ≡ decode_of m.now at.0 }
 {
     let from = at.0;
     if m.len() <= from {
-        return Decoded::PastMemory;
+        return Err(Undecoded::PastMemory);
     }
     let w = m[from];
-    match first_word(w) {
-        FirstWord::Allowed(op) => operands_at(m, from, w, op),
-        FirstWord::UnknownOpcode => Decoded::NoOpcode,
-        FirstWord::UnknownMode => Decoded::NoMode,
-    }
+    let op = first_word(w)?;
+    operands_at(m, from, w, op)
 }

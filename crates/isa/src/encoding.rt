@@ -30,27 +30,27 @@ fn is_allowed(i: Instruction) -> bool
 }
 
 // The first word, and then the words of the operands that are there.
-fn laid_out(first: u16, a: Operand, b: Operand) -> Encoded
+fn laid_out(first: u16, a: Operand, b: Operand) -> Option<Encoded>
     ensures { result ≡ handed_back (first ∷ operand_words a ++ operand_words b) }
 {
     if mode(a) == 0 {
         if mode(b) == 0 {
-            return Encoded::One(first);
+            return Some(Encoded::One(first));
         }
-        return Encoded::Two(first, word(b));
+        return Some(Encoded::Two(first, word(b)));
     }
     if mode(b) == 0 {
-        return Encoded::Two(first, word(a));
+        return Some(Encoded::Two(first, word(a)));
     }
-    Encoded::Three(first, word(a), word(b))
+    Some(Encoded::Three(first, word(a), word(b)))
 }
 
 // The words of an allowed instruction; any other is refused with 5.
-pub fn encode(i: Instruction) -> Encoded
+pub fn encode(i: Instruction) -> Option<Encoded>
     ensures { answered result ≡ encode_of i }
 {
     if !is_allowed(i) {
-        return Encoded::Refused;
+        return None;
     }
     let op = i.op;
     let a = i.first;

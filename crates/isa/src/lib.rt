@@ -2,13 +2,18 @@
 // The meaning is in specs/: Opcodes.antt has the table, Encoding.antt and Decoding.antt the words.
 #![tactic(auto)]
 
+ghost use Rattle.std.specs.Prelude.{◌≡◌};
+ghost use Rattle.isa.specs.Decoding.{undecoded_stop};
+
+use codes::stops::{MEMORY_END, NO_MODE, NO_OPCODE, NO_REGISTER};
+
 pub mod decoding; // words to an instruction
 pub mod encoding; // an instruction to its words
 pub mod opcodes; // the table of the 39 opcodes
 pub mod operands; // modes, words, and what an opcode allows
 
 // The address of a cell of memory, and the counter of the next one: 0 to 65536. Never a line number.
-#[derive(Clone, Copy)]
+#[derive(Clone, Copy, Debug, PartialEq, Eq)]
 pub struct Address(pub usize);
 
 // The opcodes, named as the paper names them, in the order of their numbers.
@@ -95,36 +100,40 @@ pub struct Row {
     pub second: Kinds,
 }
 
-// The opcode of a number, if there is one.
-#[derive(Clone, Copy)]
-pub enum FoundOpcode {
-    Known(Opcode),
-    Unknown,
-}
-
-// The encoder's answer: the words, or refusal 5.
+// The encoder's words.
 #[derive(Clone, Copy)]
 pub enum Encoded {
     One(u16),
     Two(u16, u16),
     Three(u16, u16, u16),
-    Refused,
 }
 
-// What a first word alone decides.
+// An instruction that was decoded, with the address after it.
 #[derive(Clone, Copy)]
-pub enum FirstWord {
-    Allowed(Opcode),
-    UnknownOpcode,
-    UnknownMode,
+pub struct Decoded {
+    pub instruction: Instruction,
+    pub next: Address,
 }
 
-// The decoder's answer: the instruction with the address after it, or stop 2, 3, 4 or 5.
-#[derive(Clone, Copy)]
-pub enum Decoded {
-    Read(Instruction, Address),
+// Why words are no instruction: stop 2, 3, 4 or 5.
+#[derive(Clone, Copy, Debug, PartialEq, Eq)]
+pub enum Undecoded {
     NoOpcode,
     NoMode,
     NoRegister,
     PastMemory,
+}
+
+impl From<Undecoded> for u8 {
+    ghost from_gives = { λ why k. k ≡ undecoded_stop why };
+
+    // The stop's number.
+    fn from(why: Undecoded) -> u8 {
+        match why {
+            Undecoded::NoOpcode => NO_OPCODE,
+            Undecoded::NoMode => NO_MODE,
+            Undecoded::NoRegister => NO_REGISTER,
+            Undecoded::PastMemory => MEMORY_END,
+        }
+    }
 }

@@ -2,7 +2,7 @@
 ghost use Rattle.std.specs.Prelude.{◌≡◌};
 ghost use Rattle.isa.specs.Opcodes.{opcode_of, row_of, found_of, count_of, present_in};
 
-use super::{FoundOpcode, Kinds, Opcode, Row};
+use super::{Kinds, Opcode, Row};
 
 fn made(number: u16, first: Kinds, second: Kinds) -> Row
     ensures { result ≡ record { number = number; first = first; second = second } }
@@ -67,13 +67,13 @@ pub fn row(op: Opcode) -> Row
 }
 
 // The opcode of a number.
-pub fn opcode(number: u16) -> FoundOpcode
+pub fn opcode(number: u16) -> Option<Opcode>
     ensures { result ≡ found_of number }
 {
     if number < 39 {
-        FoundOpcode::Known(numbered(number))
+        Some(numbered(number))
     } else {
-        FoundOpcode::Unknown
+        None
     }
 }
 

@@ -15,15 +15,16 @@ use Rattle.items.specs.Items.{Item, number, string, Items, cells_of, all_in_rang
 use Rattle.items.specs.Reading.{characters, item, reads, walk, items_read}
 use Rattle.items.specs.Writing.{cells_from}
 use Rattle.items.specs.Places.{digits_out, starts_out, out_from, number_out_in}
-use Rattle.items.specs.declared.ItemsRead.{ItemsRead}
-use Rattle.items.specs.declared.ItemsRead.TheVariants.{Cells, WrongForm, OutOfRange}
+use Rattle.std.proofs.Common.{Result, Ok, Err}
+use Rattle.items.specs.declared.ItemsFault.{ItemsFault}
+use Rattle.items.specs.declared.ItemsFault.TheVariants.{WrongForm, OutOfRange}
 use Rattle.items.proofs.Readings.{in_line, sound}
 
 -- what follows the word DATA at a line's start
 abbrev pub ItemsIn : String → List Item → Type 0
 ItemsIn line is = Items (bytes line) (tokens_from (bytes line) 4) is
 
-abbrev pub data_in : String → ItemsRead
+abbrev pub data_in : String → Result ℕ ItemsFault
 data_in line = items_read (bytes line) (tokens_from (bytes line) 4)
 
 abbrev pub written : String → List ℕ
@@ -43,29 +44,29 @@ pub record Examples : Type 0 where
   -- "a backslash only as `\n` (10)"
   pub newline-items : ItemsIn "DATA \"ab\\n\",7" newline_items
   pub newline-cells : cells_of newline_items ≡ bytes "ab" ++ (10 ∷ 0 ∷ 7 ∷ [])
-  pub newline-five : data_in "DATA \"ab\\n\",7" ≡ Cells 5
+  pub newline-five : data_in "DATA \"ab\\n\",7" ≡ Ok 5
   -- `DATA "a",-1` of 01's printed image takes cells 6, 7 and 8
   pub minus_one_items : ItemsIn "DATA \"a\",-1" (string (bytes "a") ∷ number (numeral true Decimal 1) ∷ [])
   pub minus_one_cells : cells_of (string (bytes "a") ∷ number (numeral true Decimal 1) ∷ []) ≡ 97 ∷ 0 ∷ 65535 ∷ []
-  pub empty-string : data_in "DATA \"\"" ≡ Cells 1
-  pub comma_in_a_string : data_in "DATA\"a,b;\" , 0xFFFF ; 1, 2" ≡ Cells 6
+  pub empty-string : data_in "DATA \"\"" ≡ Ok 1
+  pub comma_in_a_string : data_in "DATA\"a,b;\" , 0xFFFF ; 1, 2" ≡ Ok 6
   -- "one or more numbers and strings by commas"
-  pub no_item : data_in "DATA" ≡ WrongForm
-  pub only_a_comment : data_in "DATA ; 1" ≡ WrongForm
-  pub trailing_comma : data_in "DATA 1," ≡ WrongForm
-  pub leading_comma : data_in "DATA ,1" ≡ WrongForm
-  pub no_comma : data_in "DATA 1 2" ≡ WrongForm
-  pub difference : data_in "DATA 5-3" ≡ WrongForm
-  pub label : data_in "DATA x" ≡ WrongForm
-  pub minus-apart : data_in "DATA - 5" ≡ WrongForm
-  pub minus-hexadecimal : data_in "DATA -0x5" ≡ WrongForm
-  pub broken-string : data_in "DATA 1,\"a" ≡ WrongForm
+  pub no_item : data_in "DATA" ≡ Err WrongForm
+  pub only_a_comment : data_in "DATA ; 1" ≡ Err WrongForm
+  pub trailing_comma : data_in "DATA 1," ≡ Err WrongForm
+  pub leading_comma : data_in "DATA ,1" ≡ Err WrongForm
+  pub no_comma : data_in "DATA 1 2" ≡ Err WrongForm
+  pub difference : data_in "DATA 5-3" ≡ Err WrongForm
+  pub label : data_in "DATA x" ≡ Err WrongForm
+  pub minus-apart : data_in "DATA - 5" ≡ Err WrongForm
+  pub minus-hexadecimal : data_in "DATA -0x5" ≡ Err WrongForm
+  pub broken-string : data_in "DATA 1,\"a" ≡ Err WrongForm
   -- "Range -32768..65535"
-  pub highest : data_in "DATA 65535" ≡ Cells 1
-  pub too_high : data_in "DATA 65536" ≡ OutOfRange
-  pub lowest : data_in "DATA -32768" ≡ Cells 1
-  pub too_low : data_in "DATA -32769" ≡ OutOfRange
-  pub too_high_in_the_midst : data_in "DATA 1,99999,\"a\"" ≡ OutOfRange
+  pub highest : data_in "DATA 65535" ≡ Ok 1
+  pub too_high : data_in "DATA 65536" ≡ Err OutOfRange
+  pub lowest : data_in "DATA -32768" ≡ Ok 1
+  pub too_low : data_in "DATA -32769" ≡ Err OutOfRange
+  pub too_high_in_the_midst : data_in "DATA 1,99999,\"a\"" ≡ Err OutOfRange
   -- "kept modulo 65536"
   pub numbers-written : written "DATA -2,-32768,65535,0x8000,-0" ≡ 65534 ∷ 32768 ∷ 65535 ∷ 32768 ∷ 0 ∷ []
   -- "A string takes a cell a character and a 0 cell"
@@ -74,8 +75,8 @@ pub record Examples : Type 0 where
   pub empty-written : written "DATA \"\"" ≡ 0 ∷ []
   pub refused_not_written : written "DATA 1,65536" ≡ []
   -- form 3 comes before range 6
-  pub form-first : data_in "DATA -32769," ≡ WrongForm
-  pub form_first_of_the_rest : data_in "DATA 99999,x" ≡ WrongForm
+  pub form-first : data_in "DATA -32769," ≡ Err WrongForm
+  pub form_first_of_the_rest : data_in "DATA 99999,x" ≡ Err WrongForm
   -- places, from 0: the number's first byte, its `-` included, from the left
   pub first_out : out_in "DATA 70000,80000" ≡ 5
   pub below_zero_out : out_in "DATA 1,-32769" ≡ 7

@@ -21,14 +21,15 @@ use Rattle.values.specs.Values.{plain, minus}
 use Rattle.values.specs.Values as Values
 use Rattle.values.specs.Reading.{value_by, digits_by, minus_at, value_at}
 use Rattle.values.specs.declared.Value.TheVariants.{Number}
-use Rattle.values.specs.declared.ValueRead.{ValueRead}
-use Rattle.values.specs.declared.ValueRead.TheVariants as R
+use Rattle.std.proofs.Common.{Option, Some, None}
+use Rattle.numerals.specs.Reading.{upto}
+use Rattle.numerals.specs.declared.Read.{Read}
+use Rattle.values.specs.declared.Value.{Value}
 use Rattle.values.proofs.Begins.{value_cases, digits_cases, digits-read}
 use Rattle.items.specs.Items.{Item, ItemText, is_number, is_string, Items, one, more, item_in_range, all_in_range}
 use Rattle.items.specs.Reading.{on_text, string_of}
 use Rattle.items.specs.Places.{FirstOut, alone, first, later, is_out, digits_out, starts_out, out_from, number_out_in}
 use Rattle.items.specs.Inner.Turns.{Standing, stands, none, string_at, item_by, item_at, measured}
-use Rattle.items.specs.declared.ItemRead.TheVariants.{Found, Absent}
 use Rattle.items.proofs.Measures.{found-item, no_item}
 
 -- ---- what the code finds: the item at a place
@@ -82,8 +83,8 @@ module _ (s : List ℕ) (at : ℕ) where
   minus-out =
       let next = (token_at s at).next.at in
       digits-at s next
-      ∙ digits_cases (token_at s next) (λ n b. digits-read is_out false b ∙ ap (λ (r : ValueRead). out_by (item_by s at r)) (sym (digits-read (λ n. R.Found (Number n) (token_at s next).next) R.Absent b)))
-      (λ h. h Bool is_out false ∙ sym (ap (λ (r : ValueRead). out_by (item_by s at r)) (h ValueRead (λ n. R.Found (Number n) (token_at s next).next) R.Absent) ∙ string-at s at))
+      ∙ digits_cases (token_at s next) (λ n b. digits-read is_out false b ∙ ap (λ (r : Option (Read Value)). out_by (item_by s at r)) (sym (digits-read (λ n. (Some (upto (Number n) (token_at s next).next))) None b)))
+      (λ h. h Bool is_out false ∙ sym (ap (λ (r : Option (Read Value)). out_by (item_by s at r)) (h (Option (Read Value)) (λ n. (Some (upto (Number n) (token_at s next).next))) None) ∙ string-at s at))
 
   item_out : starts_out (tokens_from s at) ≡ out_by (item_at s at)
   unfolding item_at value_at
@@ -91,12 +92,12 @@ module _ (s : List ℕ) (at : ℕ) where
       starts_at s at
       ∙ value_cases (token_at s at) (λ q. rw q) (λ v k q. rw q) (λ q. rw q (minus-out))
       (λ h. h Bool _ is_out (digits_out (tokens_from s (token_at s at).next.at)) false
-      ∙ sym (ap (λ (r : ValueRead). out_by (item_by s at r)) (h ValueRead _ (λ n. R.Found (Number n) (token_at s at).next) (minus_at s (token_at s at).next.at) R.Absent) ∙ string-at s at))
+      ∙ sym (ap (λ (r : Option (Read Value)). out_by (item_by s at r)) (h (Option (Read Value)) _ (λ n. (Some (upto (Number n) (token_at s at).next))) (minus_at s (token_at s at).next.at) None) ∙ string-at s at))
 
-  pub found-out : {n : ℕ} {b : Bool} {c : Cursor} → measured (item_at s at) ≡ Found n b c → not b ≡ starts_out (tokens_from s at)
+  pub found-out : {n : ℕ} {b : Bool} {c : Cursor} → measured (item_at s at) ≡ Some (upto (record { cells = n; fits = b }) c) → not b ≡ starts_out (tokens_from s at)
   found-out e = let h = found-item s at e in sym (item_out ∙ ap out_by h.is ∙ ap not (sym h.fits))
 
-  pub absent-out : measured (item_at s at) ≡ Absent → false ≡ starts_out (tokens_from s at)
+  pub absent-out : measured (item_at s at) ≡ None → false ≡ starts_out (tokens_from s at)
   absent-out e = sym (item_out ∙ ap out_by (no_item s at e))
 
 -- where an item begins, that item; elsewhere none

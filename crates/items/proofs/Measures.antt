@@ -9,7 +9,11 @@ use mir.Syntax.{w16}
 use mir.Val.{of_z}
 use Rattle.numerals.specs.Numbers.{value_of, in_range, kept_of}
 use Rattle.numerals.specs.declared.Cursor.{Cursor}
-use Rattle.numerals.specs.declared.Kept.TheVariants.{Cell, OutOfRange}
+use Rattle.std.proofs.Common.{Option, Some, None}
+use Rattle.numerals.specs.Reading.{upto}
+use Rattle.numerals.specs.declared.Read.{Read}
+use Rattle.values.specs.declared.Value.{Value}
+use Rattle.items.specs.declared.Measure.{Measure}
 use Rattle.numerals.specs.declared.Numeral.{Numeral}
 use Rattle.tokens.specs.Strings.{Characters}
 use Rattle.tokens.specs.Reading.{token_at}
@@ -21,33 +25,29 @@ use Rattle.tokens.proofs.Places.{token_placed}
 use Rattle.values.specs.Reading.{value_at}
 use Rattle.values.specs.declared.Name.{Name}
 use Rattle.values.specs.declared.Value.TheVariants.{Number, Label}
-use Rattle.values.specs.declared.ValueRead.{ValueRead}
-use Rattle.values.specs.declared.ValueRead.TheVariants as R
 use Rattle.values.proofs.Finds.{value-stands}
 use Rattle.tokens.proofs.Heads.{ends_of}
 use Rattle.items.specs.Items.{Item, item_cells, item_in_range}
 use Rattle.items.specs.Reading.{characters}
 use Rattle.items.specs.Inner.Turns.{Standing, stands, none, string_by, string_at, item_by, item_at, measured}
-use Rattle.items.specs.declared.ItemRead.{ItemRead}
-use Rattle.items.specs.declared.ItemRead.TheVariants.{Found, Absent}
 use Rattle.items.proofs.Counts.{characters_of, characters_fit}
 
 -- ---- ranges
 
 module _ (n : Numeral) where
-  pub kept_in : {x : ℕ} → kept_of n ≡ Cell x → in_range (value_of n) ≡ true
+  pub kept_in : {x : ℕ} → kept_of n ≡ Some x → in_range (value_of n) ≡ true
   unfolding kept_of
   kept_in {x} e = go (in_range (value_of n)) refl e
     where
-      go : (b : Bool) → in_range (value_of n) ≡ b → cond b (Cell (of_z w16 (value_of n))) OutOfRange ≡ Cell x → in_range (value_of n) ≡ true
+      go : (b : Bool) → in_range (value_of n) ≡ b → cond b (Some (of_z w16 (value_of n))) None ≡ Some x → in_range (value_of n) ≡ true
       go true q e = q
       go false q e = let z : ◌≡◌ {A = ℕ} 0 1 = cc in absurd (omega arith)
 
-  pub kept_out : kept_of n ≡ OutOfRange → in_range (value_of n) ≡ false
+  pub kept_out : kept_of n ≡ None → in_range (value_of n) ≡ false
   unfolding kept_of
   kept_out e = go (in_range (value_of n)) refl e
     where
-      go : (b : Bool) → in_range (value_of n) ≡ b → cond b (Cell (of_z w16 (value_of n))) OutOfRange ≡ OutOfRange → in_range (value_of n) ≡ false
+      go : (b : Bool) → in_range (value_of n) ≡ b → cond b (Some (of_z w16 (value_of n))) None ≡ None → in_range (value_of n) ≡ false
       go true q e = let z : ◌≡◌ {A = ℕ} 0 1 = cc in absurd (omega arith)
       go false q e = q
 
@@ -93,26 +93,26 @@ module _ (s : List ℕ) (at : ℕ) {t : Token} (e : t ≡ token_at s at) (q : t.
   string-short f = let h = quote_at s at e q in omega (arith, h.room, h.within, f h.cs (drop t.next.at s) h.reads)
 
   pub string-measured : {r : ℕ} → ((cs rest : List ℕ) → Characters (drop (t.start + 1) s) cs rest → r ≡ length cs)
-      → Found (r + 1) true t.next ≡ measured (string_at s (token_at s at))
+      → Some (upto (record { cells = (r + 1); fits = true }) t.next) ≡ measured (string_at s (token_at s at))
   string-measured {r} f =
       let h = quote_at s at e q in
       let p : r + 1 ≡ length (characters (drop (t.start + 1) s) ++ (0 ∷ [])) =
       rw (h.same, length-append h.cs (0 ∷ [])) (omega (arith, f h.cs (drop t.next.at s) h.reads)) in
-      rw (← e, q) (ap (λ (n : ℕ). Found n true t.next) p)
+      rw (← e, q) (ap (λ (n : ℕ). (Some (upto (record { cells = n; fits = true }) t.next))) p)
 
 -- ---- an item
 
 module _ (s : List ℕ) (at : ℕ) where
-  pub number-measured : {n : Numeral} {c : Cursor} {b : Bool} → value_at s at ≡ R.Found (Number n) c → b ≡ in_range (value_of n)
-      → Found 1 b c ≡ measured (item_at s at)
+  pub number-measured : {n : Numeral} {c : Cursor} {b : Bool} → value_at s at ≡ Some (upto (Number n) c) → b ≡ in_range (value_of n)
+      → Some (upto (record { cells = 1; fits = b }) c) ≡ measured (item_at s at)
   unfolding item_at
   number-measured e q = rw (e, q)
 
-  pub label-measured : {w : Name} {c : Cursor} → value_at s at ≡ R.Found (Label w) c → Absent ≡ measured (item_at s at)
+  pub label-measured : {w : Name} {c : Cursor} → value_at s at ≡ Some (upto (Label w) c) → None ≡ measured (item_at s at)
   unfolding item_at
   label-measured e = rw e
 
-  pub other-measured : {r : ItemRead} → value_at s at ≡ R.Absent → r ≡ measured (string_at s (token_at s at)) → r ≡ measured (item_at s at)
+  pub other-measured : {r : Option (Read Measure)} → value_at s at ≡ None → r ≡ measured (string_at s (token_at s at)) → r ≡ measured (item_at s at)
   unfolding item_at
   other-measured e q = rw e q
 
@@ -136,10 +136,10 @@ module _ (s : List ℕ) (at : ℕ) where
           (omega (arith, h.after, h.room), omega (arith, h.after, h.room, p), h.within)
       text (K.Mark b) q = tt
 
-      go : (r : ValueRead) → value_at s at ≡ r → Small (item_by s at r)
+      go : (r : Option (Read Value)) → value_at s at ≡ r → Small (item_by s at r)
       go (R.Found (Number n) c) e = let h = value-stands s at e in (h.moved, omega (arith, h.moved), h.within)
       go (R.Found (Label w) c) e = tt
-      go R.Absent e = text (token_at s at).kind refl
+      go None e = text (token_at s at).kind refl
 
   -- the item that the code found
   pub record FoundItem (n : ℕ) (b : Bool) (c : Cursor) : Type 0 where
@@ -151,10 +151,10 @@ module _ (s : List ℕ) (at : ℕ) where
     pub few : at + n ≤ c.at
     pub within : c.at ≤ length s
 
-  pub found-item : {n : ℕ} {b : Bool} {c : Cursor} → measured (item_at s at) ≡ Found n b c → FoundItem n b c
+  pub found-item : {n : ℕ} {b : Bool} {c : Cursor} → measured (item_at s at) ≡ Some (upto (record { cells = n; fits = b }) c) → FoundItem n b c
   found-item {n} {b} {c} e = go (item_at s at) refl small e
     where
-      go : (r : Standing) → item_at s at ≡ r → Small r → measured r ≡ Found n b c → FoundItem n b c
+      go : (r : Standing) → item_at s at ≡ r → Small r → measured r ≡ Some (upto (record { cells = n; fits = b }) c) → FoundItem n b c
       go (stands i d) q h e =
           let p : d ≡ c = cc in
           let m : length (item_cells i) ≡ n = cc in
@@ -170,9 +170,9 @@ module _ (s : List ℕ) (at : ℕ) where
           }
       go none q h e = let z : ◌≡◌ {A = ℕ} 0 1 = cc in absurd (omega arith)
 
-  pub no_item : measured (item_at s at) ≡ Absent → item_at s at ≡ none
+  pub no_item : measured (item_at s at) ≡ None → item_at s at ≡ none
   no_item e = go (item_at s at) refl e
     where
-      go : (r : Standing) → item_at s at ≡ r → measured r ≡ Absent → item_at s at ≡ none
+      go : (r : Standing) → item_at s at ≡ r → measured r ≡ None → item_at s at ≡ none
       go (stands i d) q e = let z : ◌≡◌ {A = ℕ} 0 1 = cc in absurd (omega arith)
       go none q e = q

@@ -3,20 +3,21 @@ use Prim.Native.Nat.{ℕ}
 use mathlib.Core.Path.{◌≡◌, refl}
 use native.Mathlib.Omega.{arith}
 use Rattle.items.specs.Reading.{refusal_of}
-use Rattle.items.specs.declared.ItemsRead.{ItemsRead}
-use Rattle.items.specs.declared.ItemsRead.TheVariants.{Cells, WrongForm, OutOfRange}
+use Rattle.std.proofs.Common.{Result, Ok, Err}
+use Rattle.items.specs.declared.ItemsFault.{ItemsFault}
+use Rattle.items.specs.declared.ItemsFault.TheVariants.{WrongForm, OutOfRange}
 
-pub number_0 : (r : ItemsRead) → refusal_of r ≡ 0 → (n : ℕ) × (r ≡ Cells n)
-number_0 (Cells n) e = (n, refl)
-number_0 WrongForm e = absurd (omega arith)
-number_0 OutOfRange e = absurd (omega arith)
+pub number_0 : (r : Result ℕ ItemsFault) → refusal_of r ≡ 0 → (n : ℕ) × (r ≡ Ok n)
+number_0 (Ok n) e = (n, refl)
+number_0 (Err WrongForm) e = absurd (omega arith)
+number_0 (Err OutOfRange) e = absurd (omega arith)
 
-pub number_3 : (r : ItemsRead) → refusal_of r ≡ 3 → r ≡ WrongForm
-number_3 (Cells n) e = absurd (omega arith)
-number_3 WrongForm e = refl
-number_3 OutOfRange e = absurd (omega arith)
+pub number_3 : (r : Result ℕ ItemsFault) → refusal_of r ≡ 3 → r ≡ Err WrongForm
+number_3 (Ok n) e = absurd (omega arith)
+number_3 (Err WrongForm) e = refl
+number_3 (Err OutOfRange) e = absurd (omega arith)
 
-pub number_6 : (r : ItemsRead) → refusal_of r ≡ 6 → r ≡ OutOfRange
-number_6 (Cells n) e = absurd (omega arith)
-number_6 WrongForm e = absurd (omega arith)
-number_6 OutOfRange e = refl
+pub number_6 : (r : Result ℕ ItemsFault) → refusal_of r ≡ 6 → r ≡ Err OutOfRange
+number_6 (Ok n) e = absurd (omega arith)
+number_6 (Err WrongForm) e = absurd (omega arith)
+number_6 (Err OutOfRange) e = refl

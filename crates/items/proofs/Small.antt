@@ -17,7 +17,7 @@ use Rattle.tokens.specs.declared.Token.{Token}
 use Rattle.tokens.proofs.Classes.{inside}
 use Rattle.tokens.proofs.Quoted.{plain_is}
 use Rattle.items.specs.Items.{Item, ItemText, is_number, is_string, Items, one, more, item_cells, item_in_range, cells_of, all_in_range}
-use Rattle.items.specs.Reading.{item, Result, reads, wrong, walk}
+use Rattle.items.specs.Reading.{item, RowRead, reads, wrong, walk}
 use Rattle.items.specs.Writing.{accepted_cells, cells_from}
 use Rattle.items.proofs.Readings.{in_line, sound}
 use Rattle.items.proofs.Writes.{first}
@@ -66,6 +66,6 @@ module _ (line : List ℕ) where
       by_range is true r q = items-small r q
       by_range is false r q = none-small
 
-      go : (x : Result) → walk line item (tokens_from line at) ≡ x → Small (accepted_cells x)
+      go : (x : RowRead) → walk line item (tokens_from line at) ≡ x → Small (accepted_cells x)
       go (reads is) e = by_range is (all_in_range is) (sound line (in_line line at) e) refl
       go wrong e = none-small

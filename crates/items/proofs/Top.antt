@@ -8,7 +8,8 @@ use native.Mathlib.Omega.{arith}
 use lib.ListN.{length, get_or, take, drop}
 use lib.Seq.{sets, sets-eq}
 use Rattle.numerals.specs.Numbers.{kept_of}
-use Rattle.numerals.specs.declared.Kept.TheVariants.{Cell}
+use Rattle.std.proofs.Common.{Some, Ok, Err}
+use Rattle.items.specs.declared.ItemsFault.TheVariants.{WrongForm, OutOfRange}
 use Rattle.numerals.specs.declared.Numeral.{Numeral}
 use Rattle.tokens.specs.Reading.{tokens_from}
 use Rattle.tokens.specs.declared.Token.{Token}
@@ -16,7 +17,6 @@ use Rattle.items.specs.Items.{Item, number, Items, item_cells, cells_of, all_in_
 use Rattle.items.specs.Reading.{item, reads, wrong, walk, items_read, refusal_of}
 use Rattle.items.specs.Writing.{cells_from}
 use Rattle.items.specs.Places.{FirstOut, number_out_in}
-use Rattle.items.specs.declared.ItemsRead.TheVariants.{Cells, WrongForm, OutOfRange}
 use Rattle.items.proofs.Readings as Readings
 use Rattle.items.proofs.Readings.{in_line}
 use Rattle.items.proofs.Bounds as Bounds
@@ -48,32 +48,32 @@ no_reading line at = (Verdicts.wrong-none line (tokens_from line at), Verdicts.n
 
 -- So many cells, exactly where there are items, every number of them in range, that take so many cells.
 pub cells-exactly : (line : List ℕ) (at : ℕ) {n : ℕ}
-    → (items_read line (tokens_from line at) ≡ Cells n)
+    → (items_read line (tokens_from line at) ≡ Ok n)
     ↔ ((is : List Item) × Items line (tokens_from line at) is × (all_in_range is ≡ true) × (n ≡ length (cells_of is)))
 cells-exactly line at {n} =
     let ts = tokens_from line at in
-    (Verdicts.reply-says line ts (in_line line at), Verdicts.says-reply line ts (in_line line at) (Cells n))
+    (Verdicts.reply-says line ts (in_line line at), Verdicts.says-reply line ts (in_line line at) (Ok n))
 
 -- They are no more than the bytes that are left of the line: a caller can count on.
-pub few-cells : (line : List ℕ) (at : ℕ) {n : ℕ} → items_read line (tokens_from line at) ≡ Cells n → at + n ≤ length line
+pub few-cells : (line : List ℕ) (at : ℕ) {n : ℕ} → items_read line (tokens_from line at) ≡ Ok n → at + n ≤ length line
 few-cells line at e =
     let h = (cells-exactly line at).0 e in
     omega (arith, h.3, Bounds.few-cells line at ((items-exactly line at).1 h.1))
 
 -- Refusal 6, exactly where there are items and a number of them is out of range.
 pub range_exactly : (line : List ℕ) (at : ℕ)
-    → (items_read line (tokens_from line at) ≡ OutOfRange)
+    → (items_read line (tokens_from line at) ≡ Err OutOfRange)
     ↔ ((is : List Item) × Items line (tokens_from line at) is × (all_in_range is ≡ false))
 range_exactly line at =
     let ts = tokens_from line at in
-    (Verdicts.reply-says line ts (in_line line at), Verdicts.says-reply line ts (in_line line at) OutOfRange)
+    (Verdicts.reply-says line ts (in_line line at), Verdicts.says-reply line ts (in_line line at) (Err OutOfRange))
 
 -- Refusal 3, exactly where there are no items.
 pub form-exactly : (line : List ℕ) (at : ℕ)
-    → (items_read line (tokens_from line at) ≡ WrongForm) ↔ ((is : List Item) → Items line (tokens_from line at) is → ⊥)
+    → (items_read line (tokens_from line at) ≡ Err WrongForm) ↔ ((is : List Item) → Items line (tokens_from line at) is → ⊥)
 form-exactly line at =
     let ts = tokens_from line at in
-    (Verdicts.reply-says line ts (in_line line at), Verdicts.says-reply line ts (in_line line at) WrongForm)
+    (Verdicts.reply-says line ts (in_line line at), Verdicts.says-reply line ts (in_line line at) (Err WrongForm))
 
 -- The same by the paper's numbers: 0, 3, 6, each answered exactly where its check is the first that fails.
 module _ (line : List ℕ) (at : ℕ) where
@@ -101,25 +101,25 @@ written-exactly line at r q = rw (Readings.complete line r, q)
 
 -- Nothing, where the items are refused.
 pub refused_writes_none : (line : List ℕ) (at : ℕ)
-    → (items_read line (tokens_from line at) ≡ WrongForm) ⊎ (items_read line (tokens_from line at) ≡ OutOfRange)
+    → (items_read line (tokens_from line at) ≡ Err WrongForm) ⊎ (items_read line (tokens_from line at) ≡ Err OutOfRange)
     → cells_from line (tokens_from line at) ≡ []
 unfolding cells_from
 refused_writes_none line at = ⊎_elim (Writes.given line (tokens_from line at)) (Writes.given line (tokens_from line at))
 
 -- As many cells as `items` says.
-pub as_many : (line : List ℕ) (at : ℕ) {n : ℕ} → items_read line (tokens_from line at) ≡ Cells n → length (cells_from line (tokens_from line at)) ≡ n
+pub as_many : (line : List ℕ) (at : ℕ) {n : ℕ} → items_read line (tokens_from line at) ≡ Ok n → length (cells_from line (tokens_from line at)) ≡ n
 unfolding cells_from
 as_many line at e = (Writes.given line (tokens_from line at) e).1
 
 -- Where the row has room for them they stand at their place, and all else is as it was.
-pub in_place : (line : List ℕ) (at : ℕ) {n : ℕ} (row : List ℕ) (to : ℕ) → items_read line (tokens_from line at) ≡ Cells n → to + n ≤ length row
+pub in_place : (line : List ℕ) (at : ℕ) {n : ℕ} (row : List ℕ) (to : ℕ) → items_read line (tokens_from line at) ≡ Ok n → to + n ≤ length row
     → sets row to (cells_from line (tokens_from line at)) ≡ take to row ++ cells_from line (tokens_from line at) ++ drop (to + n) row
 in_place line at row to e h =
     let l = as_many line at e in
     sets-eq (cells_from line (tokens_from line at)) row to (omega arith) ∙ rw l
 
 -- A number's cell is the one that keeps it.
-pub number-cell : (n : Numeral) {x : ℕ} → kept_of n ≡ Cell x → item_cells (number n) ≡ x ∷ []
+pub number-cell : (n : Numeral) {x : ℕ} → kept_of n ≡ Some x → item_cells (number n) ≡ x ∷ []
 number-cell = Writes.number-cell
 
 -- Each is a cell.

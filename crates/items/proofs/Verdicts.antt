@@ -7,9 +7,10 @@ use lib.ListN.{length}
 use Rattle.tokens.specs.declared.Token.{Token}
 use Rattle.values.proofs.Walks.{never}
 use Rattle.items.specs.Items.{Item, Items, cells_of, all_in_range}
-use Rattle.items.specs.Reading.{item, Result, reads, wrong, walk, judged, items_read}
-use Rattle.items.specs.declared.ItemsRead.{ItemsRead}
-use Rattle.items.specs.declared.ItemsRead.TheVariants.{Cells, WrongForm, OutOfRange}
+use Rattle.items.specs.Reading.{item, RowRead, reads, wrong, walk, judged, items_read}
+use Rattle.std.proofs.Common.{None, Result, Ok, Err}
+use Rattle.items.specs.declared.ItemsFault.{ItemsFault}
+use Rattle.items.specs.declared.ItemsFault.TheVariants.{WrongForm, OutOfRange}
 use Rattle.items.proofs.Readings.{InLine, complete, sound}
 
 module _ (line : List ℕ) (ts : List Token) where
@@ -24,32 +25,32 @@ module _ (line : List ℕ) (ts : List Token) where
   pub none-wrong : InLine line ts → None → walk line item ts ≡ wrong
   none-wrong w n = go (walk line item ts) refl
     where
-      go : (r : Result) → walk line item ts ≡ r → r ≡ wrong
+      go : (r : RowRead) → walk line item ts ≡ r → r ≡ wrong
       go (reads is) e = absurd (n is (sound line w e))
       go wrong e = refl
 
   -- ---- the reply
 
   -- what each reply says
-  abbrev Says : ItemsRead → Type 0
-  Says (Cells n) = (is : List Item) × Items line ts is × (all_in_range is ≡ true) × (n ≡ length (cells_of is))
-  Says OutOfRange = (is : List Item) × Items line ts is × (all_in_range is ≡ false)
-  Says WrongForm = None
+  abbrev Says : Result ℕ ItemsFault → Type 0
+  Says (Ok n) = (is : List Item) × Items line ts is × (all_in_range is ≡ true) × (n ≡ length (cells_of is))
+  Says (Err OutOfRange) = (is : List Item) × Items line ts is × (all_in_range is ≡ false)
+  Says (Err WrongForm) = None
 
-  pub reply-says : InLine line ts → {r : ItemsRead} → items_read line ts ≡ r → Says r
+  pub reply-says : InLine line ts → {r : Result ℕ ItemsFault} → items_read line ts ≡ r → Says r
   unfolding items_read
   reply-says w {r} e = go (walk line item ts) refl e
     where
-      by_range : (is : List Item) (b : Bool) → Items line ts is → all_in_range is ≡ b → cond b (Cells (length (cells_of is))) OutOfRange ≡ r → Says r
+      by_range : (is : List Item) (b : Bool) → Items line ts is → all_in_range is ≡ b → cond b (Ok (length (cells_of is))) (Err OutOfRange) ≡ r → Says r
       by_range is true i q e = rw (← e) (is, i, q, refl)
       by_range is false i q e = rw (← e) (is, i, q)
 
-      go : (x : Result) → walk line item ts ≡ x → judged x ≡ r → Says r
+      go : (x : RowRead) → walk line item ts ≡ x → judged x ≡ r → Says r
       go (reads is) q e = by_range is (all_in_range is) (sound line w q) refl e
       go wrong q e = rw (← e) (wrong-none q)
 
-  pub says-reply : InLine line ts → (r : ItemsRead) → Says r → items_read line ts ≡ r
+  pub says-reply : InLine line ts → (r : Result ℕ ItemsFault) → Says r → items_read line ts ≡ r
   unfolding items_read
-  says-reply w (Cells n) (is, i, q, e) = rw (complete line i, q, e)
-  says-reply w OutOfRange (is, i, q) = rw (complete line i, q)
-  says-reply w WrongForm n = rw (none-wrong w n)
+  says-reply w (Ok n) (is, i, q, e) = rw (complete line i, q, e)
+  says-reply w (Err OutOfRange) (is, i, q) = rw (complete line i, q)
+  says-reply w (Err WrongForm) n = rw (none-wrong w n)

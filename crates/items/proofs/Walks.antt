@@ -20,32 +20,33 @@ use Rattle.tokens.specs.declared.Token.{Token}
 use Rattle.values.specs.Reading.{minus_at, value_at}
 use Rattle.values.specs.Values.{numeral}
 use Rattle.values.specs.declared.Value.TheVariants.{Number, Label}
-use Rattle.values.specs.declared.ValueRead.{ValueRead}
-use Rattle.values.specs.declared.ValueRead.TheVariants as R
+use Rattle.std.proofs.Common.{Option, Some, None, Ok, Err}
+use Rattle.numerals.specs.Reading.{upto}
+use Rattle.numerals.specs.declared.Read.{Read}
+use Rattle.values.specs.declared.Value.{Value}
+use Rattle.items.specs.declared.ItemsFault.TheVariants.{WrongForm, OutOfRange}
 use Rattle.tokens.proofs.Heads.{row_of}
 use Rattle.values.proofs.Walks as Walks
 use Rattle.values.proofs.Walks.{turned, finished}
 use Rattle.values.proofs.Begins.{value_cases, digits_cases, digits-read, digits-row}
 use Rattle.items.specs.Items.{Item, number, item_cells, item_in_range, cells_of, all_in_range}
-use Rattle.items.specs.Reading.{State, item, digits, done, Step, to, halt, Result, reads, wrong, on_text, cons, finish, string_of, step, walk, judged, items_read}
+use Rattle.items.specs.Reading.{State, item, digits, done, Step, to, halt, RowRead, reads, wrong, on_text, cons, finish, string_of, step, walk, judged, items_read}
 use Rattle.items.specs.Inner.Turns.{Standing, stands, none, string_at, item_by, item_at, measured, verdict}
-use Rattle.items.specs.declared.ItemRead.TheVariants.{Absent}
-use Rattle.items.specs.declared.ItemsRead.TheVariants.{Cells, WrongForm, OutOfRange}
 use Rattle.items.proofs.Measures.{FoundItem, no_item}
 
 -- ---- the walk from a place on
 
 -- what an answer says of the walk
-abbrev value_on : List ℕ → ValueRead → Result
+abbrev value_on : List ℕ → Option (Read Value) → RowRead
 value_on s (R.Found (Number n) c) = walk s (done (number n)) (tokens_from s c.at)
 value_on s (R.Found (Label w) c) = wrong
-value_on s R.Absent = wrong
+value_on s None = wrong
 
-abbrev pub item_on : List ℕ → Standing → Result
+abbrev pub item_on : List ℕ → Standing → RowRead
 item_on s (stands i c) = walk s (done i) (tokens_from s c.at)
 item_on s none = wrong
 
-abbrev pub follows_on : List ℕ → Item → Follows → Result
+abbrev pub follows_on : List ℕ → Item → Follows → RowRead
 follows_on s i x = Walks.follows_on item (step s) finish s i x
 
 module _ (s : List ℕ) (at : ℕ) where
@@ -63,11 +64,11 @@ module _ (s : List ℕ) (at : ℕ) where
   unfolding minus_at
   digits-turn =
       digits_cases (token_at s at)
-      (λ n b. taken digits (done (number n)) (digits-row s at b) (digits-read goes halt b) ∙ ap (value_on s) (sym (digits-read found R.Absent b)))
-      (λ h. halted digits refl (h Step goes halt) ∙ ap (value_on s) (sym (h ValueRead found R.Absent)))
+      (λ n b. taken digits (done (number n)) (digits-row s at b) (digits-read goes halt b) ∙ ap (value_on s) (sym (digits-read found None b)))
+      (λ h. halted digits refl (h Step goes halt) ∙ ap (value_on s) (sym (h (Option (Read Value)) found None)))
     where
-      found : Numeral → ValueRead
-      found n = R.Found (Number n) (token_at s at).next
+      found : Numeral → Option (Read Value)
+      found n = Some (upto (Number n) (token_at s at).next)
 
       goes : Numeral → Step
       goes n = to (done (number n))
@@ -78,7 +79,7 @@ module _ (s : List ℕ) (at : ℕ) where
   item-turn =
       value_cases (token_at s at) (λ q. no (rw q) (rw q)) (λ v k q. yes (number (numeral false k v)) (row_of s at q) (rw q) (rw q)) minus-turn
       (λ h. string-turn (token_at s at).kind refl (h Step _ (λ n. to (done (number n))) (to digits) _)
-      (ap (item_by s at) (h ValueRead _ (λ n. R.Found (Number n) (token_at s at).next) (minus_at s (token_at s at).next.at) R.Absent)))
+      (ap (item_by s at) (h (Option (Read Value)) _ (λ n. (Some (upto (Number n) (token_at s at).next))) (minus_at s (token_at s at).next.at) None)))
     where
       no : step s item (token_at s at) ≡ halt → item_at s at ≡ none → walk s item (tokens_from s at) ≡ item_on s (item_at s at)
       no h e = halted s at item refl h ∙ ap (item_on s) (sym e)
@@ -88,10 +89,10 @@ module _ (s : List ℕ) (at : ℕ) where
       yes i e h p = taken s at item (done i) e h ∙ ap (item_on s) (sym p)
 
       -- what follows a `-`, which is no string
-      minus : IsMark (code "-") (token_at s at) → (r : ValueRead) → value_on s r ≡ item_on s (item_by s at r)
+      minus : IsMark (code "-") (token_at s at) → (r : Option (Read Value)) → value_on s r ≡ item_on s (item_by s at r)
       minus q (R.Found (Number n) c) = refl
       minus q (R.Found (Label w) c) = refl
-      minus q R.Absent = rw q
+      minus q None = rw q
 
       minus-turn : IsMark (code "-") (token_at s at) → walk s item (tokens_from s at) ≡ item_on s (item_at s at)
       minus-turn q =
@@ -121,16 +122,16 @@ pub verdict-start : (line : List ℕ) (ts : List Token) → items_read line ts �
 unfolding items_read
 verdict-start line ts = go (walk line item ts)
   where
-    go : (r : Result) → judged r ≡ verdict 0 true r
-    go (reads is) = ap (λ (m : ℕ). cond (all_in_range is) (Cells m) OutOfRange) (omega arith)
+    go : (r : RowRead) → judged r ≡ verdict 0 true r
+    go (reads is) = ap (λ (m : ℕ). cond (all_in_range is) (Ok m) (Err OutOfRange)) (omega arith)
     go wrong = refl
 
-verdict-cons : (n : ℕ) (f : Bool) (i : Item) (r : Result) → verdict n f (cons i r) ≡ verdict (n + length (item_cells i)) (f && item_in_range i) r
+verdict-cons : (n : ℕ) (f : Bool) (i : Item) (r : RowRead) → verdict n f (cons i r) ≡ verdict (n + length (item_cells i)) (f && item_in_range i) r
 unfolding cells_of all_in_range
 verdict-cons n true i (reads is) =
     let p : n + length (item_cells i ++ cells_of is) ≡ n + length (item_cells i) + length (cells_of is) =
     omega (arith, length-append (item_cells i) (cells_of is)) in
-    ap (λ (m : ℕ). cond (item_in_range i && all_in_range is) (Cells m) OutOfRange) p
+    ap (λ (m : ℕ). cond (item_in_range i && all_in_range is) (Ok m) (Err OutOfRange)) p
 verdict-cons n false i (reads is) = refl
 verdict-cons n f i wrong = refl
 
@@ -140,19 +141,19 @@ pub walked : (s : List ℕ) (at : ℕ) {m : ℕ} {b : Bool} {c : Cursor} {x : Fo
 walked s at {c = c} h e = item-turn s at ∙ ap (item_on s) h.is ∙ done-turn s c.at h.item ∙ ap (follows_on s h.item) e
 
 module _ (s : List ℕ) (at n : ℕ) (f : Bool) where
-  pub turn-absent : measured (item_at s at) ≡ Absent → verdict n f (walk s item (tokens_from s at)) ≡ WrongForm
+  pub turn-absent : measured (item_at s at) ≡ None → verdict n f (walk s item (tokens_from s at)) ≡ Err WrongForm
   turn-absent e = ap (verdict n f) (item-turn s at ∙ ap (item_on s) (no_item s at e))
 
   module _ {m : ℕ} {b : Bool} {c : Cursor} (h : FoundItem s at m b c) where
-    added : (g : Bool) (r : Result) → g ≡ (f && b) → verdict n f (cons h.item r) ≡ verdict (n + m) g r
+    added : (g : Bool) (r : RowRead) → g ≡ (f && b) → verdict n f (cons h.item r) ≡ verdict (n + m) g r
     added g r e = verdict-cons n f h.item r ∙ rw (← h.cells, ← h.fits, ← e)
 
     pub turn-over : {g : Bool} → follows_of (token_at s c.at) ≡ Over → g ≡ (f && b)
-        → verdict n f (walk s item (tokens_from s at)) ≡ cond g (Cells (n + m)) OutOfRange
+        → verdict n f (walk s item (tokens_from s at)) ≡ cond g (Ok (n + m)) (Err OutOfRange)
     unfolding cells_of all_in_range
     turn-over {g} e q = ap (verdict n f) (walked s at h e) ∙ added g (reads []) q ∙ rw (and-true g, add-zero (n + m))
 
-    pub turn-neither : follows_of (token_at s c.at) ≡ Neither → verdict n f (walk s item (tokens_from s at)) ≡ WrongForm
+    pub turn-neither : follows_of (token_at s c.at) ≡ Neither → verdict n f (walk s item (tokens_from s at)) ≡ Err WrongForm
     turn-neither e = ap (verdict n f) (walked s at h e)
 
     pub turn-comma : {g : Bool} {d : Cursor} → follows_of (token_at s c.at) ≡ Comma d → g ≡ (f && b)

@@ -11,7 +11,12 @@ use mir.Syntax.{w16}
 use mir.Val.{of_z}
 use Rattle.numerals.specs.Numbers.{value_of, in_range, kept_of}
 use Rattle.numerals.specs.declared.Cursor.{Cursor}
-use Rattle.numerals.specs.declared.Kept.TheVariants as Kept
+use Rattle.std.proofs.Common.{Option, Some, None, Result, Ok, Err}
+use Rattle.numerals.specs.Reading.{upto}
+use Rattle.numerals.specs.declared.Read.{Read}
+use Rattle.values.specs.declared.Value.{Value}
+use Rattle.items.specs.declared.ItemsFault.{ItemsFault}
+use Rattle.items.specs.declared.ItemsFault.TheVariants.{WrongForm, OutOfRange}
 use Rattle.numerals.specs.declared.Numeral.{Numeral}
 use Rattle.tokens.specs.Strings.{Characters}
 use Rattle.tokens.specs.Reading.{character_at, token_at, tokens_from}
@@ -24,15 +29,10 @@ use Rattle.tokens.proofs.Quoted.{Inside, character_means, ReadAt, characters-rea
 use Rattle.values.specs.Reading.{value_at}
 use Rattle.values.specs.declared.Name.{Name}
 use Rattle.values.specs.declared.Value.TheVariants.{Number, Label}
-use Rattle.values.specs.declared.ValueRead.{ValueRead}
-use Rattle.values.specs.declared.ValueRead.TheVariants as R
 use Rattle.items.specs.Items.{Item, number, item_cells, item_in_range, cells_of, all_in_range}
-use Rattle.items.specs.Reading.{characters, item, Result, reads, wrong, cons, walk, judged, items_read}
+use Rattle.items.specs.Reading.{characters, item, RowRead, reads, wrong, cons, walk, judged, items_read}
 use Rattle.items.specs.Inner.Turns.{string_at, item_by, item_at, measured, accepted, cells_at}
 use Rattle.items.specs.Writing.{accepted_cells, cells_from}
-use Rattle.items.specs.declared.ItemRead.TheVariants.{Absent}
-use Rattle.items.specs.declared.ItemsRead.{ItemsRead}
-use Rattle.items.specs.declared.ItemsRead.TheVariants.{Cells, WrongForm, OutOfRange}
 use Rattle.items.proofs.Counts.{characters_fit}
 use Rattle.items.proofs.Measures.{kept_in, kept_out, quote_at, FoundItem, no_item}
 use Rattle.items.proofs.Walks.{item_on, item-turn, walked}
@@ -98,48 +98,48 @@ text-written s at {t} row to {ms} e q f =
 -- ---- an item at a place
 
 -- "kept modulo 65536"
-pub number-cell : (n : Numeral) {x : ℕ} → kept_of n ≡ Kept.Cell x → item_cells (number n) ≡ x ∷ []
+pub number-cell : (n : Numeral) {x : ℕ} → kept_of n ≡ Some x → item_cells (number n) ≡ x ∷ []
 unfolding kept_of
 number-cell n {x} e = go (in_range (value_of n)) e
   where
-    go : (b : Bool) → cond b (Kept.Cell (of_z w16 (value_of n))) Kept.OutOfRange ≡ Kept.Cell x → item_cells (number n) ≡ x ∷ []
+    go : (b : Bool) → cond b (Some (of_z w16 (value_of n))) None ≡ Some x → item_cells (number n) ≡ x ∷ []
     go true e = cc
     go false e = let z : ◌≡◌ {A = ℕ} 0 1 = cc in absurd (omega arith)
 
 module _ (s : List ℕ) (at : ℕ) (row : List ℕ) (to : ℕ) where
   -- what is written where a value stands
-  by_value : {r : ValueRead} → value_at s at ≡ r → sets row to (cells_at (item_at s at)) ≡ sets row to (cells_at (item_by s at r))
+  by_value : {r : Option (Read Value)} → value_at s at ≡ r → sets row to (cells_at (item_at s at)) ≡ sets row to (cells_at (item_by s at r))
   unfolding item_at
-  by_value e = ap (λ (r : ValueRead). sets row to (cells_at (item_by s at r))) e
+  by_value e = ap (λ (r : Option (Read Value)). sets row to (cells_at (item_by s at r))) e
 
-  by_range : (n : Numeral) {c : Cursor} {b : Bool} → value_at s at ≡ R.Found (Number n) c → in_range (value_of n) ≡ b
+  by_range : (n : Numeral) {c : Cursor} {b : Bool} → value_at s at ≡ Some (upto (Number n) c) → in_range (value_of n) ≡ b
       → sets row to (cells_at (item_at s at)) ≡ sets row to (cond b (item_cells (number n)) [])
   by_range n e q = by_value e ∙ ap (λ (b : Bool). sets row to (cond b (item_cells (number n)) [])) q
 
-  pub number-written : {n : Numeral} {c : Cursor} {x : ℕ} {ms : List ℕ} → value_at s at ≡ R.Found (Number n) c → kept_of n ≡ Kept.Cell x
+  pub number-written : {n : Numeral} {c : Cursor} {x : ℕ} {ms : List ℕ} → value_at s at ≡ Some (upto (Number n) c) → kept_of n ≡ Some x
       → ms ≡ set row to x → ms ≡ sets row to (cells_at (item_at s at))
   number-written {n} e k w = w ∙ sym (by_range n e (kept_in n k) ∙ ap (sets row to) (number-cell n k))
 
-  pub number-out : {n : Numeral} {c : Cursor} → value_at s at ≡ R.Found (Number n) c → kept_of n ≡ Kept.OutOfRange
+  pub number-out : {n : Numeral} {c : Cursor} → value_at s at ≡ Some (upto (Number n) c) → kept_of n ≡ None
       → row ≡ sets row to (cells_at (item_at s at))
   number-out {n} e k = sym (by_range n e (kept_out n k))
 
-  pub label-written : {w : Name} {c : Cursor} → value_at s at ≡ R.Found (Label w) c → row ≡ sets row to (cells_at (item_at s at))
+  pub label-written : {w : Name} {c : Cursor} → value_at s at ≡ Some (upto (Label w) c) → row ≡ sets row to (cells_at (item_at s at))
   label-written e = sym (by_value e)
 
-  pub other-written : {ms : List ℕ} → value_at s at ≡ R.Absent → ms ≡ sets row to (cells_at (string_at s (token_at s at)))
+  pub other-written : {ms : List ℕ} → value_at s at ≡ None → ms ≡ sets row to (cells_at (string_at s (token_at s at)))
       → ms ≡ sets row to (cells_at (item_at s at))
   other-written e w = w ∙ sym (by_value e)
 
 -- ---- the items of a row
 
 -- the first item's cells, and those of the rest
-pub record First (i : Item) (r : Result) : Type 0 where
+pub record First (i : Item) (r : RowRead) : Type 0 where
   pub fits : item_in_range i ≡ true
   pub rest : accepted r ≡ true
   pub cells : accepted_cells (cons i r) ≡ item_cells i ++ accepted_cells r
 
-pub first : (i : Item) (r : Result) → accepted (cons i r) ≡ true → First i r
+pub first : (i : Item) (r : RowRead) → accepted (cons i r) ≡ true → First i r
 unfolding cells_of all_in_range
 first i (reads is) e = go (item_in_range i) (all_in_range is) refl refl e
   where
@@ -150,24 +150,24 @@ first i (reads is) e = go (item_in_range i) (all_in_range is) refl refl e
 first i wrong e = absurd (false≢true e)
 
 module _ (s : List ℕ) (at : ℕ) (ok : accepted (walk s item (tokens_from s at)) ≡ true) where
-  pub some_item : measured (item_at s at) ≡ Absent → ⊥
+  pub some_item : measured (item_at s at) ≡ None → ⊥
   some_item e = false≢true (sym (ap accepted (item-turn s at ∙ ap (item_on s) (no_item s at e))) ∙ ok)
 
   module _ {m : ℕ} {b : Bool} {c : Cursor} (h : FoundItem s at m b c) where
     pub some_end : follows_of (token_at s c.at) ≡ Neither → ⊥
     some_end e = false≢true (sym (ap accepted (walked s at h e)) ∙ ok)
 
-    headed : (r : Result) → walk s item (tokens_from s at) ≡ cons h.item r → First h.item r
+    headed : (r : RowRead) → walk s item (tokens_from s at) ≡ cons h.item r → First h.item r
     headed r e = first h.item r (sym (ap accepted e) ∙ ok)
 
     -- the item's cells, and then those of the rest
-    written : (row : List ℕ) (to : ℕ) {ms : List ℕ} (r : Result) → walk s item (tokens_from s at) ≡ cons h.item r
+    written : (row : List ℕ) (to : ℕ) {ms : List ℕ} (r : RowRead) → walk s item (tokens_from s at) ≡ cons h.item r
         → ms ≡ sets row to (cells_at (item_at s at)) → sets row to (cells_from s (tokens_from s at)) ≡ sets ms (to + m) (accepted_cells r)
     unfolding cells_from
     written row to {ms} r e w =
         let f = headed r e in
         let i : ms ≡ sets row to (item_cells h.item) = w ∙ rw (h.is, f.fits) in
-        ap (λ (x : Result). sets row to (accepted_cells x)) e ∙ ap (sets row to) f.cells ∙ sets_append row to (item_cells h.item) (accepted_cells r) ∙ rw (← i, ← h.cells)
+        ap (λ (x : RowRead). sets row to (accepted_cells x)) e ∙ ap (sets row to) f.cells ∙ sets_append row to (item_cells h.item) (accepted_cells r) ∙ rw (← i, ← h.cells)
 
     pub last_written : (row : List ℕ) (to : ℕ) {ms : List ℕ} → follows_of (token_at s c.at) ≡ Over → ms ≡ sets row to (cells_at (item_at s at))
         → ms ≡ sets row to (cells_from s (tokens_from s at))
@@ -188,22 +188,22 @@ module _ (s : List ℕ) (at : ℕ) (ok : accepted (walk s item (tokens_from s at
 -- ---- the cells by the reply of `items`
 
 -- what a reply to a row's result says of the cells
-abbrev pub Given : Result → ItemsRead → Type 0
-Given x (Cells n) = (accepted x ≡ true) × (length (accepted_cells x) ≡ n)
-Given x WrongForm = accepted_cells x ≡ []
-Given x OutOfRange = accepted_cells x ≡ []
+abbrev pub Given : RowRead → Result ℕ ItemsFault → Type 0
+Given x (Ok n) = (accepted x ≡ true) × (length (accepted_cells x) ≡ n)
+Given x (Err WrongForm) = accepted_cells x ≡ []
+Given x (Err OutOfRange) = accepted_cells x ≡ []
 
-judged-given : (x : Result) → Given x (judged x)
+judged-given : (x : RowRead) → Given x (judged x)
 judged-given (reads is) = go (all_in_range is) refl
   where
-    go : (b : Bool) → all_in_range is ≡ b → Given (reads is) (cond b (Cells (length (cells_of is))) OutOfRange)
+    go : (b : Bool) → all_in_range is ≡ b → Given (reads is) (cond b (Ok (length (cells_of is))) (Err OutOfRange))
     go true q = (q, rw q)
     go false q = rw q
 judged-given wrong = refl
 
-pub given : (line : List ℕ) (ts : List Token) {r : ItemsRead} → items_read line ts ≡ r → Given (walk line item ts) r
+pub given : (line : List ℕ) (ts : List Token) {r : Result ℕ ItemsFault} → items_read line ts ≡ r → Given (walk line item ts) r
 unfolding items_read
 given line ts e = subst (Given (walk line item ts)) e (judged-given (walk line item ts))
 
-pub cells-accepted : (line : List ℕ) (ts : List Token) {n : ℕ} → items_read line ts ≡ Cells n → accepted (walk line item ts) ≡ true
+pub cells-accepted : (line : List ℕ) (ts : List Token) {n : ℕ} → items_read line ts ≡ Ok n → accepted (walk line item ts) ≡ true
 cells-accepted line ts e = (given line ts e).0

@@ -10,8 +10,9 @@ use Rattle.values.specs.Reading.{value_by, digits_by}
 use Rattle.values.specs.Walks as Walks
 pub use Rattle.values.specs.Walks.{to, emit, halt, reads, wrong, cons}
 use Rattle.items.specs.Items.{Item, number, string, cells_of, all_in_range}
-use Rattle.items.specs.declared.ItemsRead.{ItemsRead}
-use Rattle.items.specs.declared.ItemsRead.TheVariants.{Cells, WrongForm, OutOfRange}
+use Rattle.std.specs.Prelude.{Result, Ok, Err}
+use Rattle.items.specs.declared.ItemsFault.{ItemsFault}
+use Rattle.items.specs.declared.ItemsFault.TheVariants.{WrongForm, OutOfRange}
 
 -- the characters of a string, up to its closing quote
 unfoldable mutual
@@ -32,8 +33,8 @@ pub data State : Type 0 where
 abbrev pub Step : Type 0
 Step = Walks.Step State Item
 
-abbrev pub Result : Type 0
-Result = Walks.Result Item
+abbrev pub RowRead : Type 0
+RowRead = Walks.RowRead Item
 
 -- what a string leads to; any other token leads to `other`
 abbrev pub on_text : {S : Type 0} → S → S → Kind → S
@@ -44,7 +45,7 @@ on_text other text (K.Number v k) = other
 on_text other text K.Text = text
 on_text other text (K.Mark b) = other
 
-abbrev pub finish : State → Result
+abbrev pub finish : State → RowRead
 finish item = wrong
 finish digits = wrong
 finish (done i) = reads (i ∷ [])
@@ -60,19 +61,19 @@ module _ (line : List ℕ) where
   step digits t = digits_by (λ n. to (done (number n))) halt t.kind t.directly
   step (done i) t = on_comma halt (emit i) t.kind
 
-  unfoldable pub walk : State → List Token → Result
+  unfoldable pub walk : State → List Token → RowRead
   walk st ts = Walks.walk item step finish st ts
 
 -- form 3, then ranges 6
-abbrev pub judged : Result → ItemsRead
-judged (reads is) = cond (all_in_range is) (Cells (length (cells_of is))) OutOfRange
-judged wrong = WrongForm
+abbrev pub judged : RowRead → Result ℕ ItemsFault
+judged (reads is) = cond (all_in_range is) (Ok (length (cells_of is))) (Err OutOfRange)
+judged wrong = Err WrongForm
 
-unfoldable pub items_read : List ℕ → List Token → ItemsRead
+unfoldable pub items_read : List ℕ → List Token → Result ℕ ItemsFault
 items_read line ts = judged (walk line item ts)
 
 -- the paper's number for each answer: 3 form, 6 a number out of range
-abbrev pub refusal_of : ItemsRead → ℕ
-refusal_of (Cells n) = 0
-refusal_of WrongForm = 3
-refusal_of OutOfRange = 6
+abbrev pub refusal_of : Result ℕ ItemsFault → ℕ
+refusal_of (Ok n) = 0
+refusal_of (Err WrongForm) = 3
+refusal_of (Err OutOfRange) = 6

@@ -10,17 +10,16 @@ mod single; // one item
 mod strings; // how many characters a string has
 pub mod writing; // the cells of the items that follow DATA
 
-// What the tokens after DATA are: so many cells, or refusal 3 or 6.
-#[derive(Clone, Copy)]
-pub enum ItemsRead {
-    Cells(usize),
+// Why the tokens after DATA are no items: refusal 3 or 6.
+#[derive(Clone, Copy, Debug, PartialEq, Eq)]
+pub enum ItemsFault {
     WrongForm,
     OutOfRange,
 }
 
-// An item at a cursor: the cells it takes, whether it is in range, and the cursor after it; or no item.
+// The measure of an item: the cells it takes, and whether it is in range.
 #[derive(Clone, Copy)]
-enum ItemRead {
-    Found(usize, bool, Cursor),
-    Absent,
+struct Measure {
+    cells: usize,
+    fits: bool,
 }

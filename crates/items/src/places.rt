@@ -3,9 +3,9 @@ ghost use Rattle.std.specs.Prelude.{◌&&◌, ◌≡◌};
 ghost use Rattle.tokens.specs.Reading.{tokens_from};
 ghost use Rattle.items.specs.Places.{starts_out, number_out_in};
 
-use super::ItemRead;
+use super::Measure;
 use super::single::item;
-use numerals::Cursor;
+use numerals::{Cursor, Read};
 use tokens::Kind;
 use tokens::tokens::next_token;
 
@@ -15,10 +15,10 @@ fn out_at(s: &[u8], from: Cursor, begins: bool) -> bool
 {
     if begins {
         match item(s, from) {
-            ItemRead::Found(_, fits, _) => {
+            Some(Read { value: Measure { cells: _, fits }, next: _ }) => {
                 return !fits;
             }
-            ItemRead::Absent => {
+            None => {
                 return false;
             }
         }

@@ -2,11 +2,10 @@
 ghost use Rattle.std.specs.Prelude.{cond, ◌&&◌, ◌≡◌};
 ghost use Rattle.tokens.specs.Reading.{tokens_from};
 ghost use Rattle.items.specs.Reading.{items_read};
-ghost use Rattle.items.specs.declared.ItemsRead.TheVariants.{Cells, OutOfRange};
 
+use super::{ItemsFault, Measure};
 use super::single::item;
-use super::{ItemRead, ItemsRead};
-use numerals::Cursor;
+use numerals::{Cursor, Read};
 use tokens::Follows;
 use tokens::commas::follows;
 
@@ -20,17 +19,17 @@ fn both(a: bool, b: bool) -> bool
 }
 
 // The reply to items of the right form.
-fn reply(cells: usize, fit: bool) -> ItemsRead
-    ensures { result ≡ cond fit (Cells cells) OutOfRange }
+fn reply(cells: usize, fit: bool) -> Result<usize, ItemsFault>
+    ensures { result ≡ cond fit (Ok cells) (Err OutOfRange) }
 {
     if fit {
-        return ItemsRead::Cells(cells);
+        return Ok(cells);
     }
-    ItemsRead::OutOfRange
+    Err(ItemsFault::OutOfRange)
 }
 
 // A number out of range is refused only once the form of all that follows is right: 3 comes before 6.
-pub fn items(s: &[u8], from: Cursor) -> ItemsRead
+pub fn items(s: &[u8], from: Cursor) -> Result<usize, ItemsFault>
     ensures { result ≡ items_read s.now (tokens_from s.now from.at) }
 {
     let mut at = from.at;
@@ -38,10 +37,10 @@ pub fn items(s: &[u8], from: Cursor) -> ItemsRead
     let mut fit = true;
     loop {
         match item(s, Cursor { at: at }) {
-            ItemRead::Absent => {
-                return ItemsRead::WrongForm;
+            None => {
+                return Err(ItemsFault::WrongForm);
             }
-            ItemRead::Found(n, fits, next) => {
+            Some(Read { value: Measure { cells: n, fits }, next }) => {
                 cells += n;
                 fit = both(fit, fits);
                 match follows(s, next) {
@@ -49,7 +48,7 @@ pub fn items(s: &[u8], from: Cursor) -> ItemsRead
                         return reply(cells, fit);
                     }
                     Follows::Neither => {
-                        return ItemsRead::WrongForm;
+                        return Err(ItemsFault::WrongForm);
                     }
                     Follows::Comma(after) => {
                         at = after.at;

@@ -7,17 +7,17 @@ ghost use Rattle.items.specs.Reading.{item, walk};
 ghost use Rattle.items.specs.Inner.Turns.{string_at, item_at, accepted, cells_at};
 ghost use Rattle.items.specs.Writing.{cells_from};
 
+use super::{ItemsFault, Measure};
 use super::reading::items;
 use super::single::item;
-use super::{ItemRead, ItemsRead};
 use numerals::reading::kept;
-use numerals::{Cursor, Kept};
+use numerals::{Cursor, Read};
 use tokens::commas::follows;
 use tokens::strings::character;
 use tokens::tokens::next_token;
 use tokens::{Character, Follows, Kind};
 use values::reading::value;
-use values::{Value, ValueRead};
+use values::Value;
 
 // The cell k places after a place; what does not fit is left out. Two numbers, since their sum may not fit a usize.
 fn put(row: &mut [u16], at: usize, k: usize, v: u16)
@@ -85,16 +85,16 @@ fn write_item(s: &[u8], from: Cursor, row: &mut [u16], at: usize, k: usize)
 {
     let start = from.at;
     match value(s, Cursor { at: start }) {
-        ValueRead::Found(v, _) => match v {
+        Some(Read { value: v, next: _ }) => match v {
             Value::Number(n) => match kept(n) {
-                Kept::Cell(x) => {
+                Some(x) => {
                     put(row, at, k, x);
                 }
-                Kept::OutOfRange => {}
+                None => {}
             },
             Value::Label(_) => {}
         },
-        ValueRead::Absent => {
+        None => {
             write_text(s, Cursor { at: start }, row, at, k);
         }
     }
@@ -109,10 +109,10 @@ fn write_items(s: &[u8], from: Cursor, row: &mut [u16], at: usize)
     let mut k: usize = 0;
     loop {
         match item(s, Cursor { at: i }) {
-            ItemRead::Absent => {
+            None => {
                 return;
             }
-            ItemRead::Found(n, _, next) => {
+            Some(Read { value: Measure { cells: n, fits: _ }, next }) => {
                 write_item(s, Cursor { at: i }, row, at, k);
                 k += n;
                 match follows(s, next) {
@@ -138,10 +138,10 @@ pub fn write_cells(s: &[u8], from: Cursor, row: &mut [u16], at: usize)
 {
     let start = from.at;
     match items(s, Cursor { at: start }) {
-        ItemsRead::Cells(_) => {
+        Ok(_) => {
             write_items(s, Cursor { at: start }, row, at);
         }
-        ItemsRead::WrongForm => {}
-        ItemsRead::OutOfRange => {}
+        Err(ItemsFault::WrongForm) => {}
+        Err(ItemsFault::OutOfRange) => {}
     }
 }

@@ -11,7 +11,9 @@ use Rattle.isa.specs.Operands.{operand_words}
 use Rattle.isa.specs.Encoding.{words_of, first_word_of, allowed}
 use Rattle.isa.specs.Decoding.{decode_of, stop_of}
 use Rattle.isa.specs.declared.Decoded.{Decoded}
-use Rattle.isa.specs.declared.Decoded.TheVariants.{Read, NoOpcode, NoMode, NoRegister, PastMemory}
+use Rattle.std.proofs.Common.{Result, Ok, Err}
+use Rattle.isa.specs.declared.Undecoded.{Undecoded}
+use Rattle.isa.specs.declared.Undecoded.TheVariants.{NoOpcode, NoMode, NoRegister, PastMemory}
 use Rattle.isa.specs.declared.Address.{Address}
 use Rattle.isa.specs.declared.Instruction.{Instruction}
 use Rattle.isa.proofs.Tests.{never}
@@ -20,7 +22,7 @@ use Rattle.listing.specs.Decodes.{Instructions, none, then, FirstUndecoded, here
 use Rattle.listing.specs.Inner.Walk.{Parts, whole, fails, before, parts_by, parts_from}
 
 -- what is decoded at the head of a list of words is its first words
-head-words : (w : ℕ) (ws : List ℕ) (i : Instruction) (n : Address) → decode_of (w ∷ ws) 0 ≡ Read i n
+head-words : (w : ℕ) (ws : List ℕ) (i : Instruction) (n : Address) → decode_of (w ∷ ws) 0 ≡ Ok (record { instruction = i; next = n })
     → (allowed i ≡ true) × (words_of i ++ drop (n.0 - 1) ws ≡ w ∷ ws)
 head-words w ws i n e =
     let r = encode_decode (w ∷ ws) 0 i n e in
@@ -37,7 +39,7 @@ parts-words [] more at is e =
 parts-words (w ∷ ws) (suc more) at is e = parts-words ws more (at + 1) is e
 parts-words (w ∷ ws) zero at is e = go (decode_of (w ∷ ws) 0) refl e (λ more js f. parts-words ws more (at + 1) js f)
   where
-    on : (i : Instruction) (n : Address) → decode_of (w ∷ ws) 0 ≡ Read i n → (p : Parts) → before i p ≡ whole is
+    on : (i : Instruction) (n : Address) → decode_of (w ∷ ws) 0 ≡ Ok (record { instruction = i; next = n }) → (p : Parts) → before i p ≡ whole is
         → ((js : List Instruction) → p ≡ whole js → Instructions (drop (n.0 - 1) ws) js)
         → Instructions (w ∷ ws) is
     on i n f (whole js) e h =
@@ -46,14 +48,14 @@ parts-words (w ∷ ws) zero at is e = go (decode_of (w ∷ ws) 0) refl e (λ mor
         subst (λ (ks : List Instruction). Instructions (w ∷ ws) ks) z (subst (λ (l : List ℕ). Instructions l (i ∷ js)) r.1 (then i r.0 (h js refl)))
     on i n f (fails a) e h = never (cc)
 
-    go : (d : Decoded) → decode_of (w ∷ ws) 0 ≡ d → parts_by at d (λ more. parts_from ws more (at + 1)) ≡ whole is
+    go : (d : Result Decoded Undecoded) → decode_of (w ∷ ws) 0 ≡ d → parts_by at d (λ more. parts_from ws more (at + 1)) ≡ whole is
         → ((more : ℕ) (js : List Instruction) → parts_from ws more (at + 1) ≡ whole js → Instructions (drop more ws) js)
         → Instructions (w ∷ ws) is
-    go (Read i n) f e h = on i n f (parts_from ws (n.0 - 1) (at + 1)) e (h (n.0 - 1))
-    go NoOpcode f e h = never (cc)
-    go NoMode f e h = never (cc)
-    go NoRegister f e h = never (cc)
-    go PastMemory f e h = never (cc)
+    go (Ok r) f e h = on r.instruction r.next f (parts_from ws (r.next.0 - 1) (at + 1)) e (h (r.next.0 - 1))
+    go (Err NoOpcode) f e h = never (cc)
+    go (Err NoMode) f e h = never (cc)
+    go (Err NoRegister) f e h = never (cc)
+    go (Err PastMemory) f e h = never (cc)
 
 -- ---- exactly
 
@@ -72,10 +74,10 @@ pub parts-head : (i : Instruction) (ws : List ℕ) (at : ℕ) → allowed i ≡ 
 unfolding parts_from words_of
 parts-head i ws at t =
     let os = operand_words i.first ++ operand_words i.second in
-    let d : decode_of (first_word_of i ∷ os ++ ws) 0 ≡ Read i (record { 0 = 0 + suc (length os) }) = decode_encode i [] ws t in
+    let d : decode_of (first_word_of i ∷ os ++ ws) 0 ≡ Ok (record { instruction = i; next = (record { 0 = 0 + suc (length os) }) }) = decode_encode i [] ws t in
     let z : 0 + suc (length os) - 1 ≡ length os = omega arith in
     let y : at + 1 + length os ≡ at + suc (length os) = omega arith in
-    ap (λ (r : Decoded). parts_by at r (λ more. parts_from (os ++ ws) more (at + 1))) d
+    ap (λ (r : Result Decoded Undecoded). parts_by at r (λ more. parts_from (os ++ ws) more (at + 1))) d
     ∙ ap (λ (n : ℕ). before i (parts_from (os ++ ws) n (at + 1))) z
     ∙ ap (before i) (parts-skip (os ++ ws) (length os) (at + 1) ∙ ap (λ (l : List ℕ). parts_from l 0 (at + 1 + length os)) (drop-append_seam os ws)
     ∙ ap (parts_from ws 0) y)
@@ -89,12 +91,12 @@ fails-back : {ws : List ℕ} {at a : ℕ} → FirstUndecoded ws at a → parts_f
 unfolding parts_from
 fails-back (here {w} {at} {ws} n) = go (decode_of (w ∷ ws) 0) n
   where
-    go : (d : Decoded) → (stop_of d ≡ 0 → ⊥) → parts_by at d (λ more. parts_from ws more (at + 1)) ≡ fails at
-    go (Read i k) n = absurd (n refl)
-    go NoOpcode n = refl
-    go NoMode n = refl
-    go NoRegister n = refl
-    go PastMemory n = refl
+    go : (d : Result Decoded Undecoded) → (stop_of d ≡ 0 → ⊥) → parts_by at d (λ more. parts_from ws more (at + 1)) ≡ fails at
+    go (Ok r) n = absurd (n refl)
+    go (Err NoOpcode) n = refl
+    go (Err NoMode) n = refl
+    go (Err NoRegister) n = refl
+    go (Err PastMemory) n = refl
 fails-back (further {at} {a} {ws} i t h) = parts-head i ws at t ∙ ap (before i) (fails-back h)
 
 first-fails : (ws : List ℕ) (more at a : ℕ) → parts_from ws more at ≡ fails a → FirstUndecoded (drop more ws) (at + more) a
@@ -107,7 +109,7 @@ first-fails (w ∷ ws) zero at a e =
     let z : at ≡ at + 0 = omega arith in
     subst (λ (x : ℕ). FirstUndecoded (w ∷ ws) x a) z (go (decode_of (w ∷ ws) 0) refl e (λ more b f. first-fails ws more (at + 1) b f))
   where
-    on : (i : Instruction) (n : Address) → decode_of (w ∷ ws) 0 ≡ Read i n → (p : Parts) → before i p ≡ fails a
+    on : (i : Instruction) (n : Address) → decode_of (w ∷ ws) 0 ≡ Ok (record { instruction = i; next = n }) → (p : Parts) → before i p ≡ fails a
         → ((b : ℕ) → p ≡ fails b → FirstUndecoded (drop (n.0 - 1) ws) (at + 1 + (n.0 - 1)) b)
         → FirstUndecoded (w ∷ ws) at a
     on i n f (whole js) e h = never (cc)
@@ -121,14 +123,14 @@ first-fails (w ∷ ws) zero at a e =
     none-there : (stop_of (decode_of (w ∷ ws) 0) ≡ 0 → ⊥) → fails at ≡ fails a → FirstUndecoded (w ∷ ws) at a
     none-there n e = let z : at ≡ a = cc in subst (λ (x : ℕ). FirstUndecoded (w ∷ ws) at x) z (here n)
 
-    go : (d : Decoded) → decode_of (w ∷ ws) 0 ≡ d → parts_by at d (λ more. parts_from ws more (at + 1)) ≡ fails a
+    go : (d : Result Decoded Undecoded) → decode_of (w ∷ ws) 0 ≡ d → parts_by at d (λ more. parts_from ws more (at + 1)) ≡ fails a
         → ((more b : ℕ) → parts_from ws more (at + 1) ≡ fails b → FirstUndecoded (drop more ws) (at + 1 + more) b)
         → FirstUndecoded (w ∷ ws) at a
-    go (Read i n) f e h = on i n f (parts_from ws (n.0 - 1) (at + 1)) e (h (n.0 - 1))
-    go NoOpcode f e h = none-there (λ z. let y = ap stop_of f in omega (arith, y, z)) e
-    go NoMode f e h = none-there (λ z. let y = ap stop_of f in omega (arith, y, z)) e
-    go NoRegister f e h = none-there (λ z. let y = ap stop_of f in omega (arith, y, z)) e
-    go PastMemory f e h = none-there (λ z. let y = ap stop_of f in omega (arith, y, z)) e
+    go (Ok r) f e h = on r.instruction r.next f (parts_from ws (r.next.0 - 1) (at + 1)) e (h (r.next.0 - 1))
+    go (Err NoOpcode) f e h = none-there (λ z. let y = ap stop_of f in omega (arith, y, z)) e
+    go (Err NoMode) f e h = none-there (λ z. let y = ap stop_of f in omega (arith, y, z)) e
+    go (Err NoRegister) f e h = none-there (λ z. let y = ap stop_of f in omega (arith, y, z)) e
+    go (Err PastMemory) f e h = none-there (λ z. let y = ap stop_of f in omega (arith, y, z)) e
 
 -- a code run is listed exactly where it is the words of instructions, those
 pub whole-exactly : (ws : List ℕ) (at : ℕ) (is : List Instruction) → (parts_from ws 0 at ≡ whole is) ↔ Instructions ws is

@@ -22,29 +22,28 @@ use Rattle.listing.specs.declared.Begins.{Begins}
 use Rattle.listing.specs.declared.Begins.TheVariants as B
 use Rattle.listing.specs.declared.Entry.{Entry}
 use Rattle.listing.specs.declared.Entry.TheVariants.{Finish}
-use Rattle.listing.specs.declared.Measured.{Measured}
-use Rattle.listing.specs.declared.Measured.TheVariants as M
+use Rattle.std.proofs.Common.{Result, Ok, Err}
 use Rattle.listing.proofs.Walks.{line_before, Goes, goes, rest_end, line-text}
 
 -- ---- a line, and those behind it
 
 -- a measure with so much before it
-abbrev pub plus : ℕ → Measured → Measured
-plus n (M.Long m) = M.Long (n + m)
-plus n (M.Fails a) = M.Fails a
+abbrev pub plus : ℕ → Result ℕ Address → Result ℕ Address
+plus n (Ok m) = Ok (n + m)
+plus n (Err a) = Err a
 
-plus_none : (m : Measured) → plus 0 m ≡ m
-plus_none (M.Long n) = let z : 0 + n ≡ n = omega arith in ap M.Long z
-plus_none (M.Fails a) = refl
+plus_none : (m : Result ℕ Address) → plus 0 m ≡ m
+plus_none (Ok n) = let z : 0 + n ≡ n = omega arith in ap Ok z
+plus_none (Err a) = refl
 
-plus-plus : (a b : ℕ) (m : Measured) → plus a (plus b m) ≡ plus (a + b) m
-plus-plus a b (M.Long n) = ap M.Long (sym (add_assoc a b n))
-plus-plus a b (M.Fails f) = refl
+plus-plus : (a b : ℕ) (m : Result ℕ Address) → plus a (plus b m) ≡ plus (a + b) m
+plus-plus a b (Ok n) = ap Ok (sym (add_assoc a b n))
+plus-plus a b (Err f) = refl
 
 measure_line : (behind at : ℕ) (e : Entry) (f : Found)
     → measure_of (line_before behind at e f) ≡ plus (length (line_text behind at e)) (measure_of f)
 measure_line behind at e (found es) =
-    ap M.Long (ap length (line-text behind at e es) ∙ length-append (line_text behind at e) (text_of_lines es))
+    ap Ok (ap length (line-text behind at e es) ∙ length-append (line_text behind at e) (text_of_lines es))
 measure_line behind at e (failing a) = refl
 
 found-line : (behind at : ℕ) (e : Entry) (f : Found) → was_found (line_before behind at e f) ≡ true
@@ -138,12 +137,12 @@ module _ {memory marks : List ℕ} {k behind at : ℕ} (inv : Measuring memory m
         ∙ ap (λ (m : ℕ). plus (k + m) (measure_of f)) (sym long.0) in
         record { within = o.1; bounded = omega (arith, o.0, long.1, inv.bounded); measures = sym z ∙ inv.measures }
 
-    pub measuring_fails : b ≡ B.Fails → M.Fails (record { 0 = at }) ≡ measure_of (lines_of memory marks)
+    pub measuring_fails : b ≡ B.Fails → Err (record { 0 = at }) ≡ measure_of (lines_of memory marks)
     measuring_fails e = sym (ap (λ (f : Found). plus k (measure_of f)) (failed memory marks good behind at there is e)) ∙ inv.measures
 
-  pub measuring_end : length marks ≤ at → M.Long (k + 4) ≡ measure_of (lines_of memory marks)
+  pub measuring_end : length marks ≤ at → Ok (k + 4) ≡ measure_of (lines_of memory marks)
   measuring_end over =
-      ap (λ (n : ℕ). M.Long (k + n)) (sym last-length)
+      ap (λ (n : ℕ). Ok (k + n)) (sym last-length)
       ∙ sym (ap (λ (f : Found). plus k (measure_of f)) (ended memory marks good behind at over)) ∙ inv.measures
 
 -- ---- writing

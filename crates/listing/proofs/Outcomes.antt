@@ -17,30 +17,30 @@ use Rattle.listing.specs.Lines.{text_of_lines}
 use Rattle.listing.specs.Listing.{Leaves, leaves, refused, given, Replies, bad-loan}
 use Rattle.listing.specs.Inner.Walk.{Found, found, failing, lines_of, reply_by, list_of}
 use Rattle.listing.specs.Inner.Begins.{found_text, was_found, measure_of}
-use Rattle.listing.specs.declared.Listed.TheVariants.{Done, BadLoan, Undecoded, TooLong}
-use Rattle.listing.specs.declared.Measured.TheVariants as M
+use Rattle.std.proofs.Common.{Ok, Err}
+use Rattle.listing.specs.declared.NotListed.TheVariants.{BadLoan, Undecoded, TooLong}
 use Rattle.listing.proofs.Exactly.{exactly}
 
 -- ---- what was measured
 
-pub measured-long : (f : Found) {n : ℕ} → measure_of f ≡ M.Long n → (was_found f ≡ true) × (n ≡ length (found_text f))
+pub measured-long : (f : Found) {n : ℕ} → measure_of f ≡ Ok n → (was_found f ≡ true) × (n ≡ length (found_text f))
 measured-long (found es) e = (refl, cc)
 measured-long (failing a) e = never (cc)
 
-measured-fails : (f : Found) {a : Address} → measure_of f ≡ M.Fails a → f ≡ failing a.0
+measured-fails : (f : Found) {a : Address} → measure_of f ≡ Err a → f ≡ failing a.0
 measured-fails (found es) e = never (cc)
 measured-fails (failing b) {a} e = let z : ◌≡◌ {A = Address} (record { 0 = b }) a = cc in ap (λ (x : Address). failing x.0) z
 
 -- ---- the text's length against the room and 32,768
 
 module _ (room : List ℕ) where
-  pub given-short : (f : Found) {n : ℕ} → measure_of f ≡ M.Long n → length room < n → leaves TooLong room ≡ reply_by room f
+  pub given-short : (f : Found) {n : ℕ} → measure_of f ≡ Ok n → length room < n → leaves (Err TooLong) room ≡ reply_by room f
   given-short (found es) e h =
       let z : length (text_of_lines es) ≡ _ = sym (measured-long (found es) e).1 in
       rw (lt-ltb (length room) (length (text_of_lines es)) (omega (arith, z)))
   given-short (failing a) e h = never (cc)
 
-  pub given_above : (f : Found) {n : ℕ} → measure_of f ≡ M.Long n → longest_source < n → leaves TooLong room ≡ reply_by room f
+  pub given_above : (f : Found) {n : ℕ} → measure_of f ≡ Ok n → longest_source < n → leaves (Err TooLong) room ≡ reply_by room f
   given_above (found es) e h =
       let z = (measured-long (found es) e).1 in
       rw (lt-ltb longest_source (length (text_of_lines es)) (omega (arith, z))) (either (ltb (length room) (length (text_of_lines es))))
@@ -50,9 +50,9 @@ module _ (room : List ℕ) where
       either false = refl
   given_above (failing a) e h = never (cc)
 
-  pub given-done : (f : Found) {n : ℕ} {after : List ℕ} → measure_of f ≡ M.Long n → n ≤ length room → n ≤ longest_source
+  pub given-done : (f : Found) {n : ℕ} {after : List ℕ} → measure_of f ≡ Ok n → n ≤ length room → n ≤ longest_source
       → after ≡ overwrite room 0 (found_text f)
-      → leaves (Done n) after ≡ reply_by room f
+      → leaves (Ok n) after ≡ reply_by room f
   given-done (found es) e h k w =
       let z = (measured-long (found es) e).1 in
       rw (
@@ -67,7 +67,7 @@ module _ (room : List ℕ) where
 -- ---- the reply
 
 module _ (memory marks room : List ℕ) where
-  pub lists-bad : good_loan memory marks ≡ false → Replies memory marks room (leaves BadLoan room)
+  pub lists-bad : good_loan memory marks ≡ false → Replies memory marks room (leaves (Err BadLoan) room)
   lists-bad e = bad-loan e
 
   pub lists-good : {l : Leaves} → good_loan memory marks ≡ true → l ≡ reply_by room (lines_of memory marks) → Replies memory marks room l
@@ -77,6 +77,6 @@ module _ (memory marks room : List ℕ) where
       whole : list_of memory marks room ≡ reply_by room (lines_of memory marks)
       whole = rw g
 
-  pub lists-undecoded : {a : Address} → good_loan memory marks ≡ true → M.Fails a ≡ measure_of (lines_of memory marks)
-      → Replies memory marks room (leaves (Undecoded a) room)
+  pub lists-undecoded : {a : Address} → good_loan memory marks ≡ true → Err a ≡ measure_of (lines_of memory marks)
+      → Replies memory marks room (leaves (Err (Undecoded a)) room)
   lists-undecoded {a} g e = lists-good g (sym (ap (reply_by room) (measured-fails (lines_of memory marks) (sym e))))

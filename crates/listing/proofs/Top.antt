@@ -16,8 +16,9 @@ use Rattle.listing.specs.Listing.{RunLines, LinesOf, Leaves, leaves, refused, gi
 use Rattle.listing.specs.Inner.Walk.{list_of}
 use Rattle.listing.specs.declared.Entry.{Entry}
 use Rattle.listing.specs.declared.Entry.TheVariants.{Reserves}
-use Rattle.listing.specs.declared.Listed.{Listed}
-use Rattle.listing.specs.declared.Listed.TheVariants.{Done, BadLoan, Undecoded, TooLong}
+use Rattle.std.proofs.Common.{Result, Ok, Err}
+use Rattle.listing.specs.declared.NotListed.{NotListed}
+use Rattle.listing.specs.declared.NotListed.TheVariants.{BadLoan, Undecoded, TooLong}
 use Rattle.listing.proofs.Covered.{one_list}
 use Rattle.listing.proofs.Exactly as Exactly
 use Rattle.listing.proofs.Cleared as Cleared
@@ -27,14 +28,14 @@ use Rattle.listing.proofs.Examples as Examples
 -- ---- exactly
 
 -- the answer that what is left tells of
-abbrev answer_in : Leaves → Listed
-answer_in l = get_or (Done l.text ∷ BadLoan ∷ Undecoded (record { 0 = l.address }) ∷ []) l.refusal TooLong
+abbrev answer_in : Leaves → Result ℕ NotListed
+answer_in l = get_or (Ok l.text ∷ (Err BadLoan) ∷ (Err (Undecoded (record { 0 = l.address }))) ∷ []) l.refusal (Err TooLong)
 
-answer_back : (r : Listed) (room : List ℕ) → answer_in (leaves r room) ≡ r
-answer_back (Done n) room = refl
-answer_back BadLoan room = refl
-answer_back (Undecoded a) room = refl
-answer_back TooLong room = refl
+answer_back : (r : Result ℕ NotListed) (room : List ℕ) → answer_in (leaves r room) ≡ r
+answer_back (Ok n) room = refl
+answer_back (Err BadLoan) room = refl
+answer_back (Err (Undecoded a)) room = refl
+answer_back (Err TooLong) room = refl
 
 module _ (memory marks room : List ℕ) where
   -- the listing as a function answers as its meaning says, and what its meaning says is its answer
@@ -50,7 +51,7 @@ module _ (memory marks room : List ℕ) where
   one-reply h h' = sym (Exactly.replied memory marks room h) ∙ Exactly.replied memory marks room h'
 
   -- so two answers that keep the promise of `list`, with the rooms they leave, are one
-  pub one_answer : {r s : Listed} {xs ys : List ℕ} → Replies memory marks room (leaves r xs) → Replies memory marks room (leaves s ys)
+  pub one_answer : {r s : Result ℕ NotListed} {xs ys : List ℕ} → Replies memory marks room (leaves r xs) → Replies memory marks room (leaves s ys)
       → (r ≡ s) × (xs ≡ ys)
   one_answer {r} {s} {xs} {ys} h h' =
       let e = one-reply h h' in

@@ -17,7 +17,9 @@ use Rattle.numerals.specs.Bytes.{LF}
 use Rattle.isa.specs.Encoding.{words_of}
 use Rattle.isa.specs.Decoding.{decode_of}
 use Rattle.isa.specs.declared.Decoded.{Decoded}
-use Rattle.isa.specs.declared.Decoded.TheVariants as D
+use Rattle.std.proofs.Common.{Result, Ok, Err}
+use Rattle.isa.specs.declared.Undecoded.{Undecoded}
+use Rattle.isa.specs.declared.Undecoded.TheVariants.{NoOpcode, NoMode, NoRegister, PastMemory}
 use Rattle.isa.specs.declared.Address.{Address}
 use Rattle.isa.specs.declared.Instruction.{Instruction}
 use Rattle.isa.proofs.Tests.{both_true, never}
@@ -330,7 +332,7 @@ module _ (memory marks : List ℕ) (alike : length marks ≡ length memory) wher
       (code_lines_lem (run at code_mark t.first.cells) refl)
 
   -- an instruction whose words are all marked as code
-  module _ (behind at : ℕ) (below : at < length memory) (i : Instruction) (n : Address) (read : decode_of memory at ≡ D.Read i n)
+  module _ (behind at : ℕ) (below : at < length memory) (i : Instruction) (n : Address) (read : decode_of memory at ≡ Ok (record { instruction = i; next = n }))
       (coded : Coded marks at n.0) where
     read_here : Returns memory at i n
     read_here = encode_decode memory at i n read
@@ -441,7 +443,7 @@ module _ (memory marks : List ℕ) (alike : length marks ≡ length memory) wher
 
   -- no instruction, or one with a word that is not marked as code
   pub rest-bad : (behind at : ℕ) → at < length memory → get_or marks at free ≡ code_mark
-      → ((i : Instruction) (n : Address) → decode_of memory at ≡ D.Read i n → Coded marks at n.0 → ⊥)
+      → ((i : Instruction) (n : Address) → decode_of memory at ≡ Ok (record { instruction = i; next = n }) → Coded marks at n.0 → ⊥)
       → rest memory marks behind at ≡ failing at
   unfolding parts_from
   rest-bad behind at h k bad =
@@ -451,7 +453,7 @@ module _ (memory marks : List ℕ) (alike : length marks ≡ length memory) wher
       s : Here at code_mark
       s = here at code_mark h k (λ e. absurd (omega (arith, e)))
 
-      no_read : (i : Instruction) (n : Address) → decode_of s.first.cells 0 ≡ D.Read i n → ⊥
+      no_read : (i : Instruction) (n : Address) → decode_of s.first.cells 0 ≡ Ok (record { instruction = i; next = n }) → ⊥
       no_read i n e =
           let r = encode_decode s.first.cells 0 i n e in
           let l = size-read s.first.cells 0 i n e in
@@ -463,13 +465,13 @@ module _ (memory marks : List ℕ) (alike : length marks ≡ length memory) wher
           (λ a u v. let j : s.first.from + (a - at) ≡ a = omega (arith, s.begins) in
           ap (λ (x : ℕ). get_or marks x free) (sym j) ∙ (s.fits.agrees (a - at) (omega (arith, l, r.within))).1 ∙ s.marked)
 
-      by : (w : ℕ) (ws : List ℕ) → s.first.cells ≡ w ∷ ws → (d : Decoded) → decode_of (w ∷ ws) 0 ≡ d
+      by : (w : ℕ) (ws : List ℕ) → s.first.cells ≡ w ∷ ws → (d : Result Decoded Undecoded) → decode_of (w ∷ ws) 0 ≡ d
           → parts_by at d (λ more. parts_from ws more (at + 1)) ≡ fails at
-      by w ws e (D.Read i n) f = absurd (no_read i n (ap (λ (l : List ℕ). decode_of l 0) e ∙ f))
-      by w ws e D.NoOpcode f = refl
-      by w ws e D.NoMode f = refl
-      by w ws e D.NoRegister f = refl
-      by w ws e D.PastMemory f = refl
+      by w ws e (Ok r) f = absurd (no_read r.instruction r.next (ap (λ (l : List ℕ). decode_of l 0) e ∙ f))
+      by w ws e (Err NoOpcode) f = refl
+      by w ws e (Err NoMode) f = refl
+      by w ws e (Err NoRegister) f = refl
+      by w ws e (Err PastMemory) f = refl
 
       parts : (ws : List ℕ) → s.first.cells ≡ ws → parts_from ws 0 at ≡ fails at
       parts [] e = absurd (omega (arith, ap length e, s.fits.some))
@@ -484,27 +486,27 @@ module _ (memory marks : List ℕ) (alike : length marks ≡ length memory) wher
       (rest memory marks behind at ≡ line_before behind at e (rest memory marks n.0 n.0)) × (at < n.0) × (n.0 ≤ length memory) × Addressed e
   Goes behind at B.Fails = rest memory marks behind at ≡ failing at
 
-  goes-code : (behind at : ℕ) → at < length memory → get_or marks at free ≡ code_mark → (d : Decoded) → decode_of memory at ≡ d
+  goes-code : (behind at : ℕ) → at < length memory → get_or marks at free ≡ code_mark → (d : Result Decoded Undecoded) → decode_of memory at ≡ d
       → Goes behind at (code_by marks at d)
-  goes-code behind at h k (D.Read i n) e = go (every_code (slice at n.0 marks)) refl
+  goes-code behind at h k (Ok g) e = go (every_code (slice at g.next.0 marks)) refl
     where
-      r : Returns memory at i n
-      r = encode_decode memory at i n e
+      r : Returns memory at g.instruction g.next
+      r = encode_decode memory at g.instruction g.next e
 
-      go : (b : Bool) → every_code (slice at n.0 marks) ≡ b → Goes behind at (cond b (B.Line (Instructs i) n) B.Fails)
+      go : (b : Bool) → every_code (slice at g.next.0 marks) ≡ b → Goes behind at (cond b (B.Line (Instructs g.instruction) g.next) B.Fails)
       go true t =
-          (rest-code behind at h i n e (every-coded marks at n.0 (omega (arith, r.within, alike)) t), r.onward, r.within, tt)
+          (rest-code behind at h g.instruction g.next e (every-coded marks at g.next.0 (omega (arith, r.within, alike)) t), r.onward, r.within, tt)
       go false t = rest-bad behind at h k (λ j m f c. absurd (differs j m f c))
         where
-          differs : (j : Instruction) (m : Address) → decode_of memory at ≡ D.Read j m → Coded marks at m.0 → ⊥
+          differs : (j : Instruction) (m : Address) → decode_of memory at ≡ Ok (record { instruction = j; next = m }) → Coded marks at m.0 → ⊥
           differs j m f c =
-              let z : m ≡ n = cc in
+              let z : m ≡ g.next = cc in
               let y = coded-every marks at m.0 (omega (arith, ap (λ (x : Address). x.0) z, r.within, alike)) c in
               false≢true (sym t ∙ ap (λ (x : Address). every_code (slice at x.0 marks)) (sym z) ∙ y)
-  goes-code behind at h k D.NoOpcode e = rest-bad behind at h k (λ j m f c. never (cc))
-  goes-code behind at h k D.NoMode e = rest-bad behind at h k (λ j m f c. never (cc))
-  goes-code behind at h k D.NoRegister e = rest-bad behind at h k (λ j m f c. never (cc))
-  goes-code behind at h k D.PastMemory e = rest-bad behind at h k (λ j m f c. never (cc))
+  goes-code behind at h k (Err NoOpcode) e = rest-bad behind at h k (λ j m f c. never (cc))
+  goes-code behind at h k (Err NoMode) e = rest-bad behind at h k (λ j m f c. never (cc))
+  goes-code behind at h k (Err NoRegister) e = rest-bad behind at h k (λ j m f c. never (cc))
+  goes-code behind at h k (Err PastMemory) e = rest-bad behind at h k (λ j m f c. never (cc))
 
   -- "a run of 65,536 as `RES 65535`, `RES 1`" (02, K2): what is left behind the first of them is reserved too
   goes-reserved : (behind at : ℕ) → at < length memory → length memory ≤ most_cells → get_or marks at free ≡ reserved_mark

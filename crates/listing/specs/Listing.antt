@@ -9,8 +9,9 @@ use Rattle.listing.specs.Runs.{Run, Runs}
 use Rattle.listing.specs.Decodes.{Instructions, FirstUndecoded}
 use Rattle.listing.specs.declared.Entry.{Entry}
 use Rattle.listing.specs.declared.Entry.TheVariants.{Origin, Instructs, Holds, Reserves, Finish}
-use Rattle.listing.specs.declared.Listed.{Listed}
-use Rattle.listing.specs.declared.Listed.TheVariants.{Done, BadLoan, Undecoded, TooLong}
+use Rattle.std.specs.Prelude.{Result, Ok, Err}
+use Rattle.listing.specs.declared.NotListed.{NotListed}
+use Rattle.listing.specs.declared.NotListed.TheVariants.{BadLoan, Undecoded, TooLong}
 
 -- ---- the lines
 
@@ -42,24 +43,24 @@ pub data FirstBadRun : List Run → ℕ → Type 0 where
 -- ---- the reply
 
 -- the paper's number of an answer, 0 where a listing is given
-abbrev pub refusal_of : Listed → ℕ
-refusal_of (Done n) = 0
-refusal_of BadLoan = 1
-refusal_of (Undecoded a) = 2
-refusal_of TooLong = 3
+abbrev pub refusal_of : Result ℕ NotListed → ℕ
+refusal_of (Ok n) = 0
+refusal_of (Err BadLoan) = 1
+refusal_of (Err (Undecoded a)) = 2
+refusal_of (Err TooLong) = 3
 
 -- the address that an answer tells, and the text's length
-abbrev pub address_of : Listed → ℕ
-address_of (Done n) = 0
-address_of BadLoan = 0
-address_of (Undecoded a) = a.0
-address_of TooLong = 0
+abbrev pub address_of : Result ℕ NotListed → ℕ
+address_of (Ok n) = 0
+address_of (Err BadLoan) = 0
+address_of (Err (Undecoded a)) = a.0
+address_of (Err TooLong) = 0
 
-abbrev pub length_of : Listed → ℕ
-length_of (Done n) = n
-length_of BadLoan = 0
-length_of (Undecoded a) = 0
-length_of TooLong = 0
+abbrev pub length_of : Result ℕ NotListed → ℕ
+length_of (Ok n) = n
+length_of (Err BadLoan) = 0
+length_of (Err (Undecoded a)) = 0
+length_of (Err TooLong) = 0
 
 -- a refusal or 0, the address of the instruction that fails or 0, the text's length, and the room after
 pub record Leaves : Type 0 where
@@ -68,7 +69,7 @@ pub record Leaves : Type 0 where
   pub text : ℕ
   pub room : List ℕ
 
-abbrev pub leaves : Listed → List ℕ → Leaves
+abbrev pub leaves : Result ℕ NotListed → List ℕ → Leaves
 leaves answer room = record { refusal = refusal_of answer; address = address_of answer; text = length_of answer; room = room }
 
 -- "nothing written"

@@ -5,36 +5,36 @@ ghost use Rattle.listing.specs.Listing.{leaves, Replies};
 ghost use Rattle.listing.specs.Inner.Walk.{lines_of, reply_by};
 ghost use Rattle.listing.specs.Inner.Begins.{measure_of};
 
+use super::NotListed;
 use super::walking::{measured, write};
-use super::{Listed, Measured};
 use codes::limits::LONGEST_SOURCE;
 use image::printing::good_loan;
 
 // Every code run decodes, and the text's length is known: it is written, or is too long.
-fn given(memory: &[u16], map: &[u8], room: &mut [u8], length: usize) -> Listed
+fn given(memory: &[u16], map: &[u8], room: &mut [u8], length: usize) -> Result<usize, NotListed>
     requires { (good_loan memory.now map.now ≡ true)
-        × (measure_of (lines_of memory.now map.now) ≡ Measured.Long length) }
+        × (measure_of (lines_of memory.now map.now) ≡ Ok length) }
     ensures { leaves result room.new ≡ reply_by room.old (lines_of memory.now map.now) }
 {
     if room.len() < length {
-        return Listed::TooLong;
+        return Err(NotListed::TooLong);
     }
     if LONGEST_SOURCE < length {
-        return Listed::TooLong;
+        return Err(NotListed::TooLong);
     }
     write(memory, map, room);
-    Listed::Done(length)
+    Ok(length)
 }
 
 // Lists memory and map at the head of a room. Nothing is written before it is certain that every code run decodes and that all of the text fits.
-pub fn list(memory: &[u16], map: &[u8], room: &mut [u8]) -> Listed
+pub fn list(memory: &[u16], map: &[u8], room: &mut [u8]) -> Result<usize, NotListed>
     ensures { Replies memory.now map.now room.old (leaves result room.new) }
 {
     if !good_loan(memory, map) {
-        return Listed::BadLoan;
+        return Err(NotListed::BadLoan);
     }
     match measured(memory, map) {
-        Measured::Fails(a) => Listed::Undecoded(a),
-        Measured::Long(n) => given(memory, map, room, n),
+        Err(a) => Err(NotListed::Undecoded(a)),
+        Ok(n) => given(memory, map, room, n),
     }
 }

@@ -10,10 +10,9 @@ mod walking; // from address to address: measured first, then written
 
 use isa::{Address, Instruction};
 
-// The length of the listing that was given; or why none was.
-#[derive(Clone, Copy)]
-pub enum Listed {
-    Done(usize),
+// Why no listing is given.
+#[derive(Clone, Copy, Debug, PartialEq, Eq)]
+pub enum NotListed {
     BadLoan,
     Undecoded(Address),
     TooLong,
@@ -35,11 +34,4 @@ pub enum Begins {
     Nothing,
     Line(Entry, Address),
     Fails,
-}
-
-// How long a listing is, or where it fails.
-#[derive(Clone, Copy)]
-pub enum Measured {
-    Long(usize),
-    Fails(Address),
 }

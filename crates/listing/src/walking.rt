@@ -9,10 +9,10 @@ ghost use Rattle.listing.specs.Inner.Walk.{lines_of};
 ghost use Rattle.listing.specs.Inner.Begins.{every_code, code_by, reserved_run, reserved_by, begins_at, found_text, was_found, measure_of};
 
 use super::lines::{line, line_from, line_length};
-use super::{Begins, Entry, Measured};
+use super::{Begins, Entry};
 use codes::marks::{CODE, FREE, RESERVED};
 use isa::decoding::decode;
-use isa::{Address, Decoded};
+use isa::{Address, Decoded, Undecoded};
 
 // Whether all marks from one address up to another are those of code.
 fn all_code(map: &[u8], from: usize, to: usize) -> bool
@@ -35,17 +35,17 @@ fn code_at(memory: &[u16], map: &[u8], at: usize) -> Begins
     ensures { result ≡ code_by map.now at (decode_of memory.now at) }
 {
     match decode(memory, Address(at)) {
-        Decoded::Read(i, next) => {
+        Ok(Decoded { instruction: i, next }) => {
             let to = next.0;
             if all_code(map, at, to) {
                 return Begins::Line(Entry::Instructs(i), next);
             }
             Begins::Fails
         }
-        Decoded::NoOpcode => Begins::Fails,
-        Decoded::NoMode => Begins::Fails,
-        Decoded::NoRegister => Begins::Fails,
-        Decoded::PastMemory => Begins::Fails,
+        Err(Undecoded::NoOpcode) => Begins::Fails,
+        Err(Undecoded::NoMode) => Begins::Fails,
+        Err(Undecoded::NoRegister) => Begins::Fails,
+        Err(Undecoded::PastMemory) => Begins::Fails,
     }
 }
 
@@ -94,7 +94,7 @@ fn begins_at(memory: &[u16], map: &[u8], at: usize) -> Begins
 }
 
 // Decodes every code run and adds up the lengths of all lines, END's 4 bytes last.
-pub(crate) fn measured(memory: &[u16], map: &[u8]) -> Measured
+pub(crate) fn measured(memory: &[u16], map: &[u8]) -> Result<usize, Address>
     requires { good_loan memory.now map.now ≡ true }
     ensures { result ≡ measure_of (lines_of memory.now map.now) }
 {
@@ -112,11 +112,11 @@ pub(crate) fn measured(memory: &[u16], map: &[u8]) -> Measured
                 behind = at;
             }
             Begins::Fails => {
-                return Measured::Fails(Address(at));
+                return Err(Address(at));
             }
         }
     }
-    Measured::Long(length + 4)
+    Ok(length + 4)
 }
 
 // Writes the lines at the head of a room, where every code run decodes and there is room for all.

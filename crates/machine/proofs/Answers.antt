@@ -4,8 +4,7 @@ use mathlib.Core.Bool.{Bool, true, false, cond}
 use mathlib.Core.List.{List}
 use Prim.Native.Nat.{ℕ}
 use Rattle.ports.specs.Input.{Passed, passed}
-use Rattle.ports.specs.declared.Moved.{Moved}
-use Rattle.ports.specs.declared.Moved.TheVariants.{Short}
+use Rattle.std.proofs.Common.{Result, Err}
 use Rattle.ports.proofs.Laws.{Keeps}
 use Rattle.machine.specs.States.{state, machine, with_stop}
 use Rattle.machine.specs.Stops.{answer, is_stored, refuses}
@@ -24,6 +23,6 @@ module _ (r m out : List ℕ) (taken written k : ℕ) where
       go false = refl
 
 -- an input or output that is refused leaves the row as it was
-pub refused-row : {lent : List ℕ} {place stop : ℕ → Type 0} (its : Passed) → Keeps lent place stop its → {v : Moved} {row : List ℕ} → passed v row ≡ its →
-    (k : ℕ) → v ≡ Short k → row ≡ lent
+pub refused-row : {lent : List ℕ} {place stop : ℕ → Type 0} (its : Passed) → Keeps lent place stop its → {v : Result ℕ ℕ} {row : List ℕ} → passed v row ≡ its →
+    (k : ℕ) → v ≡ Err k → row ≡ lent
 refused-row its h q k e = ap (λ (x : Passed). x.row) q ∙ (h.refuses (sym (ap (λ (x : Passed). x.moved) q) ∙ e)).0

@@ -11,7 +11,7 @@ use Rattle.codes.specs.Registers.{SR, SP, PC}
 use Rattle.isa.specs.Opcodes.{table, opcodes, opcode_of}
 use Rattle.isa.specs.Operands.{operand_of}
 use Rattle.isa.specs.Decoding.{modes_allowed, size_in, instruction_in}
-use Rattle.isa.specs.declared.Decoded.TheVariants.{Read}
+use Rattle.std.proofs.Common.{None, Ok}
 use Rattle.isa.specs.declared.Instruction.{Instruction}
 use Rattle.isa.specs.declared.Opcode.TheVariants as O
 use Rattle.isa.specs.declared.Operand.{Operand}
@@ -21,7 +21,6 @@ use Rattle.effects.specs.Effects.{goes_to, writes, by_opcode, addresses_there, p
 use Rattle.effects.specs.Places.{place_of, there_in, target_of}
 use Rattle.effects.specs.Applied.{registers_after, memory_after}
 use Rattle.effects.specs.declared.Effect.{Effect}
-use Rattle.effects.specs.declared.Flags.TheVariants.{Unchanged}
 use Rattle.effects.specs.declared.Performed.{Performed}
 use Rattle.effects.specs.declared.Performed.TheVariants.{Does}
 use Rattle.effects.specs.declared.Place.{Place}
@@ -49,7 +48,7 @@ module _ (input : List ℕ) (s : State) (good : good_loan input s ≡ true) (run
 
   -- what the instruction comes to decides
   pub comes_to : {i : Instruction} (p : Performed) → Reads s i next → perform_of r m next i ≡ p → step_of input s ≡ performed input s next p
-  comes_to {i} p read e = step-decoded input s good runs (Read i (record { 0 = next })) read ∙ ap (performed input s next) e
+  comes_to {i} p read e = step-decoded input s good runs (Ok (record { instruction = i; next = (record { 0 = next }) })) read ∙ ap (performed input s next) e
 
   pub does_it : {i : Instruction} (e : Effect) → Reads s i next → perform_of r m next i ≡ Does e → step_of input s ≡ does s e taken written
   does_it e read p = comes_to (Does e) read p
@@ -80,7 +79,7 @@ module _ (input : List ℕ) (s : State) (good : good_loan input s ≡ true) (run
 
   module _ (a : Operand) (there : There s next a) where
     moves : (b : Operand) → Reads s (two O.MOVE a b) next → There s next b →
-        step_of input s ≡ does s (writes next (get_or r SP 0) (place_in s next b) (value_in s next a) Unchanged) taken written
+        step_of input s ≡ does s (writes next (get_or r SP 0) (place_in s next b) (value_in s next a) None) taken written
     unfolding perform_of addresses_there table by_opcode
     moves b read q = does_it _ read (rw (there, q))
 
@@ -120,7 +119,7 @@ module _ (input : List ℕ) (s : State) (good : good_loan input s ≡ true) (run
     MOVE_to_cell b c at h read =
         let v = value_in s next a in
         moves b read (rw (at, lt-ltb c (length m) h))
-        ∙ ap (λ (p : Place). does s (writes next (get_or r SP 0) p v Unchanged) taken written) at
+        ∙ ap (λ (p : Place). does s (writes next (get_or r SP 0) p v None) taken written) at
         ∙ does-cell s next (get_or r SP 0) v taken written c
         ∙ same_SP r (λ (x : List ℕ). completes s x (set m c v) next)
 
@@ -150,7 +149,7 @@ module _ (input : List ℕ) (s : State) (good : good_loan input s ≡ true) (run
     RET read = does_it _ read (effects.ret r m next h) ∙ does-nowhere s popped above popped taken written
 
     pops : (a : Operand) → Reads s (one O.POP a) next → There s next a →
-        step_of input s ≡ does s (writes next above (place_in s next a) popped Unchanged) taken written
+        step_of input s ≡ does s (writes next above (place_in s next a) popped None) taken written
     pops a read there = does_it _ read (effects.pop r m next a there h)
 
     -- "POP raises SP, then reads"
@@ -189,7 +188,7 @@ module _ (input : List ℕ) (s : State) (good : good_loan input s ≡ true) (run
     unfolding there_in writes
     POP_to_cell a c at l read =
         pops a read (rw (at, lt-ltb c (length m) l))
-        ∙ ap (λ (p : Place). does s (writes next above p popped Unchanged) taken written) at
+        ∙ ap (λ (p : Place). does s (writes next above p popped None) taken written) at
         ∙ does-cell s next above popped taken written c
 
 -- ---- the largest memory

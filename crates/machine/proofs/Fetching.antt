@@ -7,7 +7,8 @@ use Rattle.codes.specs.Stops.{no_register}
 use Rattle.isa.specs.Opcodes.{table}
 use Rattle.isa.specs.Operands.{operand_of}
 use Rattle.isa.specs.Decoding.{opcode_in, mode1_in, mode2_in, instruction_in, registers_there, read_unless}
-use Rattle.isa.specs.declared.Decoded.TheVariants.{Read, NoRegister}
+use Rattle.std.proofs.Common.{Ok, Err}
+use Rattle.isa.specs.declared.Undecoded.TheVariants.{NoRegister}
 use Rattle.isa.specs.declared.Instruction.{Instruction}
 use Rattle.isa.specs.declared.Opcode.{Opcode}
 use Rattle.isa.proofs.Refusals.{instruction_by}
@@ -33,7 +34,7 @@ unfolding read_unless perform_unless
 unless input s i after = go (registers_there i)
   where
     go : (b : Bool) →
-        decoded input s (cond b (Read i (record { 0 = after })) NoRegister) ≡
+        decoded input s (cond b (Ok (record { instruction = i; next = (record { 0 = after }) })) (Err NoRegister)) ≡
         performed input s after (cond b (perform_of s.registers.r s.memory after i) (Stops no_register))
     go true = refl
     go false = refl

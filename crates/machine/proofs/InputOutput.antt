@@ -28,7 +28,7 @@ use Rattle.ports.specs.Overwriting.{overwrite}
 use Rattle.ports.specs.Input.{Passed}
 use Rattle.ports.specs.Output.{low_byte, text_put}
 use Rattle.ports.specs.Rules.{Free, Line, StringFrom}
-use Rattle.ports.specs.declared.Taken.TheVariants.{Value}
+use Rattle.std.proofs.Common.{Ok}
 use Rattle.ports.proofs.Outcomes.{text-put}
 use Rattle.ports.proofs.Rules.{line_stored}
 use Rattle.ports.proofs.Top as ports
@@ -214,7 +214,7 @@ module _ (input : List ℕ) (s : State) (good : good_loan input s ≡ true) (run
 module _ (input : List ℕ) (s : State) (good : good_loan input s ≡ true) (runs : s.registers.stop ≡ 0) (next k : ℕ)
     (no_SR : k ≡ SR → ⊥) (no_PC : k ≡ PC → ⊥) (here : s.registers.taken < length input) where
   taken_to_register : (v after : ℕ) →
-      takes s next (InRegister k) (Value v after) ≡
+      takes s next (InRegister k) (Ok (record { value = v; after = after })) ≡
       kept (length s.memory) next (set s.registers.r k v) after s.registers.written s.memory s.output
   taken_to_register v after =
       ap (λ (e : Effect). does s e after s.registers.written) (writes-register next (register s SP) k v no_PC)

@@ -9,7 +9,7 @@ use lib.ListN.{length, get_or, set}
 use lib.Seq.{set-get_or}
 use Rattle.codes.specs.Registers.{SR, SP, PC}
 use Rattle.isa.specs.Decoding.{decode_of}
-use Rattle.isa.specs.declared.Decoded.TheVariants.{Read}
+use Rattle.std.proofs.Common.{None, Ok}
 use Rattle.isa.specs.declared.Instruction.{Instruction}
 use Rattle.isa.specs.declared.Opcode.{Opcode}
 use Rattle.isa.specs.declared.Operand.{Operand}
@@ -18,7 +18,6 @@ use Rattle.effects.specs.Places.{place_of, value_at, there_in}
 use Rattle.effects.specs.Effects.{writes}
 use Rattle.effects.specs.Applied.{keeping_h, with_register, registers_after, memory_after}
 use Rattle.effects.specs.declared.Effect.{Effect}
-use Rattle.effects.specs.declared.Flags.TheVariants.{Unchanged}
 use Rattle.effects.specs.declared.Place.{Place}
 use Rattle.effects.specs.declared.Place.TheVariants.{Nowhere, InRegister, InCell}
 use Rattle.machine.specs.States.{State, state, machine, register}
@@ -37,7 +36,7 @@ alone o = two o Absent Absent
 
 -- such an instruction stands at PC, and `next` is the address after it
 abbrev pub Reads : State → Instruction → ℕ → Type 0
-Reads s i next = decode_of s.memory (register s PC) ≡ Read i (record { 0 = next })
+Reads s i next = decode_of s.memory (register s PC) ≡ Ok (record { instruction = i; next = (record { 0 = next }) })
 
 -- where its operand is, what stands there, and that it is no cell outside memory
 abbrev pub place_in : State → ℕ → Operand → Place
@@ -72,7 +71,7 @@ module _ (size next : ℕ) (r : List ℕ) (taken written : ℕ) (m out : List �
 
 module _ (s : State) (next sp v taken written : ℕ) where
   abbrev effect : Place → Effect
-  effect to = record { next = next; sp = sp; to = to; value = v; flags = Unchanged }
+  effect to = record { next = next; sp = sp; to = to; value = v; flags = None }
 
   abbrev keeps : List ℕ → List ℕ → Answer
   keeps r m = kept (length s.memory) next r taken written m s.output
@@ -97,7 +96,7 @@ module _ (s : State) (next sp v taken written : ℕ) where
 
 -- a register other than PC is written as it is named
 pub writes-register : (next sp k v : ℕ) → (k ≡ PC → ⊥) →
-    writes next sp (InRegister k) v Unchanged ≡ record { next = next; sp = sp; to = InRegister k; value = v; flags = Unchanged }
+    writes next sp (InRegister k) v None ≡ record { next = next; sp = sp; to = InRegister k; value = v; flags = None }
 unfolding writes
 writes-register next sp k v h = rw (ne_eqb k PC h)
 

@@ -13,10 +13,11 @@ use lib.Seq.{get_or-set_same, get_or-set_other, set_out}
 use Rattle.codes.specs.Registers.{SR, SP, PC}
 use Rattle.isa.specs.Decoding.{decode_of}
 use Rattle.isa.specs.declared.Decoded.{Decoded}
-use Rattle.isa.specs.declared.Decoded.TheVariants.{Read, NoOpcode, NoMode, NoRegister, PastMemory}
+use Rattle.std.proofs.Common.{None, Result, Ok, Err}
+use Rattle.isa.specs.declared.Undecoded.{Undecoded}
+use Rattle.isa.specs.declared.Undecoded.TheVariants.{NoOpcode, NoMode, NoRegister, PastMemory}
 use Rattle.effects.specs.Effects.{writes, perform_of}
 use Rattle.effects.specs.declared.Effect.{Effect}
-use Rattle.effects.specs.declared.Flags.TheVariants.{Unchanged}
 use Rattle.effects.specs.declared.Place.{Place}
 use Rattle.effects.specs.declared.Port.{Port}
 use Rattle.effects.specs.declared.Port.TheVariants.{TakeByte, TakeNumber, TakeString, PutByte, PutNumber, PutString}
@@ -27,9 +28,6 @@ use Rattle.effects.proofs.Laws.{registers-length, memory-length, SR_six_bits}
 use Rattle.ports.specs.Input.{Passed, byte_taken, number_taken, string_taken}
 use Rattle.ports.specs.Output.{byte_put, number_put, string_put}
 use Rattle.ports.specs.declared.Taken.{Taken}
-use Rattle.ports.specs.declared.Taken.TheVariants.{Value, NoValue}
-use Rattle.ports.specs.declared.Moved.{Moved}
-use Rattle.ports.specs.declared.Moved.TheVariants.{To, Short}
 use Rattle.ports.proofs.Laws.{Keeps, Within, Past, Only, Either, WRCHAR-keeps, WRINT-keeps, WRSTR-keeps, INSTR-keeps, ININT-takes}
 use Rattle.machine.specs.States.{State, register}
 use Rattle.machine.specs.Stops.{Answer, refuses}
@@ -98,19 +96,19 @@ stop_performing k (inr e) = stop-below k (omega arith) (omega arith)
 
 -- INCHAR takes a byte that is there, whatever stands there
 module _ (input : List ℕ) (at : ℕ) where
-  byte-within : (v t : ℕ) → byte_taken input at ≡ Value v t → t ≤ length input
+  byte-within : (v t : ℕ) → byte_taken input at ≡ Ok (record { value = v; after = t }) → t ≤ length input
   unfolding byte_taken
   byte-within v t = go (ltb at (length input)) refl
     where
-      go : (b : Bool) → ltb at (length input) ≡ b → cond b (Value (get_or input at 0) (at + 1)) (NoValue 8) ≡ Value v t → t ≤ length input
+      go : (b : Bool) → ltb at (length input) ≡ b → cond b (Ok (record { value = (get_or input at 0); after = (at + 1) })) (Err 8) ≡ Ok (record { value = v; after = t }) → t ≤ length input
       go true e q = let l : at < length input = ltb-true at (length input) e in let z : at + 1 ≡ t = cc in omega arith
       go false e q = let z : ◌≡◌ {A = ℕ} 0 1 = cc in absurd (omega arith)
 
-  byte-ends : (k : ℕ) → byte_taken input at ≡ NoValue k → k ≡ 8
+  byte-ends : (k : ℕ) → byte_taken input at ≡ Err k → k ≡ 8
   unfolding byte_taken
   byte-ends k = go (ltb at (length input))
     where
-      go : (b : Bool) → cond b (Value (get_or input at 0) (at + 1)) (NoValue 8) ≡ NoValue k → k ≡ 8
+      go : (b : Bool) → cond b (Ok (record { value = (get_or input at 0); after = (at + 1) })) (Err 8) ≡ Err k → k ≡ 8
       go true q = cc
       go false q = cc
 
@@ -200,27 +198,27 @@ module _ (input : List ℕ) (s : State) (good : Good input s) where
 
   -- ---- input and output
 
-  takes-outcome : (next : ℕ) (place : Place) (got : Taken) → ((v t : ℕ) → got ≡ Value v t → t ≤ length input) → ((k : ℕ) → got ≡ NoValue k → k ≡ 8) →
+  takes-outcome : (next : ℕ) (place : Place) (got : Result Taken ℕ) → ((v t : ℕ) → got ≡ Ok (record { value = v; after = t }) → t ≤ length input) → ((k : ℕ) → got ≡ Err k → k ≡ 8) →
       Outcome input s (takes s next place got)
-  takes-outcome next place (Value v t) h n =
-      inl (does-completes (writes next (register s SP) place v Unchanged) t s.registers.written (h v t refl) good.written)
-  takes-outcome next place (NoValue k) h n = refuses_by input s k (stop_eight k (n k refl))
+  takes-outcome next place (Ok r) h n =
+      inl (does-completes (writes next (register s SP) place r.value None) r.after s.registers.written (h r.value r.after refl) good.written)
+  takes-outcome next place (Err k) h n = refuses_by input s k (stop_eight k (n k refl))
 
   module _ (next : ℕ) (its : Passed) where
     fills-outcome : Keeps s.memory (Past s.registers.taken input) (Either 5 8) its → Outcome input s (fills s next its.moved its.row)
     fills-outcome h = go its.moved refl
       where
-        go : (v : Moved) → its.moved ≡ v → Outcome input s (fills s next v its.row)
-        go (To t) e = inl (goes_on_completes next t s.registers.written its.row s.output (h.moves e).1 good.written h.same_length refl)
-        go (Short k) e = refuses_by input s k (stop-filling k (h.refuses e).1)
+        go : (v : Result ℕ ℕ) → its.moved ≡ v → Outcome input s (fills s next v its.row)
+        go (Ok t) e = inl (goes_on_completes next t s.registers.written its.row s.output (h.moves e).1 good.written h.same_length refl)
+        go (Err k) e = refuses_by input s k (stop-filling k (h.refuses e).1)
 
     prints-outcome : (stop : ℕ → Type 0) → ((k : ℕ) → stop k → Stop k) → Keeps s.output (Within s.registers.written s.output) stop its →
         Outcome input s (prints s next its.moved its.row)
     prints-outcome stop n h = go its.moved refl
       where
-        go : (v : Moved) → its.moved ≡ v → Outcome input s (prints s next v its.row)
-        go (To w) e = inl (goes_on_completes next s.registers.taken w s.memory its.row good.taken (h.moves e).1 refl h.same_length)
-        go (Short k) e = refuses_by input s k (n k (h.refuses e).1)
+        go : (v : Result ℕ ℕ) → its.moved ≡ v → Outcome input s (prints s next v its.row)
+        go (Ok w) e = inl (goes_on_completes next s.registers.taken w s.memory its.row good.taken (h.moves e).1 refl h.same_length)
+        go (Err k) e = refuses_by input s k (n k (h.refuses e).1)
 
   asks-outcome : (next : ℕ) (port : Port) → Outcome input s (asks input s next port)
   unfolding asks
@@ -247,13 +245,13 @@ module _ (input : List ℕ) (s : State) (good : Good input s) where
   performed-outcome next (Asks port) h = asks-outcome next port
   performed-outcome next (Stops k) h = refuses_by input s k (stop_performing k (h k refl))
 
-  decoded-outcome : (d : Decoded) → Outcome input s (decoded input s d)
-  decoded-outcome (Read i next) =
-      performed-outcome next.0 (perform_of s.registers.r s.memory next.0 i) (perform_stops s.registers.r s.memory next.0 i)
-  decoded-outcome NoOpcode = refuses_by input s 2 (stop-below 2 (omega arith) (omega arith))
-  decoded-outcome NoMode = refuses_by input s 3 (stop-below 3 (omega arith) (omega arith))
-  decoded-outcome NoRegister = refuses_by input s 4 (stop-below 4 (omega arith) (omega arith))
-  decoded-outcome PastMemory = refuses_by input s 5 (stop-below 5 (omega arith) (omega arith))
+  decoded-outcome : (d : Result Decoded Undecoded) → Outcome input s (decoded input s d)
+  decoded-outcome (Ok r) =
+      performed-outcome r.next.0 (perform_of s.registers.r s.memory r.next.0 r.instruction) (perform_stops s.registers.r s.memory r.next.0 r.instruction)
+  decoded-outcome (Err NoOpcode) = refuses_by input s 2 (stop-below 2 (omega arith) (omega arith))
+  decoded-outcome (Err NoMode) = refuses_by input s 3 (stop-below 3 (omega arith) (omega arith))
+  decoded-outcome (Err NoRegister) = refuses_by input s 4 (stop-below 4 (omega arith) (omega arith))
+  decoded-outcome (Err PastMemory) = refuses_by input s 5 (stop-below 5 (omega arith) (omega arith))
 
   pub outcome : Outcome input s (runs_on input s)
   unfolding runs_on

@@ -13,7 +13,7 @@ use Rattle.numerals.specs.Reading.{line_number}
 use Rattle.numerals.specs.Writing.{signed_decimal}
 use Rattle.isa.specs.Decoding.{modes_allowed, size_in, instruction_in, registers_there, decode_of}
 use Rattle.isa.specs.declared.Address.{Address}
-use Rattle.isa.specs.declared.Decoded.TheVariants.{Read}
+use Rattle.std.proofs.Common.{Ok}
 use Rattle.isa.specs.declared.Instruction.{Instruction}
 use Rattle.isa.specs.declared.Opcode.TheVariants as O
 use Rattle.isa.specs.declared.Operand.{Operand}
@@ -158,7 +158,7 @@ module _ (input : List ℕ) (s : State) (good : good_loan input s ≡ true) (run
     register-code = orders.no_register input s good runs h t
 
   -- "operand addresses (5; branch and CALL targets count only as next PC)"
-  pub addresses : (i : Instruction) (next : Address) → decode_of s.memory (register s PC) ≡ Read i next →
+  pub addresses : (i : Instruction) (next : Address) → decode_of s.memory (register s PC) ≡ Ok (record { instruction = i; next = next }) →
       addresses_there (length s.memory) i.op (place_of s.registers.r next.0 i.first) (place_of s.registers.r next.0 i.second) ≡
       false →
       step_of input s ≡ refuses s 5

@@ -5,11 +5,12 @@ use Rattle.codes.specs.Registers.{SR, SP, PC}
 use Rattle.codes.specs.Stops.{none, halted, memory_end, bad_loan}
 use Rattle.isa.specs.Decoding.{decode_of, stop_of}
 use Rattle.isa.specs.declared.Decoded.{Decoded}
-use Rattle.isa.specs.declared.Decoded.TheVariants.{Read, NoOpcode, NoMode, NoRegister, PastMemory}
+use Rattle.std.specs.Prelude.{None, Result, Ok, Err}
+use Rattle.isa.specs.declared.Undecoded.{Undecoded}
+use Rattle.isa.specs.declared.Undecoded.TheVariants.{NoOpcode, NoMode, NoRegister, PastMemory}
 use Rattle.effects.specs.Effects.{writes, perform_of}
 use Rattle.effects.specs.Applied.{registers_after, memory_after}
 use Rattle.effects.specs.declared.Effect.{Effect}
-use Rattle.effects.specs.declared.Flags.TheVariants.{Unchanged}
 use Rattle.effects.specs.declared.Place.{Place}
 use Rattle.effects.specs.declared.Port.{Port}
 use Rattle.effects.specs.declared.Port.TheVariants.{TakeByte, TakeNumber, TakeString, PutByte, PutNumber, PutString}
@@ -18,9 +19,6 @@ use Rattle.effects.specs.declared.Performed.TheVariants.{Does, Halts, Asks, Stop
 use Rattle.ports.specs.Input.{Passed, byte_taken, number_taken, string_taken}
 use Rattle.ports.specs.Output.{byte_put, number_put, string_put}
 use Rattle.ports.specs.declared.Taken.{Taken}
-use Rattle.ports.specs.declared.Taken.TheVariants.{Value, NoValue}
-use Rattle.ports.specs.declared.Moved.{Moved}
-use Rattle.ports.specs.declared.Moved.TheVariants.{To, Short}
 use Rattle.machine.specs.States.{State, state, machine, register}
 use Rattle.machine.specs.Stops.{good_loan, Answer, answer, refuses}
 
@@ -45,22 +43,22 @@ unfoldable pub halts : State → ℕ → Answer
 halts s next = leaves (halted_registers s next) halted s.registers.taken s.registers.written s.memory s.output
 
 -- a value taken of the input, written to a place
-abbrev pub takes : State → ℕ → Place → Taken → Answer
-takes s next place (Value v taken) = does s (writes next (register s SP) place v Unchanged) taken s.registers.written
-takes s next place (NoValue k) = refuses s k
+abbrev pub takes : State → ℕ → Place → Result Taken ℕ → Answer
+takes s next place (Ok r) = does s (writes next (register s SP) place r.value None) r.after s.registers.written
+takes s next place (Err k) = refuses s k
 
 -- PC goes on to the next address, and nothing else of the registers changes
 unfoldable pub goes_on : State → ℕ → ℕ → ℕ → List ℕ → List ℕ → Answer
 goes_on s next taken written m out =
     leaves (set s.registers.r PC (next % 65536)) (stop_at next (length s.memory)) taken written m out
 
-abbrev pub fills : State → ℕ → Moved → List ℕ → Answer
-fills s next (To taken) m = goes_on s next taken s.registers.written m s.output
-fills s next (Short k) m = refuses s k
+abbrev pub fills : State → ℕ → Result ℕ ℕ → List ℕ → Answer
+fills s next (Ok taken) m = goes_on s next taken s.registers.written m s.output
+fills s next (Err k) m = refuses s k
 
-abbrev pub prints : State → ℕ → Moved → List ℕ → Answer
-prints s next (To written) out = goes_on s next s.registers.taken written s.memory out
-prints s next (Short k) out = refuses s k
+abbrev pub prints : State → ℕ → Result ℕ ℕ → List ℕ → Answer
+prints s next (Ok written) out = goes_on s next s.registers.taken written s.memory out
+prints s next (Err k) out = refuses s k
 
 -- what input and output instructions do
 unfoldable pub asks : List ℕ → State → ℕ → Port → Answer
@@ -82,12 +80,12 @@ performed input s next (Asks port) = asks input s next port
 performed input s next (Stops k) = refuses s k
 
 -- "PC≥M (5), 2, 3, missing words (5), 4", and then what the instruction does
-abbrev pub decoded : List ℕ → State → Decoded → Answer
-decoded input s (Read i next) = performed input s next.0 (perform_of s.registers.r s.memory next.0 i)
-decoded input s NoOpcode = refuses s (stop_of NoOpcode)
-decoded input s NoMode = refuses s (stop_of NoMode)
-decoded input s NoRegister = refuses s (stop_of NoRegister)
-decoded input s PastMemory = refuses s (stop_of PastMemory)
+abbrev pub decoded : List ℕ → State → Result Decoded Undecoded → Answer
+decoded input s (Ok r) = performed input s r.next.0 (perform_of s.registers.r s.memory r.next.0 r.instruction)
+decoded input s (Err NoOpcode) = refuses s (stop_of (Err NoOpcode))
+decoded input s (Err NoMode) = refuses s (stop_of (Err NoMode))
+decoded input s (Err NoRegister) = refuses s (stop_of (Err NoRegister))
+decoded input s (Err PastMemory) = refuses s (stop_of (Err PastMemory))
 
 -- a step of a machine that runs, on a good loan
 unfoldable pub runs_on : List ℕ → State → Answer

@@ -8,14 +8,14 @@ ghost use Rattle.machine.specs.Inner.Lent.{running, code_after, left, instructio
 use super::Inner;
 use codes::flags::FOR_H;
 use codes::registers::{PC, SP, SR};
-use codes::stops::{HALTED, MEMORY_END, NO_MODE, NO_OPCODE, NONE, ZERO_DIVISOR};
+use codes::stops::{HALTED, MEMORY_END, NO_OPCODE, NONE, ZERO_DIVISOR};
 use effects::apply::{change_memory, change_registers};
 use effects::perform::{has_target, perform};
 use effects::places::located;
-use effects::{Effect, Flags, Performed, Place, Port};
+use effects::{Effect, Performed, Place, Port};
 use isa::decoding::{first_word, size_of, word_at};
-use isa::{FirstWord, Opcode};
-use ports::{Moved, Taken};
+use isa::Opcode;
+use ports::Taken;
 
 fn answered(stop: u8, completed: bool, taken: usize, written: usize) -> Inner
     ensures { result ≡ record { stop = stop; completed = completed; taken = taken; written = written } }
@@ -74,17 +74,17 @@ fn take(
     place: Place,
     taken: usize,
     written: usize,
-    got: Taken,
+    got: Result<Taken, u8>,
 ) -> Inner
     ensures { (out : List ℕ) → left r.new m.new out result
         ≡ takes (running r.old m.old out taken written) next place got }
 {
     match got {
-        Taken::Value(v, after) => {
-            let e = effects::shapes::written(next, r[SP], place, v, Flags::Unchanged);
+        Ok(Taken { value: v, after }) => {
+            let e = effects::shapes::written(next, r[SP], place, v, None);
             do_effect(r, m, e, after, written)
         }
-        Taken::NoValue(k) => answered(k, false, taken, written),
+        Err(k) => answered(k, false, taken, written),
     }
 }
 
@@ -104,14 +104,14 @@ fn filled(
     next: usize,
     taken: usize,
     written: usize,
-    moved: Moved,
+    moved: Result<usize, u8>,
 ) -> Inner
-    ensures { (m m' out : List ℕ) → length m ≡ size → ((k : ℕ) → moved ≡ Moved.Short k → m' ≡ m) →
+    ensures { (m m' out : List ℕ) → length m ≡ size → ((k : ℕ) → moved ≡ Err k → m' ≡ m) →
         left r.new m' out result ≡ fills (running r.old m out taken written) next moved m' }
 {
     match moved {
-        Moved::To(after) => go_on(r, size, next, after, written),
-        Moved::Short(k) => answered(k, false, taken, written),
+        Ok(after) => go_on(r, size, next, after, written),
+        Err(k) => answered(k, false, taken, written),
     }
 }
 
@@ -122,14 +122,14 @@ fn printed(
     next: usize,
     taken: usize,
     written: usize,
-    moved: Moved,
+    moved: Result<usize, u8>,
 ) -> Inner
-    ensures { (m out out' : List ℕ) → length m ≡ size → ((k : ℕ) → moved ≡ Moved.Short k → out' ≡ out) →
+    ensures { (m out out' : List ℕ) → length m ≡ size → ((k : ℕ) → moved ≡ Err k → out' ≡ out) →
         left r.new m out' result ≡ prints (running r.old m out taken written) next moved out' }
 {
     match moved {
-        Moved::To(after) => go_on(r, size, next, taken, after),
-        Moved::Short(k) => answered(k, false, taken, written),
+        Ok(after) => go_on(r, size, next, taken, after),
+        Err(k) => answered(k, false, taken, written),
     }
 }
 
@@ -199,7 +199,7 @@ fn act(
 
 // What the instruction of an allowed first word w at a place comes to, the address after it being `next`.
 fn fetched(r: &[u16; 16], m: &[u16], at: usize, w: u16, op: Opcode, next: usize) -> Performed
-    requires { (at < 65536) × (first_word_read w ≡ FirstWord.Allowed op) }
+    requires { (at < 65536) × (first_word_read w ≡ Ok op) }
     ensures { result ≡ perform_unless r.now m.now next (instruction_at m.now at w) }
 {
     let relative = has_target(op);
@@ -220,7 +220,7 @@ fn allowed(
     w: u16,
     op: Opcode,
 ) -> Inner
-    requires { (at < length m.old) × (at < 65536) × (first_word_read w ≡ FirstWord.Allowed op) }
+    requires { (at < length m.old) × (at < 65536) × (first_word_read w ≡ Ok op) }
     ensures { left r.new m.new out.new result
         ≡ decoded input.now (running r.old m.old out.old taken written)
         (decode_word m.old at w) }
@@ -260,8 +260,7 @@ pub(crate) fn inner(
     }
     let w = m[at];
     match first_word(w) {
-        FirstWord::Allowed(op) => allowed(r, m, input, out, taken, written, at, w, op),
-        FirstWord::UnknownOpcode => answered(NO_OPCODE, false, taken, written),
-        FirstWord::UnknownMode => answered(NO_MODE, false, taken, written),
+        Ok(op) => allowed(r, m, input, out, taken, written, at, w, op),
+        Err(why) => answered(u8::from(why), false, taken, written),
     }
 }

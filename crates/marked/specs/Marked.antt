@@ -9,7 +9,7 @@ use Rattle.numerals.specs.Bytes.{bytes}
 use Rattle.arithmetic.specs.Cells.{cell}
 use Rattle.arithmetic.specs.Operations.{ADD, SUB, MUL, DIV}
 use Rattle.arithmetic.specs.declared.Outcome.{Outcome}
-use Rattle.arithmetic.specs.declared.Division.TheVariants.{Done}
+use Rattle.std.specs.Prelude.{Some}
 use Rattle.sources.specs.Image.{Accepted}
 
 -- ---- rows of source
@@ -61,6 +61,6 @@ pub record MarkedTable : Type 0 where
   -- "256×256 is 0 with Z, C, V"
   pub product-wraps : MUL 256 256 ≡ (0 with_flags (for_z + for_c + for_v))
   -- "-7/2 is 65533 with S, P"
-  pub quotient_cuts : DIV (minus 7) 2 ≡ Done (65533 with_flags (for_s + for_p))
+  pub quotient_cuts : DIV (minus 7) 2 ≡ Some (65533 with_flags (for_s + for_p))
   -- "-32768/-1 is 32768 with S, P, V"
-  pub quotient_overflows : DIV (minus 32768) (minus 1) ≡ Done (32768 with_flags (for_s + for_p + for_v))
+  pub quotient_overflows : DIV (minus 32768) (minus 1) ≡ Some (32768 with_flags (for_s + for_p + for_v))

@@ -6,7 +6,6 @@ ghost use Rattle.names.specs.Names.{capital, word_of, register_code};
 ghost use Rattle.names.specs.Inner.Packing.{digit, number_of, place_of, word_at, directive_at};
 
 use super::Word;
-use isa::FoundOpcode;
 use isa::opcodes::opcode;
 
 // The numbers of the 39 opcodes' names in the order of the opcodes, then of ORG, EQU, RES, DATA and END.
@@ -170,8 +169,8 @@ fn word_at(place: usize) -> Word
     ensures { result ≡ word_at place }
 {
     match opcode(place as u16) {
-        FoundOpcode::Known(op) => Word::Instructs(op),
-        FoundOpcode::Unknown => directive(place - 39),
+        Some(op) => Word::Instructs(op),
+        None => directive(place - 39),
     }
 }
 

@@ -10,13 +10,14 @@ use Rattle.numerals.specs.Numbers.{kept_of}
 use Rattle.numerals.specs.Reading.{run, digits_at, radix_at, unsigned_at, number_at, line_number}
 use Rattle.numerals.specs.Writing.{decimal_before, decimal, signed_decimal}
 use Rattle.numerals.specs.declared.Radix.TheVariants.{Decimal, Hexadecimal}
-use Rattle.numerals.specs.declared.NumberRead.TheVariants.{Found, Absent}
+use Rattle.std.proofs.Common.{Some, None}
+use Rattle.numerals.specs.Reading.{upto}
 use Rattle.numerals.proofs.Numbers.{numeral, cursor}
 
 -- none of these texts begins with a number
 abbrev pub NoNumbers : List String → Type 0
 NoNumbers [] = Unit {0}
-NoNumbers (text ∷ texts) = (number_at (bytes text) 0 ≡ Absent) × NoNumbers texts
+NoNumbers (text ∷ texts) = (number_at (bytes text) 0 ≡ None) × NoNumbers texts
 
 -- each of these lines reads 0
 abbrev pub ReadZero : List String → Type 0
@@ -29,11 +30,11 @@ pub record Examples : Type 0 where
   pub no_word_bytes : map is_word_byte (bytes "/:@[`{ ") ≡ replicate 7 false
   pub digit_ranks : map rank (bytes "09AFaf") ≡ 0 ∷ 9 ∷ 10 ∷ 15 ∷ 10 ∷ 15 ∷ []
   pub other_ranks : map rank (bytes "GZgz_/:@[`{") ≡ 16 ∷ 16 ∷ 16 ∷ 16 ∷ 16 ∷ 17 ∷ 17 ∷ 17 ∷ 17 ∷ 17 ∷ 17 ∷ []
-  pub minus-zero : number_at (bytes "-0") 0 ≡ Found (numeral true Decimal 0) (cursor 2)
-  pub zeros_in_front : number_at (bytes "007") 0 ≡ Found (numeral false Decimal 7) (cursor 3)
-  pub hex_zeros_in_front : number_at (bytes "0x0000FFFF") 0 ≡ Found (numeral false Hexadecimal 65535) (cursor 10)
-  pub up_to_a_mark : number_at (bytes "MOVE #-5[.IX]") 6 ≡ Found (numeral true Decimal 5) (cursor 8)
-  pub past_the_end : number_at (bytes "5") 7 ≡ Absent
+  pub minus-zero : number_at (bytes "-0") 0 ≡ Some (upto (numeral true Decimal 0) (cursor 2))
+  pub zeros_in_front : number_at (bytes "007") 0 ≡ Some (upto (numeral false Decimal 7) (cursor 3))
+  pub hex_zeros_in_front : number_at (bytes "0x0000FFFF") 0 ≡ Some (upto (numeral false Hexadecimal 65535) (cursor 10))
+  pub up_to_a_mark : number_at (bytes "MOVE #-5[.IX]") 6 ≡ Some (upto (numeral true Decimal 5) (cursor 8))
+  pub past_the_end : number_at (bytes "5") 7 ≡ None
   pub no_numbers : NoNumbers ("0X5" ∷ "0x" ∷ "0xG" ∷ "-0x5" ∷ "5a" ∷ "5_" ∷ "--5" ∷ "+5" ∷ "00x5" ∷ "99999x" ∷ "-" ∷ "" ∷ [])
   pub lines_of_0 : ReadZero ("65536" ∷ "-32769" ∷ " 12" ∷ "+12" ∷ "12\r" ∷ "12 " ∷ "99999" ∷ "" ∷ [])
   pub line_of_minus_30 : line_number (bytes "-30") ≡ 65506

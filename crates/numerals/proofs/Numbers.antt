@@ -20,8 +20,9 @@ use Rattle.numerals.specs.declared.Cursor.{Cursor}
 use Rattle.numerals.specs.declared.Numeral.{Numeral}
 use Rattle.numerals.specs.declared.Radix.{Radix}
 use Rattle.numerals.specs.declared.Radix.TheVariants.{Decimal, Hexadecimal}
-use Rattle.numerals.specs.declared.NumberRead.{NumberRead}
-use Rattle.numerals.specs.declared.NumberRead.TheVariants.{Found, Absent}
+use Rattle.std.proofs.Common.{Option, Some, None}
+use Rattle.numerals.specs.Reading.{upto}
+use Rattle.numerals.specs.declared.Read.{Read}
 use Rattle.numerals.proofs.Runs.{run_le, run-all, run_none, run_of}
 use Rattle.numerals.proofs.Radixes.{base-small, begins, prefix-stands}
 use Rattle.numerals.proofs.Readers.{digits-found, unsigned_is, number-minus, number-plain}
@@ -55,7 +56,7 @@ NumberAt s at n c = Stands (Number (drop at s)) s at n c
 
 module _ (below : Bool) (k : Radix) (s : List ℕ) (from : ℕ) where
   pub digits-complete : (ds rest : List ℕ) → drop from s ≡ ds ++ rest → Digits (base k) ds → T (ends_word rest)
-      → digits_at below k s from ≡ Found (numeral below k (worth (base k) ds)) (cursor (from + length ds))
+      → digits_at below k s from ≡ Some (upto (numeral below k (worth (base k) ds)) (cursor (from + length ds)))
   digits-complete ds rest e d t =
       let r : run (base k) (drop from s) ≡ length ds = rw e (run_of (base k) ds rest (omega (arith, base-small k)) d.all t) in
       let z : drop (from + length ds) s ≡ rest = sym (drop-drop (length ds) from s) ∙ rw e (drop-append_seam ds rest) in
@@ -73,7 +74,7 @@ module _ (below : Bool) (k : Radix) (s : List ℕ) (from : ℕ) where
     pub numeral_is : n ≡ numeral below k (worth (base k) digits)
     pub cursor_is : c ≡ cursor (from + length digits)
 
-  pub digits-sound : {n : Numeral} {c : Cursor} → digits_at below k s from ≡ Found n c → DigitsRead n c
+  pub digits-sound : {n : Numeral} {c : Cursor} → digits_at below k s from ≡ Some (upto n c) → DigitsRead n c
   unfolding digits_at
   digits-sound {n} {c} e = go (ltb 0 m && ends_word (drop (from + m) s)) refl e
     where
@@ -84,7 +85,7 @@ module _ (below : Bool) (k : Radix) (s : List ℕ) (from : ℕ) where
       l = length-take-le m (drop from s) (run_le (base k) (drop from s))
 
       go : (b : Bool) → (ltb 0 m && ends_word (drop (from + m) s)) ≡ b
-          → cond b (Found (numeral below k (worth (base k) (take m (drop from s)))) (cursor (from + m))) Absent ≡ Found n c → DigitsRead n c
+          → cond b (Some (upto (numeral below k (worth (base k) (take m (drop from s)))) (cursor (from + m)))) None ≡ Some (upto n c) → DigitsRead n c
       go true t f =
           let b : T (ltb 0 m && ends_word (drop (from + m) s)) = rw t tt in
           record {
@@ -154,13 +155,13 @@ digits-place {k} {rest = rest} s at u =
 -- a number whose digits stand from a place on is found, up to its rest
 found_from : (below : Bool) (k : Radix) {v : ℕ} (s : List ℕ) (from : ℕ) (ds rest : List ℕ) → drop from s ≡ ds ++ rest
     → Digits (base k) ds → T (ends_word rest) → v ≡ worth (base k) ds
-    → digits_at below k s from ≡ Found (numeral below k v) (cursor (length s - length rest))
+    → digits_at below k s from ≡ Some (upto (numeral below k v) (cursor (length s - length rest)))
 found_from below k s from ds rest e d t w =
     let p = rest_at s from ds rest e d.some in
-    digits-complete below k s from ds rest e d t ∙ ap₂ (λ (m p : ℕ). Found (numeral below k m) (cursor p)) (sym w) p.0
+    digits-complete below k s from ds rest e d t ∙ ap₂ (λ (m p : ℕ). (Some (upto (numeral below k m) (cursor p)))) (sym w) p.0
 
 pub unsigned_complete : {k : Radix} {v : ℕ} {rest : List ℕ} (s : List ℕ) (at : ℕ) → Unsigned (drop at s) k v rest
-    → unsigned_at s at ≡ Found (numeral false k v) (cursor (length s - length rest))
+    → unsigned_at s at ≡ Some (upto (numeral false k v) (cursor (length s - length rest)))
 unsigned_complete {k} {rest = rest} s at u =
     unsigned_is s at (radix-drop s at ∙ radix_is k u)
     ∙ found_from false k s (at + length (prefix k)) u.digits rest (digits-place s at u) u.are-digits u.ends u.worth_is
@@ -174,7 +175,7 @@ stands_from Rule below k s at from h d r =
     rw (d.numeral_is, d.cursor_is)
     (record { worth_is = worth (base k) d.digits; reads = r; magnitude_is = refl; moved = omega (arith, d.are-digits.some); within = omega arith })
 
-pub unsigned_sound : (s : List ℕ) (at : ℕ) {n : Numeral} {c : Cursor} → unsigned_at s at ≡ Found n c → UnsignedAt s at n c
+pub unsigned_sound : (s : List ℕ) (at : ℕ) {n : Numeral} {c : Cursor} → unsigned_at s at ≡ Some (upto n c) → UnsignedAt s at n c
 unsigned_sound s at e =
     let k = radix_at s at in
     let from = at + length (prefix k) in
@@ -196,7 +197,7 @@ first_of : (s : List ℕ) (at : ℕ) {text : List ℕ} → drop at s ≡ text �
 first_of s at e = rw (e, add-zero at) at (sym (get_or-drop at s 0 0))
 
 number_complete_at : {below : Bool} {k : Radix} {v : ℕ} {text rest : List ℕ} (s : List ℕ) (at : ℕ)
-    → Number text below k v rest → drop at s ≡ text → number_at s at ≡ Found (numeral below k v) (cursor (length s - length rest))
+    → Number text below k v rest → drop at s ≡ text → number_at s at ≡ Some (upto (numeral below k v) (cursor (length s - length rest)))
 number_complete_at s at (plain {k = k} {v = v} {rest = rest} u) e =
     number-plain s at (λ m. no_minus k u (sym (first_of s at e) ∙ m))
     ∙ unsigned_complete s at (subst (λ (t : List ℕ). Unsigned t k v rest) (sym e) u)
@@ -206,10 +207,10 @@ number_complete_at s at (minus {text = text} {rest = rest} u) e =
     ∙ found_from true Decimal s (at + 1) u.digits rest (f ∙ u.split) u.are-digits u.ends u.worth_is
 
 pub number-complete : {below : Bool} {k : Radix} {v : ℕ} {rest : List ℕ} (s : List ℕ) (at : ℕ) → Number (drop at s) below k v rest
-    → number_at s at ≡ Found (numeral below k v) (cursor (length s - length rest))
+    → number_at s at ≡ Some (upto (numeral below k v) (cursor (length s - length rest)))
 number-complete s at r = number_complete_at s at r refl
 
-pub number-sound : (s : List ℕ) (at : ℕ) {n : Numeral} {c : Cursor} → number_at s at ≡ Found n c → NumberAt s at n c
+pub number-sound : (s : List ℕ) (at : ℕ) {n : Numeral} {c : Cursor} → number_at s at ≡ Some (upto n c) → NumberAt s at n c
 number-sound s at {n} {c} e = go (eqb (get_or s at 0) 45) refl
   where
     go : (b : Bool) → eqb (get_or s at 0) 45 ≡ b → NumberAt s at n c
@@ -258,43 +259,43 @@ number-once (minus u) (minus u') = let p = unsigned_once u u' in (refl, p.0, p.1
 
 -- ---- exactly: what a reader answers, where it is sound and complete for a rule
 
-module _ (Rule : Bool → Radix → ℕ → List ℕ → Type 0) (r : NumberRead) (s : List ℕ) (at : ℕ)
-    (complete : (below : Bool) (k : Radix) (v : ℕ) (rest : List ℕ) → Rule below k v rest → r ≡ Found (numeral below k v) (cursor (length s - length rest)))
-    (sound : (n : Numeral) (c : Cursor) → r ≡ Found n c → Stands Rule s at n c) where
-  found-exactly : {n : Numeral} {c : Cursor} → (r ≡ Found n c) ↔ Stands Rule s at n c
+module _ (Rule : Bool → Radix → ℕ → List ℕ → Type 0) (r : Option (Read Numeral)) (s : List ℕ) (at : ℕ)
+    (complete : (below : Bool) (k : Radix) (v : ℕ) (rest : List ℕ) → Rule below k v rest → r ≡ Some (upto (numeral below k v) (cursor (length s - length rest))))
+    (sound : (n : Numeral) (c : Cursor) → r ≡ Some (upto n c) → Stands Rule s at n c) where
+  found-exactly : {n : Numeral} {c : Cursor} → (r ≡ Some (upto n c)) ↔ Stands Rule s at n c
   found-exactly {n} {c} = (sound n c, back)
     where
-      back : Stands Rule s at n c → r ≡ Found n c
+      back : Stands Rule s at n c → r ≡ Some (upto n c)
       back t =
           let p : length s - length (drop c.at s) ≡ c.at = omega (arith, length-drop c.at s, t.within) in
           complete n.negative n.radix t.worth_is (drop c.at s) t.reads
-          ∙ ap₂ (λ (m p : ℕ). Found (record { negative = n.negative; radix = n.radix; magnitude = m }) (cursor p)) (sym t.magnitude_is) p
+          ∙ ap₂ (λ (m p : ℕ). (Some (upto (record { negative = n.negative; radix = n.radix; magnitude = m }) (cursor p)))) (sym t.magnitude_is) p
 
-  absent-exactly : (r ≡ Absent) ↔ ((below : Bool) (k : Radix) (v : ℕ) (rest : List ℕ) → Rule below k v rest → ⊥)
+  absent-exactly : (r ≡ None) ↔ ((below : Bool) (k : Radix) (v : ℕ) (rest : List ℕ) → Rule below k v rest → ⊥)
   absent-exactly = (λ a below k v rest q. let f = complete below k v rest q in let z : ◌≡◌ {A = ℕ} 0 1 = cc in omega arith, λ h. go h r refl)
     where
-      go : ((below : Bool) (k : Radix) (v : ℕ) (rest : List ℕ) → Rule below k v rest → ⊥) → (q : NumberRead) → r ≡ q → r ≡ Absent
-      go h (Found n c) e = let t = sound n c e in absurd (h n.negative n.radix t.worth_is (drop c.at s) t.reads)
-      go h Absent e = e
+      go : ((below : Bool) (k : Radix) (v : ℕ) (rest : List ℕ) → Rule below k v rest → ⊥) → (q : Option (Read Numeral)) → r ≡ q → r ≡ None
+      go h (Some r) e = let t = sound r.value r.next e in absurd (h r.value.negative r.value.radix t.worth_is (drop r.next.at s) t.reads)
+      go h None e = e
 
 module _ (s : List ℕ) (at : ℕ) where
   signless-complete : (below : Bool) (k : Radix) (v : ℕ) (rest : List ℕ) → SignLess (drop at s) below k v rest
-      → unsigned_at s at ≡ Found (numeral below k v) (cursor (length s - length rest))
+      → unsigned_at s at ≡ Some (upto (numeral below k v) (cursor (length s - length rest)))
   signless-complete below k v rest u =
-      unsigned_complete s at u.1 ∙ ap (λ (b : Bool). Found (numeral b k v) (cursor (length s - length rest))) (sym u.0)
+      unsigned_complete s at u.1 ∙ ap (λ (b : Bool). (Some (upto (numeral b k v) (cursor (length s - length rest))))) (sym u.0)
 
-  pub unsigned_exactly : {n : Numeral} {c : Cursor} → (unsigned_at s at ≡ Found n c) ↔ UnsignedAt s at n c
+  pub unsigned_exactly : {n : Numeral} {c : Cursor} → (unsigned_at s at ≡ Some (upto n c)) ↔ UnsignedAt s at n c
   unsigned_exactly = found-exactly (SignLess (drop at s)) (unsigned_at s at) s at signless-complete (λ n c e. unsigned_sound s at e)
 
-  pub unsigned_absent : (unsigned_at s at ≡ Absent) ↔ ((k : Radix) (v : ℕ) (rest : List ℕ) → Unsigned (drop at s) k v rest → ⊥)
+  pub unsigned_absent : (unsigned_at s at ≡ None) ↔ ((k : Radix) (v : ℕ) (rest : List ℕ) → Unsigned (drop at s) k v rest → ⊥)
   unsigned_absent =
       let p = absent-exactly (SignLess (drop at s)) (unsigned_at s at) s at signless-complete (λ n c e. unsigned_sound s at e) in
       (λ a k v rest u. p.0 a false k v rest (refl, u), λ h. p.1 (λ below k v rest u. h k v rest u.1))
 
-  pub number-exactly : {n : Numeral} {c : Cursor} → (number_at s at ≡ Found n c) ↔ NumberAt s at n c
+  pub number-exactly : {n : Numeral} {c : Cursor} → (number_at s at ≡ Some (upto n c)) ↔ NumberAt s at n c
   number-exactly = found-exactly (Number (drop at s)) (number_at s at) s at (λ below k v rest r. number-complete s at r) (λ n c e. number-sound s at e)
 
-  pub number-absent : (number_at s at ≡ Absent) ↔ ((below : Bool) (k : Radix) (v : ℕ) (rest : List ℕ) → Number (drop at s) below k v rest → ⊥)
+  pub number-absent : (number_at s at ≡ None) ↔ ((below : Bool) (k : Radix) (v : ℕ) (rest : List ℕ) → Number (drop at s) below k v rest → ⊥)
   number-absent = absent-exactly (Number (drop at s)) (number_at s at) s at (λ below k v rest r. number-complete s at r) (λ n c e. number-sound s at e)
 
   pub rest-stands : {below : Bool} {k : Radix} {v : ℕ} {rest : List ℕ} → Number (drop at s) below k v rest → drop (length s - length rest) s ≡ rest

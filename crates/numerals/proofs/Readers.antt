@@ -13,16 +13,17 @@ use Rattle.numerals.specs.declared.Cursor.{Cursor}
 use Rattle.numerals.specs.declared.Numeral.{Numeral}
 use Rattle.numerals.specs.declared.Radix.{Radix}
 use Rattle.numerals.specs.declared.Radix.TheVariants.{Decimal}
-use Rattle.numerals.specs.declared.NumberRead.TheVariants.{Found, Absent}
+use Rattle.std.proofs.Common.{Some, None}
+use Rattle.numerals.specs.Reading.{upto}
 use Rattle.numerals.proofs.Runs.{ends-run}
 
 -- what the digits' reader answers, by where their run ends
 module _ (below : Bool) (k : Radix) (s : List ℕ) (from : ℕ) {radix end : ℕ} (h : radix ≡ base k) (e : end ≡ from + run radix (drop from s)) where
-  pub digits-none : end ≡ from → digits_at below k s from ≡ Absent
+  pub digits-none : end ≡ from → digits_at below k s from ≡ None
   unfolding digits_at
   digits-none z = let n : run (base k) (drop from s) ≡ 0 = rw (← h) (omega arith) in rw n
 
-  pub digits-joined : (end + run 17 (drop end s) ≡ end → ⊥) → digits_at below k s from ≡ Absent
+  pub digits-joined : (end + run 17 (drop end s) ≡ end → ⊥) → digits_at below k s from ≡ None
   unfolding digits_at
   digits-joined j =
       let w : ends_word (drop (from + run (base k) (drop from s)) s) ≡ false =
@@ -30,7 +31,7 @@ module _ (below : Bool) (k : Radix) (s : List ℕ) (from : ℕ) {radix end : ℕ
       simp (w, and-false)
 
   pub digits-found : {v : ℕ} → (end ≡ from → ⊥) → end + run 17 (drop end s) ≡ end → v ≡ cut (worth radix (take (end - from) (drop from s)))
-      → digits_at below k s from ≡ Found (record { negative = below; radix = k; magnitude = v }) (record { at = end })
+      → digits_at below k s from ≡ Some (upto (record { negative = below; radix = k; magnitude = v }) (record { at = end }))
   unfolding digits_at
   digits-found j z w =
       let t : ends_word (drop end s) ≡ true = ends-run (drop end s) ∙ eq-eqb (run 17 (drop end s)) 0 (omega arith) in
@@ -50,7 +51,7 @@ pub number-plain : (s : List ℕ) (at : ℕ) → (get_or s at 0 ≡ 45 → ⊥) 
 unfolding number_at
 number-plain s at e = rw (ne_eqb (get_or s at 0) 45 e)
 
-module _ (s : List ℕ) {n : Numeral} {c : Cursor} (e : number_at s 0 ≡ Found n c) where
+module _ (s : List ℕ) {n : Numeral} {c : Cursor} (e : number_at s 0 ≡ Some (upto n c)) where
   pub line-whole : c.at ≡ length s → line_number s ≡ or_zero (kept_of n)
   unfolding line_number
   line-whole h = ap (wholly (length s)) e ∙ rw (eq-eqb c.at (length s) h)
@@ -59,6 +60,6 @@ module _ (s : List ℕ) {n : Numeral} {c : Cursor} (e : number_at s 0 ≡ Found 
   unfolding line_number
   line-rest h = ap (wholly (length s)) e ∙ rw (ne_eqb c.at (length s) h)
 
-pub line-none : (s : List ℕ) → number_at s 0 ≡ Absent → line_number s ≡ 0
+pub line-none : (s : List ℕ) → number_at s 0 ≡ None → line_number s ≡ 0
 unfolding line_number
 line-none s e = ap (wholly (length s)) e

@@ -20,8 +20,9 @@ use Rattle.numerals.specs.Writing.{decimal, signed_decimal}
 use Rattle.numerals.specs.declared.Numeral.{Numeral}
 use Rattle.numerals.specs.declared.Radix.{Radix}
 use Rattle.numerals.specs.declared.Radix.TheVariants.{Decimal}
-use Rattle.numerals.specs.declared.NumberRead.{NumberRead}
-use Rattle.numerals.specs.declared.NumberRead.TheVariants.{Found, Absent}
+use Rattle.std.proofs.Common.{Option, Some, None}
+use Rattle.numerals.specs.Reading.{upto}
+use Rattle.numerals.specs.declared.Read.{Read}
 use Rattle.numerals.proofs.Cells.{kept-plus, kept-minus}
 use Rattle.numerals.proofs.Readers.{line-whole, line-rest, line-none}
 use Rattle.numerals.proofs.Numbers.{numeral, cursor, number-complete, number-sound}
@@ -35,13 +36,13 @@ line-number s r = line-whole s (number-complete s 0 r) (omega arith)
 pub line_other : (s : List ℕ) → ((below : Bool) (k : Radix) (v : ℕ) → Number s below k v [] → ⊥) → line_number s ≡ 0
 line_other s h = go (number_at s 0) refl
   where
-    go : (r : NumberRead) → number_at s 0 ≡ r → line_number s ≡ 0
-    go (Found n c) e =
+    go : (r : Option (Read Numeral)) → number_at s 0 ≡ r → line_number s ≡ 0
+    go (Some r) e =
         line-rest s e
         (λ z. let t = number-sound s 0 e in
-        h n.negative n.radix t.worth_is
-        (subst (Number s n.negative n.radix t.worth_is) (ap (λ (p : ℕ). drop p s) z ∙ drop-length s) t.reads))
-    go Absent e = line-none s e
+        h r.value.negative r.value.radix t.worth_is
+        (subst (Number s r.value.negative r.value.radix t.worth_is) (ap (λ (p : ℕ). drop p s) z ∙ drop-length s) t.reads))
+    go None e = line-none s e
 
 -- a decimal is a number of the rule, before whatever ends a word
 pub decimal-reads : (n : ℕ) (rest : List ℕ) → n < 10000000000 → T (ends_word rest) → Unsigned (decimal n ++ rest) Decimal n rest
@@ -50,7 +51,7 @@ decimal-reads n rest h t =
     record { digits = decimal n; split = refl; are-digits = d.are-digits; ends = t; worth_is = sym d.worth_is }
 
 pub read-decimal : (n : ℕ) (rest : List ℕ) → n < 10000000000 → T (ends_word rest)
-    → number_at (decimal n ++ rest) 0 ≡ Found (numeral false Decimal n) (cursor (length (decimal n)))
+    → number_at (decimal n ++ rest) 0 ≡ Some (upto (numeral false Decimal n) (cursor (length (decimal n))))
 read-decimal n rest h t =
     let e : length (decimal n ++ rest) - length rest ≡ length (decimal n) = omega (arith, length-append (decimal n) rest) in
     rw e at (number-complete (decimal n ++ rest) 0 (plain (decimal-reads n rest h t)))
@@ -77,7 +78,7 @@ line-signed x h =
 
 -- a signed decimal is a number of the rule, worth what its cell is worth as two's complement
 pub read-signed : (x : ℕ) → x < 65536
-    → (n : Numeral) × (number_at (signed_decimal x) 0 ≡ Found n (cursor (length (signed_decimal x)))) × (value_of n ≡ to_z w16 x)
+    → (n : Numeral) × (number_at (signed_decimal x) 0 ≡ Some (upto n (cursor (length (signed_decimal x))))) × (value_of n ≡ to_z w16 x)
 unfolding signed_decimal
 read-signed x h =
     elim (dec_lt x 32768) [

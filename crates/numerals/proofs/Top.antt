@@ -18,7 +18,8 @@ use Rattle.numerals.specs.declared.Cursor.{Cursor}
 use Rattle.numerals.specs.declared.Numeral.{Numeral}
 use Rattle.numerals.specs.declared.Radix.{Radix}
 use Rattle.numerals.specs.declared.Radix.TheVariants.{Decimal}
-use Rattle.numerals.specs.declared.NumberRead.TheVariants.{Found, Absent}
+use Rattle.std.proofs.Common.{Some, None}
+use Rattle.numerals.specs.Reading.{upto}
 use Rattle.numerals.proofs.Worths as Worths
 use Rattle.numerals.proofs.Worths.{cut_after}
 use Rattle.numerals.proofs.Numbers as Numbers
@@ -33,17 +34,17 @@ use Rattle.numerals.proofs.Examples.{Examples}
 
 -- "Number: decimal digits, optionally with `-` directly before; or `0x` .. and one or more hex digits": the reader finds a numeral
 -- and a cursor exactly where the rule has that number, from the place up to the cursor, which lies past the place and in the text.
-pub number-exactly : (s : List ℕ) (at : ℕ) {n : Numeral} {c : Cursor} → (number_at s at ≡ Found n c) ↔ NumberAt s at n c
+pub number-exactly : (s : List ℕ) (at : ℕ) {n : Numeral} {c : Cursor} → (number_at s at ≡ Some (upto n c)) ↔ NumberAt s at n c
 number-exactly = Numbers.number-exactly
 
 -- Every number of the rule is found, whole: the cursor stands before what follows it.
 pub number-found : {below : Bool} {k : Radix} {v : ℕ} {rest : List ℕ} (s : List ℕ) (at : ℕ) → Number (drop at s) below k v rest
-    → (number_at s at ≡ Found (numeral below k v) (cursor (length s - length rest))) × (drop (length s - length rest) s ≡ rest)
+    → (number_at s at ≡ Some (upto (numeral below k v) (cursor (length s - length rest)))) × (drop (length s - length rest) s ≡ rest)
 number-found s at r = (Numbers.number-complete s at r, Numbers.rest-stands s at r)
 
 -- Nothing is found exactly where the rule has no number.
 pub number-absent : (s : List ℕ) (at : ℕ)
-    → (number_at s at ≡ Absent) ↔ ((below : Bool) (k : Radix) (v : ℕ) (rest : List ℕ) → Number (drop at s) below k v rest → ⊥)
+    → (number_at s at ≡ None) ↔ ((below : Bool) (k : Radix) (v : ℕ) (rest : List ℕ) → Number (drop at s) below k v rest → ⊥)
 number-absent = Numbers.number-absent
 
 -- A text begins with one number at most.
@@ -52,15 +53,15 @@ pub one_number : {text rest rest' : List ℕ} {below below' : Bool} {k k' : Radi
 one_number = Numbers.number-once
 
 -- "Numbers here are 0..65535 with no `-`" (expressions): the same of unsigned numbers.
-pub unsigned_exactly : (s : List ℕ) (at : ℕ) {n : Numeral} {c : Cursor} → (unsigned_at s at ≡ Found n c) ↔ UnsignedAt s at n c
+pub unsigned_exactly : (s : List ℕ) (at : ℕ) {n : Numeral} {c : Cursor} → (unsigned_at s at ≡ Some (upto n c)) ↔ UnsignedAt s at n c
 unsigned_exactly = Numbers.unsigned_exactly
 
 pub unsigned_found : {k : Radix} {v : ℕ} {rest : List ℕ} (s : List ℕ) (at : ℕ) → Unsigned (drop at s) k v rest
-    → unsigned_at s at ≡ Found (numeral false k v) (cursor (length s - length rest))
+    → unsigned_at s at ≡ Some (upto (numeral false k v) (cursor (length s - length rest)))
 unsigned_found = Numbers.unsigned_complete
 
 pub unsigned_absent : (s : List ℕ) (at : ℕ)
-    → (unsigned_at s at ≡ Absent) ↔ ((k : Radix) (v : ℕ) (rest : List ℕ) → Unsigned (drop at s) k v rest → ⊥)
+    → (unsigned_at s at ≡ None) ↔ ((k : Radix) (v : ℕ) (rest : List ℕ) → Unsigned (drop at s) k v rest → ⊥)
 unsigned_absent = Numbers.unsigned_absent
 
 pub one_unsigned : {text rest rest' : List ℕ} {k k' : Radix} {v v' : ℕ} → Unsigned text k v rest → Unsigned text k' v' rest'
@@ -115,12 +116,12 @@ written-text = Filling.written-text
 
 -- A decimal reads back as its number, before whatever ends a word.
 pub read-decimal : (n : ℕ) (rest : List ℕ) → n ≤ 65536 → T (ends_word rest)
-    → number_at (decimal n ++ rest) 0 ≡ Found (record { negative = false; radix = Decimal; magnitude = n }) (cursor (length (decimal n)))
+    → number_at (decimal n ++ rest) 0 ≡ Some (upto (record { negative = false; radix = Decimal; magnitude = n }) (cursor (length (decimal n))))
 read-decimal n rest h t = rw (exact n h) at (RoundTrips.read-decimal n rest (omega arith) t)
 
 -- "WRINT writes signed decimal": what is written of a cell is worth what the cell is as two's complement.
 pub read-signed : (x : ℕ) → x < 65536
-    → (n : Numeral) × (number_at (signed_decimal x) 0 ≡ Found n (cursor (length (signed_decimal x)))) × (value_of n ≡ to_z w16 x)
+    → (n : Numeral) × (number_at (signed_decimal x) 0 ≡ Some (upto n (cursor (length (signed_decimal x))))) × (value_of n ≡ to_z w16 x)
 read-signed = RoundTrips.read-signed
 
 -- ININT reads a cell back from what WRINT wrote of it, and from its decimal.

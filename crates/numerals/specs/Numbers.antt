@@ -11,8 +11,7 @@ use Rattle.numerals.specs.Digits.{Digits, worth, ends_word}
 use Rattle.numerals.specs.declared.Radix.{Radix}
 use Rattle.numerals.specs.declared.Radix.TheVariants.{Decimal, Hexadecimal}
 use Rattle.numerals.specs.declared.Numeral.{Numeral}
-use Rattle.numerals.specs.declared.Kept.{Kept}
-use Rattle.numerals.specs.declared.Kept.TheVariants.{Cell, OutOfRange}
+use Rattle.std.specs.Prelude.{Option, Some, None}
 
 abbrev pub base : Radix → ℕ
 base Decimal = 10
@@ -48,5 +47,5 @@ abbrev pub in_range : ℤ → Bool
 in_range z = le_z (negsuc 32767) z && le_z z (pos 65535)
 
 -- "kept modulo 65536"
-unfoldable pub kept_of : Numeral → Kept
-kept_of n = cond (in_range (value_of n)) (Cell (of_z w16 (value_of n))) OutOfRange
+unfoldable pub kept_of : Numeral → Option ℕ
+kept_of n = cond (in_range (value_of n)) (Some (of_z w16 (value_of n))) None

@@ -26,18 +26,11 @@ pub struct Numeral {
     pub magnitude: u32,
 }
 
-// What stands at a cursor: a number with the cursor after it, or none.
+// What was read at a cursor, with the cursor after it.
 #[derive(Clone, Copy)]
-pub enum NumberRead {
-    Found(Numeral, Cursor),
-    Absent,
-}
-
-// A number of the range -32768..65535 as the cell that keeps it.
-#[derive(Clone, Copy)]
-pub enum Kept {
-    Cell(u16),
-    OutOfRange,
+pub struct Read<T> {
+    pub value: T,
+    pub next: Cursor,
 }
 
 // A decimal: the bytes from `start` on.

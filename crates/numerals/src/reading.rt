@@ -5,7 +5,7 @@ ghost use Rattle.numerals.specs.Numbers.{base, cut, kept_of};
 ghost use Rattle.numerals.specs.Reading.{digits_at, radix_at, unsigned_at, number_at, line_number};
 
 use super::bytes::{rank_of, run_end};
-use super::{Cursor, Kept, NumberRead, Numeral, Radix};
+use super::{Cursor, Numeral, Radix, Read};
 
 // The byte at a place, and 0 past the end.
 fn byte_at(s: &[u8], at: usize) -> u8
@@ -41,26 +41,23 @@ fn worth_of(s: &[u8], from: usize, end: usize, radix: u8) -> u32
 }
 
 // The digits of a radix from a place on, if no byte of a word follows them.
-fn digits_at(s: &[u8], from: usize, k: Radix, negative: bool) -> NumberRead
+fn digits_at(s: &[u8], from: usize, k: Radix, negative: bool) -> Option<Read<Numeral>>
     ensures { result ≡ digits_at negative k s.now from }
 {
     let radix = base_of(k);
     let end = run_end(s, from, radix);
     if end == from {
-        return NumberRead::Absent;
+        return None;
     }
     if run_end(s, end, 17) != end {
-        return NumberRead::Absent;
+        return None;
     }
     let magnitude = worth_of(s, from, end, radix);
-    NumberRead::Found(
-        Numeral {
-            negative: negative,
+    Some(Read { value: Numeral {
+            negative,
             radix: k,
-            magnitude: magnitude,
-        },
-        Cursor { at: end },
-    )
+            magnitude,
+        }, next: Cursor { at: end } })
 }
 
 fn radix_at(s: &[u8], at: usize) -> Radix
@@ -81,7 +78,7 @@ fn radix_at(s: &[u8], at: usize) -> Radix
 
 impl Cursor {
     // The unsigned number at the cursor.
-    pub fn unsigned(self, s: &[u8]) -> NumberRead
+    pub fn unsigned(self, s: &[u8]) -> Option<Read<Numeral>>
         ensures { result ≡ unsigned_at s.now self.at }
     {
         let at = self.at;
@@ -93,7 +90,7 @@ impl Cursor {
     }
 
     // The number at the cursor, with its sign.
-    pub fn number(self, s: &[u8]) -> NumberRead
+    pub fn number(self, s: &[u8]) -> Option<Read<Numeral>>
         ensures { result ≡ number_at s.now self.at }
     {
         let at = self.at;
@@ -105,20 +102,20 @@ impl Cursor {
 }
 
 // The cell that keeps a number, modulo 65536.
-pub fn kept(n: Numeral) -> Kept
+pub fn kept(n: Numeral) -> Option<u16>
     ensures { result ≡ kept_of n }
 {
     let m = n.magnitude;
     if n.negative {
         if 32768 < m {
-            return Kept::OutOfRange;
+            return None;
         }
-        return Kept::Cell(((65536 - m) % 65536) as u16);
+        return Some(((65536 - m) % 65536) as u16);
     }
     if 65535 < m {
-        return Kept::OutOfRange;
+        return None;
     }
-    Kept::Cell((m % 65536) as u16)
+    Some((m % 65536) as u16)
 }
 
 // The number that a whole line is, and 0 for any other line.
@@ -126,15 +123,15 @@ pub fn line_number(s: &[u8]) -> u16
     ensures { result ≡ line_number s.now }
 {
     match (Cursor { at: 0 }).number(s) {
-        NumberRead::Found(n, c) => {
+        Some(Read { value: n, next: c }) => {
             if c.at != s.len() {
                 return 0;
             }
             match kept(n) {
-                Kept::Cell(x) => x,
-                Kept::OutOfRange => 0,
+                Some(x) => x,
+                None => 0,
             }
         }
-        NumberRead::Absent => 0,
+        None => 0,
     }
 }

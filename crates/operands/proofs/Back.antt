@@ -6,7 +6,7 @@ use mathlib.Core.Path.{◌≡◌, refl, sym, ap, ap₂, ◌∙◌}
 use native.Mathlib.Omega.{arith}
 use lib.Dec.{ltb}
 use lib.ListN.{length}
-use Rattle.numerals.specs.declared.Kept.TheVariants as N
+use Rattle.std.proofs.Common.{Some, None, Ok}
 use Rattle.isa.specs.Opcodes.{table, present_in, count_of}
 use Rattle.isa.specs.Inner.Words as isa
 use Rattle.isa.specs.Operands.{allows, mode_of}
@@ -17,13 +17,11 @@ use Rattle.isa.specs.declared.Operand.{Operand}
 use Rattle.isa.specs.declared.Operand.TheVariants as O
 use Rattle.isa.proofs.Modes.{mode-present}
 use Rattle.isa.proofs.Words.{parts, second_after_first}
-use Rattle.values.specs.declared.LabelIn.TheVariants as L
 use Rattle.values.specs.declared.Value.TheVariants.{Number}
 use Rattle.values.proofs.Displaced.{unsigned_of, signed_of, kept-number, kept_displacement}
 use Rattle.operands.specs.Checks.{operand_with, operand_at, fits, word_of, label_in, given, judged}
 use Rattle.operands.specs.Settling.{reworded}
 use Rattle.operands.specs.declared.Given.{Given}
-use Rattle.operands.specs.declared.InstructionRead.TheVariants.{Read}
 use Rattle.operands.specs.declared.Written.{Written}
 use Rattle.operands.specs.declared.Written.TheVariants.{Absent, Immediate, Register, Memory, Indirect, IndexedX, IndexedY, IndexedSp, Relative}
 use Rattle.operands.proofs.Exactly.{fits-exactly, judged-fitting}
@@ -44,7 +42,7 @@ written_of (O.IndexedSp d) = IndexedSp (Number (signed_of d))
 written_of (O.Relative d) = Relative (Number (signed_of d))
 
 -- the word comes back
-word_back : (o : Operand) → isa.word_of o < 65536 → word_of (written_of o) ≡ N.Cell (isa.word_of o)
+word_back : (o : Operand) → isa.word_of o < 65536 → word_of (written_of o) ≡ Some (isa.word_of o)
 unfolding written_of word_of
 word_back O.Absent h = refl
 word_back (O.Immediate v) h = kept-number v h
@@ -58,7 +56,7 @@ word_back (O.Relative d) h = kept_displacement d h
 
 -- so does the operand, without a label
 abbrev pub plainly : Operand → Given
-plainly o = record { operand = o; label = L.Absent }
+plainly o = record { operand = o; label = None }
 
 given_back : (o : Operand) → given (written_of o) (isa.word_of o) ≡ plainly o
 unfolding written_of label_in
@@ -169,8 +167,8 @@ module _ (i : Instruction) (t : allowed i ≡ true) where
 
   -- and it is read as it is
   pub judged-back : isa.word_of i.first < 65536 → isa.word_of i.second < 65536
-      → judged i.op (written_in i) ≡ Read (plainly i.first) (plainly i.second)
+      → judged i.op (written_in i) ≡ Ok (record { first = (plainly i.first); second = (plainly i.second) })
   judged-back h k =
       judged-fitting i.op (written_in i) fits-back
       ∙ rw (first_back, second_back, word_back i.first h, word_back i.second k)
-      (ap₂ Read (given_back i.first) (given_back i.second))
+      (ap₂ (Ok (record { first = (given_back i.first); second = (given_back i.second) })))

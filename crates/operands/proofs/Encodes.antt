@@ -6,7 +6,7 @@ use mathlib.Core.Path.{◌≡◌, refl, sym, ap, ◌∙◌}
 use lib.Dec.{T, ltb→lt}
 use lib.ListN.{length}
 use borrow.Author.Tests.{lt-ltb}
-use Rattle.numerals.specs.declared.Kept.TheVariants as N
+use Rattle.std.proofs.Common.{Some}
 use Rattle.isa.specs.Opcodes.{table, count_of}
 use Rattle.isa.specs.Operands.{allows, register_there}
 use Rattle.isa.specs.Encoding.{words_of, allowed, encode_of}
@@ -80,10 +80,10 @@ there-value : (v : Value) (f : ℕ → Operand) (x w : ℕ) → ((y : ℕ) → r
 there-value (Number n) f x w there re = there x
 there-value (Label name) f x w there re = ap register_there (re x w) ∙ there w
 
-named-there : {r x : ℕ} → T (is_register r) → ◌≡◌ (N.Cell r) (N.Cell x) → is_register x ≡ true
+named-there : {r x : ℕ} → T (is_register r) → ◌≡◌ (Some r) (Some x) → is_register x ≡ true
 named-there {r} {x} k e = let q : r ≡ x = cc in ap is_register (sym q) ∙ lt-ltb r 16 (ltb→lt r 16 k)
 
-there-settled : (o : Written) (x w : ℕ) → Known o → word_of o ≡ N.Cell x → register_there (settled_operand (given o x) w) ≡ true
+there-settled : (o : Written) (x w : ℕ) → Known o → word_of o ≡ Some x → register_there (settled_operand (given o x) w) ≡ true
 unfolding word_of label_in
 there-settled Absent x w k e = refl
 there-settled (Immediate v) x w k e = there-value v O.Immediate x w (λ y. refl) (λ y z. refl)

@@ -8,8 +8,10 @@ use native.Mathlib.Omega.{arith}
 use lib.Dec.{eqb}
 use lib.ListN.{length, get_or-eq_default}
 use borrow.Author.Tests.{eqb-true, eq-eqb}
-use Rattle.numerals.specs.declared.Kept.{Kept}
-use Rattle.numerals.specs.declared.Kept.TheVariants as N
+use Rattle.std.proofs.Common.{Option, Some, None, Result, Ok, Err}
+use Rattle.operands.specs.declared.Operands.{Operands}
+use Rattle.operands.specs.declared.OperandsFault.{OperandsFault}
+use Rattle.operands.specs.declared.OperandsFault.TheVariants.{WrongForm, WrongCount, WrongKind, OutOfRange}
 use Rattle.isa.specs.Opcodes.{table, count_of}
 use Rattle.isa.specs.Operands.{allows}
 use Rattle.isa.specs.declared.Opcode.{Opcode}
@@ -17,11 +19,9 @@ use Rattle.isa.proofs.Top.{few-operands}
 use Rattle.tokens.specs.declared.Token.{Token}
 use Rattle.values.proofs.Walks.{never}
 use Rattle.operands.specs.Operands.{OperandField}
-use Rattle.operands.specs.Reading.{Result, reads, wrong, operands_of}
+use Rattle.operands.specs.Reading.{RowRead, reads, wrong, operands_of}
 use Rattle.operands.specs.Checks.{operand_with, operand_at, right_count, kind_allowed, fits, word_of, given, ranged, judged, judged_form, instruction_read, refusal_of}
 use Rattle.operands.specs.declared.Given.{Given}
-use Rattle.operands.specs.declared.InstructionRead.{InstructionRead}
-use Rattle.operands.specs.declared.InstructionRead.TheVariants.{Read, WrongForm, WrongCount, WrongKind, OutOfRange}
 use Rattle.operands.specs.declared.Written.{Written}
 use Rattle.operands.specs.declared.Written.TheVariants.{Absent}
 use Rattle.operands.proofs.Readings.{field_sound, field_complete}
@@ -83,11 +83,11 @@ module _ (op : Opcode) (os : List Written) where
       let h = (fits-exactly op os).0 e in
       rw (eq-eqb (length os) (count_of op) h.as_many, h.first_kind, h.second-kind)
 
-  judged-miscounted : right_count op os ≡ false → judged op os ≡ WrongCount
+  judged-miscounted : right_count op os ≡ false → judged op os ≡ Err WrongCount
   unfolding judged
   judged-miscounted c = rw c
 
-  judged-misfit : {place : ℕ} → right_count op os ≡ true → FirstWrong op os place → judged op os ≡ WrongKind place
+  judged-misfit : {place : ℕ} → right_count op os ≡ true → FirstWrong op os place → judged op os ≡ Err (WrongKind place)
   unfolding judged
   judged-misfit c (first-wrong k) = rw (c, k)
   judged-misfit c (second-wrong k l) = rw (c, k, l)
@@ -106,7 +106,7 @@ module _ (line : List ℕ) (ts : List Token) where
   found : Found
   found = go (operands_of line ts) refl
     where
-      go : (r : Result) → operands_of line ts ≡ r → Found
+      go : (r : RowRead) → operands_of line ts ≡ r → Found
       go (reads os) e = some-are os e (reads-exactly.0 e)
       go wrong e = none-are e (λ os r. never (sym e ∙ reads-exactly.1 r))
 
@@ -122,7 +122,7 @@ module _ (line : List ℕ) (ts : List Token) where
     unfolding instruction_read
     with-reading e = ap (judged_form op) e
 
-    with_none : operands_of line ts ≡ wrong → instruction_read line op ts ≡ WrongForm
+    with_none : operands_of line ts ≡ wrong → instruction_read line op ts ≡ Err WrongForm
     unfolding instruction_read
     with_none e = ap (judged_form op) e
 
@@ -132,10 +132,10 @@ module _ (line : List ℕ) (ts : List Token) where
       pub reading : OperandField line ts operands
       pub fitting : fits op operands ≡ true
       pub first_word : ℕ
-      pub first_in_range : word_of (operand_at operands 0) ≡ N.Cell first_word
+      pub first_in_range : word_of (operand_at operands 0) ≡ Some first_word
       pub first-given : a ≡ given (operand_at operands 0) first_word
       pub second_word : ℕ
-      pub second_in_range : word_of (operand_at operands 1) ≡ N.Cell second_word
+      pub second_in_range : word_of (operand_at operands 1) ≡ Some second_word
       pub second-given : b ≡ given (operand_at operands 1) second_word
 
     pub record Miscounted : Type 0 where
@@ -153,15 +153,15 @@ module _ (line : List ℕ) (ts : List Token) where
       pub operands : List Written
       pub reading : OperandField line ts operands
       pub fitting : fits op operands ≡ true
-      pub out_of_range : (word_of (operand_at operands 0) ≡ N.OutOfRange) ⊎ (word_of (operand_at operands 1) ≡ N.OutOfRange)
+      pub out_of_range : (word_of (operand_at operands 0) ≡ None) ⊎ (word_of (operand_at operands 1) ≡ None)
 
     -- what an answer tells of the row
-    abbrev Tells : InstructionRead → Type 0
-    Tells (Read a b) = Accepted a b
-    Tells WrongForm = (os : List Written) → OperandField line ts os → ⊥
-    Tells WrongCount = Miscounted
-    Tells (WrongKind place) = Misfit place
-    Tells OutOfRange = Unranged
+    abbrev Tells : Result Operands OperandsFault → Type 0
+    Tells (Ok r) = Accepted r.first r.second
+    Tells (Err WrongForm) = (os : List Written) → OperandField line ts os → ⊥
+    Tells (Err WrongCount) = Miscounted
+    Tells (Err (WrongKind place)) = Misfit place
+    Tells (Err OutOfRange) = Unranged
 
     judged-tells : (os : List Written) → OperandField line ts os → Tells (judged op os)
     unfolding judged
@@ -173,8 +173,8 @@ module _ (line : List ℕ) (ts : List Token) where
         b : Written
         b = operand_at os 1
 
-        by_words : fits op os ≡ true → (k l : Kept) → word_of a ≡ k → word_of b ≡ l → Tells (ranged a k b l)
-        by_words e (N.Cell x) (N.Cell y) p q =
+        by_words : fits op os ≡ true → (k l : Option ℕ) → word_of a ≡ k → word_of b ≡ l → Tells (ranged a k b l)
+        by_words e (Some x) (Some y) p q =
             record {
               operands = os;
               reading = r;
@@ -186,17 +186,17 @@ module _ (line : List ℕ) (ts : List Token) where
               second_in_range = q;
               second-given = refl;
             }
-        by_words e (N.Cell x) N.OutOfRange p q = record { operands = os; reading = r; fitting = e; out_of_range = inr q }
-        by_words e N.OutOfRange l p q = record { operands = os; reading = r; fitting = e; out_of_range = inl p }
+        by_words e (Some x) None p q = record { operands = os; reading = r; fitting = e; out_of_range = inr q }
+        by_words e None l p q = record { operands = os; reading = r; fitting = e; out_of_range = inl p }
 
         by_kinds : (c k l : Bool) → right_count op os ≡ c → kind_allowed op os 0 ≡ k → kind_allowed op os 1 ≡ l
-            → Tells (cond c (cond k (cond l (ranged a (word_of a) b (word_of b)) (WrongKind 2)) (WrongKind 1)) WrongCount)
+            → Tells (cond c (cond k (cond l (ranged a (word_of a) b (word_of b)) (Err (WrongKind 2))) (Err (WrongKind 1))) (Err WrongCount))
         by_kinds true true true p q s = by_words (fitting-kinds op os p q s) (word_of a) (word_of b) refl refl
         by_kinds true true false p q s = record { operands = os; reading = r; counted = p; wrong-there = second-wrong q s }
         by_kinds true false l p q s = record { operands = os; reading = r; counted = p; wrong-there = first-wrong q }
         by_kinds false k l p q s = record { operands = os; reading = r; miscounted = p }
 
-    pub tells : {r : InstructionRead} → instruction_read line op ts ≡ r → Tells r
+    pub tells : {r : Result Operands OperandsFault} → instruction_read line op ts ≡ r → Tells r
     tells e = subst Tells e (go found)
       where
         go : Found → Tells (instruction_read line op ts)
@@ -214,27 +214,27 @@ module _ (line : List ℕ) (ts : List Token) where
     pub number-tells : {n : ℕ} → refusal_of (instruction_read line op ts) ≡ n → TellsBy n
     number-tells e = subst TellsBy e (go (instruction_read line op ts) (tells refl))
       where
-        go : (r : InstructionRead) → Tells r → TellsBy (refusal_of r)
-        go (Read a b) h = (a, b, h)
-        go WrongForm h = h
-        go WrongCount h = h
-        go (WrongKind place) h = (place, h)
-        go OutOfRange h = h
+        go : (r : Result Operands OperandsFault) → Tells r → TellsBy (refusal_of r)
+        go (Ok r) h = (r.first, r.second, h)
+        go (Err WrongForm) h = h
+        go (Err WrongCount) h = h
+        go (Err (WrongKind place)) h = (place, h)
+        go (Err OutOfRange) h = h
 
     -- ---- and back
 
-    pub accepted-back : {a b : Given} → Accepted a b → instruction_read line op ts ≡ Read a b
+    pub accepted-back : {a b : Given} → Accepted a b → instruction_read line op ts ≡ Ok (record { first = a; second = b })
     accepted-back h =
         with-reading (reads-exactly.1 h.reading) ∙ judged-fitting op h.operands h.fitting
-        ∙ rw (h.first_in_range, h.second_in_range) (ap₂ Read (sym h.first-given) (sym h.second-given))
+        ∙ rw (h.first_in_range, h.second_in_range) (ap₂ (Ok (record { first = (sym h.first-given); second = (sym h.second-given) })))
 
-    pub miscounted-back : Miscounted → instruction_read line op ts ≡ WrongCount
+    pub miscounted-back : Miscounted → instruction_read line op ts ≡ Err WrongCount
     miscounted-back h = with-reading (reads-exactly.1 h.reading) ∙ judged-miscounted op h.operands h.miscounted
 
-    pub misfit-back : {place : ℕ} → Misfit place → instruction_read line op ts ≡ WrongKind place
+    pub misfit-back : {place : ℕ} → Misfit place → instruction_read line op ts ≡ Err (WrongKind place)
     misfit-back h = with-reading (reads-exactly.1 h.reading) ∙ judged-misfit op h.operands h.counted h.wrong-there
 
-    pub unranged_back : Unranged → instruction_read line op ts ≡ OutOfRange
+    pub unranged_back : Unranged → instruction_read line op ts ≡ Err OutOfRange
     unranged_back h =
         with-reading (reads-exactly.1 h.reading) ∙ judged-fitting op h.operands h.fitting ∙ out (word_of a) refl h.out_of_range
       where
@@ -244,10 +244,10 @@ module _ (line : List ℕ) (ts : List Token) where
         b : Written
         b = operand_at h.operands 1
 
-        out : (k : Kept) → word_of a ≡ k → ((word_of a ≡ N.OutOfRange) ⊎ (word_of b ≡ N.OutOfRange)) → ranged a k b (word_of b) ≡ OutOfRange
-        out N.OutOfRange p e = refl
-        out (N.Cell x) p (inl e) = let z : ◌≡◌ {A = ℕ} 0 1 = cc in absurd (omega arith)
-        out (N.Cell x) p (inr e) = rw e
+        out : (k : Option ℕ) → word_of a ≡ k → ((word_of a ≡ None) ⊎ (word_of b ≡ None)) → ranged a k b (word_of b) ≡ Err OutOfRange
+        out None p e = refl
+        out (Some x) p (inl e) = let z : ◌≡◌ {A = ℕ} 0 1 = cc in absurd (omega arith)
+        out (Some x) p (inr e) = rw e
 
-    pub form-back : ((os : List Written) → OperandField line ts os → ⊥) → instruction_read line op ts ≡ WrongForm
+    pub form-back : ((os : List Written) → OperandField line ts os → ⊥) → instruction_read line op ts ≡ Err WrongForm
     form-back n = with_none (no_reading.1 n)

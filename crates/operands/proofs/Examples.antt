@@ -18,33 +18,34 @@ use Rattle.names.specs.Names.{capital, is_named, registers, place_in, register_c
 use Rattle.tokens.specs.Bytes.{is_blank, is_mark}
 use Rattle.tokens.specs.Reading.{blanks, closing, token_here, token_at, tokens_within, tokens_from}
 use Rattle.values.specs.Ranges.{displacement_of}
-use Rattle.values.specs.declared.LabelIn.TheVariants as L
+use Rattle.std.proofs.Common.{Some, None, Result, Ok, Err}
+use Rattle.operands.specs.declared.Operands.{Operands}
+use Rattle.operands.specs.declared.OperandsFault.{OperandsFault}
+use Rattle.operands.specs.declared.OperandsFault.TheVariants.{WrongForm, WrongCount, WrongKind, OutOfRange}
 use Rattle.operands.specs.Reading.{starts, index_step, walk, operands_of}
 use Rattle.operands.specs.Checks.{word_of, label_in, judged, instruction_read}
 use Rattle.operands.specs.Places.{start_of, after_comma, after_commas, operand_start_in, number_start_in, number_out_in}
 use Rattle.operands.specs.Settling.{settled_instruction}
 use Rattle.operands.specs.declared.Given.{Given}
-use Rattle.operands.specs.declared.InstructionRead.{InstructionRead}
-use Rattle.operands.specs.declared.InstructionRead.TheVariants.{Read, WrongForm, WrongCount, WrongKind, OutOfRange}
 
 -- what a line of operands alone is, after an opcode
-abbrev pub Says : Opcode → String → InstructionRead → Type 0
+abbrev pub Says : Opcode → String → Result Operands OperandsFault → Type 0
 Says op text r = instruction_read (bytes text) op (tokens_from (bytes text) 0) ≡ r
 
 abbrev pub plain : Operand → Given
-plain o = record { operand = o; label = L.Absent }
+plain o = record { operand = o; label = None }
 
 -- an operand with the label from a place to another
 abbrev pub labelled : Operand → ℕ → ℕ → Given
-labelled o start end = record { operand = o; label = L.Named (record { start = start; end = end }) }
+labelled o start end = record { operand = o; label = Some (record { start = start; end = end }) }
 
 -- an instruction that is read from a line of operands alone, with two words for its labels
-abbrev pub settled_in : Opcode → InstructionRead → ℕ → ℕ → List Operand
-settled_in op (Read a b) v w = (settled_instruction op a b v w).first ∷ (settled_instruction op a b v w).second ∷ []
-settled_in op WrongForm v w = []
-settled_in op WrongCount v w = []
-settled_in op (WrongKind place) v w = []
-settled_in op OutOfRange v w = []
+abbrev pub settled_in : Opcode → Result Operands OperandsFault → ℕ → ℕ → List Operand
+settled_in op (Ok r) v w = (settled_instruction op r.first r.second v w).first ∷ (settled_instruction op r.first r.second v w).second ∷ []
+settled_in op (Err WrongForm) v w = []
+settled_in op (Err WrongCount) v w = []
+settled_in op (Err (WrongKind place)) v w = []
+settled_in op (Err OutOfRange) v w = []
 
 abbrev pub Settles : Opcode → String → ℕ → ℕ → Operand → Operand → Type 0
 Settles op text v w o p = settled_in op (instruction_read (bytes text) op (tokens_from (bytes text) 0)) v w ≡ o ∷ p ∷ []
@@ -52,7 +53,7 @@ Settles op text v w o p = settled_in op (instruction_read (bytes text) op (token
 -- each of these lines is of wrong form
 abbrev pub WrongForms : List String → Type 0
 WrongForms [] = Unit {0}
-WrongForms (text ∷ texts) = Says PUSH text WrongForm × WrongForms texts
+WrongForms (text ∷ texts) = Says PUSH text (Err WrongForm) × WrongForms texts
 
 -- an operand, and what it is
 pub record Shown : Type 0 where
@@ -65,7 +66,7 @@ shown text o = record { text = text; is = o }
 -- each of these is that operand of PUSH, or of BR; with 7 for its label; or out of range
 abbrev pub Reads : Opcode → List Shown → Type 0
 Reads op [] = Unit {0}
-Reads op (x ∷ xs) = Says op x.text (Read (plain x.is) (plain Absent)) × Reads op xs
+Reads op (x ∷ xs) = Says op x.text (Ok (record { first = (plain x.is); second = (plain Absent) })) × Reads op xs
 
 abbrev pub EachSettles : Opcode → List Shown → Type 0
 EachSettles op [] = Unit {0}
@@ -73,7 +74,7 @@ EachSettles op (x ∷ xs) = Settles op x.text 7 8 x.is Absent × EachSettles op 
 
 abbrev pub OutOfRanges : Opcode → List String → Type 0
 OutOfRanges op [] = Unit {0}
-OutOfRanges op (text ∷ texts) = Says op text OutOfRange × OutOfRanges op texts
+OutOfRanges op (text ∷ texts) = Says op text (Err OutOfRange) × OutOfRanges op texts
 
 -- the place of the first or the second operand, of what follows a word of 4 bytes, and of the first number out of range there
 abbrev pub start_in : String → ℕ → ℕ
@@ -97,35 +98,35 @@ pub record Examples : Type 0 where
   -- the first and the last register
   pub first_and_last : Reads PUSH (shown ".R0" (Register 0) ∷ shown ".PC" (Register PC) ∷ shown "[.R0]" (Indirect 0) ∷ shown "[.PC]" (Indirect PC) ∷ [])
   -- "blanks may stand between" tokens; "Labels keep case; other words don't"
-  pub blanks-between : Says MOVE "# -5 [ . ix ] , [ . A ]" (Read (plain (IndexedX 65531)) (plain (Indirect A)))
-  pub nothing : Says NOP " ; no operand" (Read (plain Absent) (plain Absent))
+  pub blanks-between : Says MOVE "# -5 [ . ix ] , [ . A ]" (Ok (record { first = (plain (IndexedX 65531)); second = (plain (Indirect A)) }))
+  pub nothing : Says NOP " ; no operand" (Ok (record { first = (plain Absent); second = (plain Absent) }))
   -- a register's name without `.` is a label
-  pub label : Says PUSH "#R1" (Read (labelled (Immediate 0) 1 3) (plain Absent))
-  pub label-target : Says BR "$loop" (Read (labelled (Relative 0) 1 5) (plain Absent))
+  pub label : Says PUSH "#R1" (Ok (record { first = (labelled (Immediate 0) 1 3); second = (plain Absent) }))
+  pub label-target : Says BR "$loop" (Ok (record { first = (labelled (Relative 0) 1 5); second = (plain Absent) }))
   -- 3: form
   pub wrong-forms : WrongForms ("#- 5" ∷ "#5[.R1]" ∷ "#1," ∷ ",#1" ∷ "#1 #2" ∷ ".R10" ∷ "R1" ∷ "[R1]" ∷ "/1[.IX]" ∷ "#5[.IX" ∷ "#-0x5" ∷ "5" ∷ "#\"a\"" ∷ [])
-  pub form-first : Says NOP ".A,.A,.X" WrongForm
+  pub form-first : Says NOP ".A,.A,.X" (Err WrongForm)
   -- 5: number and kinds; "Testing mode 7 by code lets `INC $3` pass as SP-indexed"
-  pub relative : Says INC "$3" (WrongKind 1)
-  pub indexed : Says BR "#3[.SP]" (WrongKind 1)
-  pub indexed-there : Says INC "#3[.SP]" (Read (plain (IndexedSp 3)) (plain Absent))
+  pub relative : Says INC "$3" (Err (WrongKind 1))
+  pub indexed : Says BR "#3[.SP]" (Err (WrongKind 1))
+  pub indexed-there : Says INC "#3[.SP]" (Ok (record { first = (plain (IndexedSp 3)); second = (plain Absent) }))
   -- "Its `BZ .R3` is refused: the opcode's own list decides"
-  pub branch : Says BZ ".R3" (WrongKind 1)
-  pub three : Says MOVE ".A,.A,.A" WrongCount
-  pub none-given : Says PUSH "" WrongCount
-  pub register_for_a_place : Says INSTR ".A" (WrongKind 1)
-  pub kind_before_range : Says INC "$40000" (WrongKind 1)
-  pub count_before_range : Says INC "/99999,/99999" WrongCount
+  pub branch : Says BZ ".R3" (Err (WrongKind 1))
+  pub three : Says MOVE ".A,.A,.A" (Err WrongCount)
+  pub none-given : Says PUSH "" (Err WrongCount)
+  pub register_for_a_place : Says INSTR ".A" (Err (WrongKind 1))
+  pub kind_before_range : Says INC "$40000" (Err (WrongKind 1))
+  pub count_before_range : Says INC "/99999,/99999" (Err WrongCount)
   -- "15 comes before 16 in its old place, and of two operands wrong in kind the first is named" (02, K4)
-  pub count_before_kind : Says NOP "$1" WrongCount
-  pub first_of_two : Says MOVE "$1,#2" (WrongKind 1)
-  pub second-alone : Says MOVE "#1,#2" (WrongKind 2)
+  pub count_before_kind : Says NOP "$1" (Err WrongCount)
+  pub first_of_two : Says MOVE "$1,#2" (Err (WrongKind 1))
+  pub second-alone : Says MOVE "#1,#2" (Err (WrongKind 2))
   -- 6: ranges; "A decimal displacement .. lies in -32768..32767; a hex one .. is a bit pattern"
-  pub decimal_displacement : Says BR "$32768" OutOfRange
-  pub hexadecimal_displacement : Says BR "$0x8000" (Read (plain (Relative 32768)) (plain Absent))
-  pub indexed_displacement : Says PUSH "#40000[.IX]" OutOfRange
-  pub second_out_of_range : Says MOVE "#1,/65536" OutOfRange
-  pub immediate : Says PUSH "#40000" (Read (plain (Immediate 40000)) (plain Absent))
+  pub decimal_displacement : Says BR "$32768" (Err OutOfRange)
+  pub hexadecimal_displacement : Says BR "$0x8000" (Ok (record { first = (plain (Relative 32768)); second = (plain Absent) }))
+  pub indexed_displacement : Says PUSH "#40000[.IX]" (Err OutOfRange)
+  pub second_out_of_range : Says MOVE "#1,/65536" (Err OutOfRange)
+  pub immediate : Says PUSH "#40000" (Ok (record { first = (plain (Immediate 40000)); second = (plain Absent) }))
   -- a label's value takes its place, in order; no other word changes
   pub label-settled : Settles BR "/x" 7 8 (Memory 7) Absent
   pub target-settled : Settles BR "$x" 65531 8 (Relative 65531) Absent

@@ -7,8 +7,11 @@ use native.Mathlib.Omega.{arith}
 use lib.Dec.{eqb}
 use lib.ListN.{length}
 use borrow.Author.Tests.{eq-eqb, ne_eqb}
-use Rattle.numerals.specs.declared.Kept.{Kept}
-use Rattle.numerals.specs.declared.Kept.TheVariants as N
+use Rattle.std.proofs.Common.{Option, Some, None, Result, Ok, Err}
+use Rattle.operands.specs.declared.Operands.{Operands}
+use Rattle.values.specs.declared.Name.{Name}
+use Rattle.operands.specs.declared.OperandsFault.{OperandsFault}
+use Rattle.operands.specs.declared.OperandsFault.TheVariants.{WrongForm, WrongCount, WrongKind, OutOfRange}
 use Rattle.isa.specs.Opcodes.{table, row_of, present_in, count_of}
 use Rattle.isa.specs.Operands.{allows}
 use Rattle.isa.specs.declared.Kinds.{Kinds}
@@ -16,14 +19,10 @@ use Rattle.isa.specs.declared.Kinds.TheVariants.{Nothing, Source, Destination, P
 use Rattle.isa.specs.declared.Opcode.{Opcode}
 use Rattle.isa.specs.declared.Operand.{Operand}
 use Rattle.isa.specs.declared.Row.{Row}
-use Rattle.values.specs.declared.LabelIn.{LabelIn}
-use Rattle.operands.specs.Reading.{Result, reads, wrong}
+use Rattle.operands.specs.Reading.{RowRead, reads, wrong}
 use Rattle.operands.specs.Checks.{operand_with, word_of, label_in, given, ranged, judged, judged_form}
 use Rattle.operands.specs.Inner.Peeks.{keep, keep_all, none_listed, listed, judged_listed}
-use Rattle.operands.specs.declared.InstructionRead.{InstructionRead}
-use Rattle.operands.specs.declared.InstructionRead.TheVariants.{Read, WrongForm, WrongCount, WrongKind, OutOfRange}
 use Rattle.operands.specs.declared.Given.{Given}
-use Rattle.operands.specs.declared.ListRead.TheVariants as L
 use Rattle.operands.specs.declared.FirstTwo.{FirstTwo}
 use Rattle.operands.specs.declared.Written.{Written}
 
@@ -58,18 +57,18 @@ listed-judged op (a ∷ b ∷ []) = refl
 listed-judged op (a ∷ b ∷ c ∷ os) = ap (judged_listed op) (keep_no_more a b os) ∙ judged-many op a b c os
 
 -- the answer for what is kept is the answer for what was read
-pub read-judged : (op : Opcode) (r : Result) {all : FirstTwo} → listed none_listed r ≡ L.Read all → judged_listed op all ≡ judged_form op r
+pub read-judged : (op : Opcode) (r : RowRead) {all : FirstTwo} → listed none_listed r ≡ Some all → judged_listed op all ≡ judged_form op r
 read-judged op (reads os) {all} e = let q : keep_all none_listed os ≡ all = cc in ap (judged_listed op) (sym q) ∙ listed-judged op os
 read-judged op wrong e = let z : ◌≡◌ {A = ℕ} 0 1 = cc in absurd (omega arith)
 
-pub wrong-judged : (op : Opcode) (r : Result) → listed none_listed r ≡ L.Wrong → judged_form op r ≡ WrongForm
+pub wrong-judged : (op : Opcode) (r : RowRead) → listed none_listed r ≡ None → judged_form op r ≡ Err WrongForm
 wrong-judged op (reads os) e = let z : ◌≡◌ {A = ℕ} 0 1 = cc in absurd (omega arith)
 wrong-judged op wrong e = refl
 
 -- ---- what the code of instruction.rt finds
 
 module _ (op : Opcode) (all : FirstTwo) {n : ℕ} (counts : n ≡ count_of op) where
-  pub count-differs : (all.count ≡ n → ⊥) → WrongCount ≡ judged_listed op all
+  pub count-differs : (all.count ≡ n → ⊥) → Err WrongCount ≡ judged_listed op all
   unfolding judged_listed
   count-differs h = rw (ne_eqb all.count (count_of op) (λ q. h (q ∙ sym counts)))
 
@@ -81,7 +80,7 @@ module _ (op : Opcode) (all : FirstTwo) {n : ℕ} (counts : n ≡ count_of op) w
     first-allowed : allows (table op).first (operand_with all.first 0) ≡ t
     first-allowed = sym (allowed ∙ ap₂ (λ (r : Row) (x : Operand). allows r.first x) row kind)
 
-    pub first_unfit : t ≡ false → WrongKind 1 ≡ judged_listed op all
+    pub first_unfit : t ≡ false → Err (WrongKind 1) ≡ judged_listed op all
     unfolding judged_listed
     first_unfit e = rw (counted, first-allowed ∙ e)
 
@@ -89,31 +88,31 @@ module _ (op : Opcode) (all : FirstTwo) {n : ℕ} (counts : n ≡ count_of op) w
       second-allowed : allows (table op).second (operand_with all.second 0) ≡ u
       second-allowed = sym (its-allowed ∙ ap₂ (λ (r : Row) (x : Operand). allows r.second x) row its-kind)
 
-      pub second_unfit : u ≡ false → WrongKind 2 ≡ judged_listed op all
+      pub second_unfit : u ≡ false → Err (WrongKind 2) ≡ judged_listed op all
       unfolding judged_listed
       second_unfit e = rw (counted, first-allowed ∙ fitting, second-allowed ∙ e)
 
-      pub both_fit : {r : InstructionRead} → u ≡ true → r ≡ ranged all.first (word_of all.first) all.second (word_of all.second)
+      pub both_fit : {r : Result Operands OperandsFault} → u ≡ true → r ≡ ranged all.first (word_of all.first) all.second (word_of all.second)
           → r ≡ judged_listed op all
       unfolding judged_listed
       both_fit e f = rw (counted, first-allowed ∙ fitting, second-allowed ∙ e) f
 
-pub given_is : (o : Written) (w : ℕ) {x : Operand} {l : LabelIn} → x ≡ operand_with o w → l ≡ label_in o → record { operand = x; label = l } ≡ given o w
+pub given_is : (o : Written) (w : ℕ) {x : Operand} {l : Option Name} → x ≡ operand_with o w → l ≡ label_in o → record { operand = x; label = l } ≡ given o w
 given_is o w p q = rw (p, q)
 
-module _ (a b : Written) {k : Kept} (first : k ≡ word_of a) where
-  pub first_out : k ≡ N.OutOfRange → OutOfRange ≡ ranged a (word_of a) b (word_of b)
-  first_out e = let p : word_of a ≡ N.OutOfRange = sym first ∙ e in rw p
+module _ (a b : Written) {k : Option ℕ} (first : k ≡ word_of a) where
+  pub first_out : k ≡ None → Err OutOfRange ≡ ranged a (word_of a) b (word_of b)
+  first_out e = let p : word_of a ≡ None = sym first ∙ e in rw p
 
-  module _ {l : Kept} {x : ℕ} (second : l ≡ word_of b) (cell : k ≡ N.Cell x) where
-    pub second-out : l ≡ N.OutOfRange → OutOfRange ≡ ranged a (word_of a) b (word_of b)
+  module _ {l : Option ℕ} {x : ℕ} (second : l ≡ word_of b) (cell : k ≡ Some x) where
+    pub second-out : l ≡ None → Err OutOfRange ≡ ranged a (word_of a) b (word_of b)
     second-out e =
-        let p : word_of a ≡ N.Cell x = sym first ∙ cell in
-        let q : word_of b ≡ N.OutOfRange = sym second ∙ e in
+        let p : word_of a ≡ Some x = sym first ∙ cell in
+        let q : word_of b ≡ None = sym second ∙ e in
         rw (p, q)
 
-    pub cells : {y : ℕ} {g h : Given} → l ≡ N.Cell y → g ≡ given a x → h ≡ given b y → Read g h ≡ ranged a (word_of a) b (word_of b)
+    pub cells : {y : ℕ} {g h : Given} → l ≡ Some y → g ≡ given a x → h ≡ given b y → Ok (record { first = g; second = h }) ≡ ranged a (word_of a) b (word_of b)
     cells {y} e f d =
-        let p : word_of a ≡ N.Cell x = sym first ∙ cell in
-        let q : word_of b ≡ N.Cell y = sym second ∙ e in
-        rw (p, q) (ap₂ Read f d)
+        let p : word_of a ≡ Some x = sym first ∙ cell in
+        let q : word_of b ≡ Some y = sym second ∙ e in
+        rw (p, q) (ap₂ (Ok (record { first = f; second = d })))

@@ -19,20 +19,20 @@ use Rattle.tokens.proofs.Parted.{comma-moves}
 use Rattle.tokens.proofs.Heads.{row_of}
 use Rattle.values.proofs.Walks as Walks
 use Rattle.values.proofs.Walks.{finished}
-use Rattle.operands.specs.Reading.{operand, done, Result, reads, wrong, cons, finish, step, walk, operands_of}
+use Rattle.operands.specs.Reading.{operand, done, RowRead, reads, wrong, cons, finish, step, walk, operands_of}
 use Rattle.operands.specs.Inner.Peeks.{Goes, keep, keep_all, none_listed, listed}
-use Rattle.operands.specs.declared.ListRead.TheVariants as L
+use Rattle.std.proofs.Common.{Some, None}
+use Rattle.numerals.specs.Reading.{upto}
 use Rattle.operands.specs.declared.FirstTwo.{FirstTwo}
-use Rattle.operands.specs.declared.OperandRead.TheVariants as O
 use Rattle.operands.specs.declared.Written.{Written}
 
-listed_cons : (all : FirstTwo) (o : Written) (r : Result) → listed all (cons o r) ≡ listed (keep all o) r
+listed_cons : (all : FirstTwo) (o : Written) (r : RowRead) → listed all (cons o r) ≡ listed (keep all o) r
 unfolding keep_all
 listed_cons all o (reads os) = refl
 listed_cons all o wrong = refl
 
 -- an operand and what follows it
-abbrev follows_on : List ℕ → Written → Follows → Result
+abbrev follows_on : List ℕ → Written → Follows → RowRead
 follows_on s o x = Walks.follows_on operand (step s) finish s o x
 
 module _ (s : List ℕ) (at : ℕ) where
@@ -64,7 +64,7 @@ module _ (s : List ℕ) (at : ℕ) where
           mark true = rw (row_of s at q)
           mark false = rw (row_of s at q)
 
-  pub none_at : follows_of (token_at s at) ≡ Over → listed none_listed (operands_of s (tokens_from s at)) ≡ L.Read none_listed
+  pub none_at : follows_of (token_at s at) ≡ Over → listed none_listed (operands_of s (tokens_from s at)) ≡ Some none_listed
   unfolding operands_of keep_all
   none_at e = let h : tokens_from s at ≡ [] = subst Row e row in ap (λ (l : List Token). listed none_listed (operands_of s l)) h
 
@@ -77,18 +77,18 @@ module _ (s : List ℕ) (at : ℕ) where
 -- ---- one turn
 
 module _ (s : List ℕ) (all : FirstTwo) (at : ℕ) where
-  pub some-wrong : Goes s operand at O.Wrong → listed all (walk s operand (tokens_from s at)) ≡ L.Wrong
-  some-wrong g = ap (λ (r : Result). listed all r) g.same
+  pub some-wrong : Goes s operand at None → listed all (walk s operand (tokens_from s at)) ≡ None
+  some-wrong g = ap (λ (r : RowRead). listed all r) g.same
 
-  module _ {o : Written} {c : Cursor} (g : Goes s operand at (O.Read o c)) where
+  module _ {o : Written} {c : Cursor} (g : Goes s operand at (Some (upto o c))) where
     turned : {x : Follows} → follows_of (token_at s c.at) ≡ x → listed all (walk s operand (tokens_from s at)) ≡ listed all (follows_on s o x)
-    turned e = ap (λ (r : Result). listed all r) (g.same ∙ done-turn s c.at o ∙ ap (follows_on s o) e)
+    turned e = ap (λ (r : RowRead). listed all r) (g.same ∙ done-turn s c.at o ∙ ap (follows_on s o) e)
 
-    pub some-over : follows_of (token_at s c.at) ≡ Over → listed all (walk s operand (tokens_from s at)) ≡ L.Read (keep all o)
+    pub some-over : follows_of (token_at s c.at) ≡ Over → listed all (walk s operand (tokens_from s at)) ≡ Some (keep all o)
     unfolding keep_all
     some-over e = turned e
 
-    pub some-neither : follows_of (token_at s c.at) ≡ Neither → listed all (walk s operand (tokens_from s at)) ≡ L.Wrong
+    pub some-neither : follows_of (token_at s c.at) ≡ Neither → listed all (walk s operand (tokens_from s at)) ≡ None
     some-neither e = turned e
 
     pub some-comma : {m : Cursor} {more : FirstTwo} → more ≡ keep all o → follows_of (token_at s c.at) ≡ Comma m

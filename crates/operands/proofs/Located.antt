@@ -11,14 +11,13 @@ use lib.ListN.{length}
 use borrow.Author.Tests.{eq-eqb, ne_eqb}
 use Rattle.numerals.specs.Numbers.{kept_of}
 use Rattle.numerals.specs.declared.Cursor.{Cursor}
-use Rattle.numerals.specs.declared.Kept.{Kept}
-use Rattle.numerals.specs.declared.Kept.TheVariants as N
+use Rattle.std.proofs.Common.{Option, Some, None}
+use Rattle.numerals.specs.Reading.{upto}
 use Rattle.numerals.specs.declared.Numeral.{Numeral}
 use Rattle.tokens.specs.Marks.{IsMark, mark_by, mark_of}
 use Rattle.tokens.specs.Reading.{token_at, after_kind, tokens_within, tokens_from}
 use Rattle.tokens.specs.declared.Kind.{Kind}
 use Rattle.tokens.specs.declared.Kind.TheVariants as K
-use Rattle.tokens.specs.declared.MarkRead.TheVariants as M
 use Rattle.tokens.specs.declared.Token.{Token}
 use Rattle.tokens.proofs.Heads.{row_of, ends_of}
 use Rattle.tokens.proofs.Places.{EndsAt, token_placed}
@@ -28,12 +27,11 @@ use Rattle.values.specs.Values as Values
 use Rattle.values.specs.declared.Value.{Value}
 use Rattle.operands.specs.Operands as G
 use Rattle.operands.specs.Operands.{Index, by_IX, by_IY, by_SP, OperandText, Operands, one, more, OperandField, none, some}
-use Rattle.operands.specs.Reading.{Result, reads, wrong}
+use Rattle.operands.specs.Reading.{RowRead, reads, wrong}
 use Rattle.operands.specs.Checks.{operand_at, cell_of, word_of}
 use Rattle.operands.specs.Places.{Starts, head, NumberStarts, behind, OperandThere, alone, first, later, OperandStart, NumberAt, NumberOut, in_first, in_second, start_of, after_comma, after_commas, operand_start_in, number_start_in, out_by, out_of, number_out_in}
 use Rattle.operands.specs.Inner.Peeks.{keep_all, keep, none_listed, listed}
 use Rattle.operands.specs.declared.FirstTwo.{FirstTwo}
-use Rattle.operands.specs.declared.ListRead.TheVariants as L
 use Rattle.operands.specs.declared.Written.{Written}
 use Rattle.operands.specs.declared.Written.TheVariants.{Absent}
 use Rattle.operands.proofs.Judged.{keep_no_more}
@@ -111,15 +109,15 @@ module _ (s : List ℕ) (at : ℕ) where
   past-mark {t} {b} its kind e = passed its kind ∙ rw (ne_eqb b (code ",") e)
 
   -- behind a mark
-  pub behind-mark : {b : ℕ} {c : Cursor} → mark_of (token_at s at) ≡ M.Is b c → number_start_in (tokens_from s at) ≡ start_of (tokens_from s c.at)
+  pub behind-mark : {b : ℕ} {c : Cursor} → mark_of (token_at s at) ≡ Some (upto b c) → number_start_in (tokens_from s at) ≡ start_of (tokens_from s c.at)
   unfolding number_start_in
   behind-mark {b} {c} e = let h = mark-row s at b c e in rw (h.0, h.1)
 
-  pub no_mark : mark_of (token_at s at) ≡ M.Absent → 0 ≡ number_start_in (tokens_from s at)
+  pub no_mark : mark_of (token_at s at) ≡ None → 0 ≡ number_start_in (tokens_from s at)
   unfolding number_start_in
   no_mark e = go (token_at s at).kind refl e
     where
-      go : (k : Kind) → (token_at s at).kind ≡ k → mark_by k (token_at s at).next ≡ M.Absent → 0 ≡ number_start_in (tokens_from s at)
+      go : (k : Kind) → (token_at s at).kind ≡ k → mark_by k (token_at s at).next ≡ None → 0 ≡ number_start_in (tokens_from s at)
       go K.End q e = rw (row_of s at q)
       go K.Stray q e = rw (row_of s at q, q)
       go K.Word q e = rw (row_of s at q, q)
@@ -138,14 +136,14 @@ second-starts ts e = ap start_of e
 
 -- the first of two operands that is out of range
 module _ (ts : List Token) (a b : Written) where
-  pub first_out : {n : ℕ} → word_of a ≡ N.OutOfRange → n ≡ number_start_in ts → n ≡ out_by ts (word_of a) (word_of b)
+  pub first_out : {n : ℕ} → word_of a ≡ None → n ≡ number_start_in ts → n ≡ out_by ts (word_of a) (word_of b)
   first_out e h = rw e h
 
-  pub second-out : {w n : ℕ} {us : List Token} → word_of a ≡ N.Cell w → word_of b ≡ N.OutOfRange → us ≡ after_comma ts → n ≡ number_start_in us
+  pub second-out : {w n : ℕ} {us : List Token} → word_of a ≡ Some w → word_of b ≡ None → us ≡ after_comma ts → n ≡ number_start_in us
       → n ≡ out_by ts (word_of a) (word_of b)
   second-out e f q h = rw (e, f) (h ∙ ap number_start_in q)
 
-  pub none_out : {v w : ℕ} → word_of a ≡ N.Cell v → word_of b ≡ N.Cell w → 0 ≡ out_by ts (word_of a) (word_of b)
+  pub none_out : {v w : ℕ} → word_of a ≡ Some v → word_of b ≡ Some w → 0 ≡ out_by ts (word_of a) (word_of b)
   none_out e f = rw (e, f)
 
 -- what is kept of a list has its first two words
@@ -158,7 +156,7 @@ kept-two (a ∷ b ∷ c ∷ os) =
     let e = keep_no_more a b os in
     (ap (λ (all : FirstTwo). all.first) e, ap (λ (all : FirstTwo). all.second) e)
 
-pub out_of_kept : (ts : List Token) (r : Result) {all : FirstTwo} → listed none_listed r ≡ L.Read all
+pub out_of_kept : (ts : List Token) (r : RowRead) {all : FirstTwo} → listed none_listed r ≡ Some all
     → out_by ts (word_of all.first) (word_of all.second) ≡ out_of ts r
 out_of_kept ts (reads os) {all} e =
     let q : keep_all none_listed os ≡ all = cc in
@@ -166,7 +164,7 @@ out_of_kept ts (reads os) {all} e =
     rw (← q, h.0, h.1)
 out_of_kept ts wrong e = let z : ◌≡◌ {A = ℕ} 0 1 = cc in absurd (omega arith)
 
-pub out_of_wrong : (ts : List Token) (r : Result) → listed none_listed r ≡ L.Wrong → 0 ≡ out_of ts r
+pub out_of_wrong : (ts : List Token) (r : RowRead) → listed none_listed r ≡ None → 0 ≡ out_of ts r
 out_of_wrong ts (reads os) e = let z : ◌≡◌ {A = ℕ} 0 1 = cc in absurd (omega arith)
 out_of_wrong ts wrong e = refl
 
@@ -206,7 +204,7 @@ number_behind {us = us} m tail rest e u =
     subst (NumberStarts (m ∷ us ++ tail)) (sym q) (behind m tail e u (number-begins u (tail ++ rest)))
 
 -- a cell holds no number out of range
-held : {k : Kept} {w : ℕ} {A : Type 0} → k ≡ N.OutOfRange → k ≡ N.Cell w → A
+held : {k : Option ℕ} {w : ℕ} {A : Type 0} → k ≡ None → k ≡ Some w → A
 held e f = let z : ◌≡◌ {A = ℕ} 0 1 = cc in absurd (omega arith)
 
 module _ (line : List ℕ) where
@@ -235,22 +233,22 @@ module _ (line : List ℕ) where
 
   -- ---- an operand out of range has a number
 
-  value-behind : {b : ℕ} {us : List Token} {v : Value} (keeps : Numeral → Kept) (m : Token) (tail rest : List Token) → IsMark b m → ValueText us v
-      → cell_of keeps v ≡ N.OutOfRange → NumberStarts (m ∷ us ++ tail) (number_start_in (m ∷ us ++ tail ++ rest))
+  value-behind : {b : ℕ} {us : List Token} {v : Value} (keeps : Numeral → Option ℕ) (m : Token) (tail rest : List Token) → IsMark b m → ValueText us v
+      → cell_of keeps v ≡ None → NumberStarts (m ∷ us ++ tail) (number_start_in (m ∷ us ++ tail ++ rest))
   value-behind keeps m tail rest e (number u) w = number_behind m tail rest e u
   value-behind keeps m tail rest e (label q) w = held w refl
 
-  value-last : {b : ℕ} {us : List Token} {v : Value} (keeps : Numeral → Kept) (m : Token) (rest : List Token) → IsMark b m → ValueText us v
-      → cell_of keeps v ≡ N.OutOfRange → NumberStarts (m ∷ us) (number_start_in (m ∷ us ++ rest))
+  value-last : {b : ℕ} {us : List Token} {v : Value} (keeps : Numeral → Option ℕ) (m : Token) (rest : List Token) → IsMark b m → ValueText us v
+      → cell_of keeps v ≡ None → NumberStarts (m ∷ us) (number_start_in (m ∷ us ++ rest))
   value-last {us = us} keeps m rest e u w = rw (append-nil us) at (value-behind keeps m [] rest e u w)
 
-  index_out : {r : ℕ} {v : Value} {o : Written} → Index r v o → word_of o ≡ N.OutOfRange → cell_of displacement_of v ≡ N.OutOfRange
+  index_out : {r : ℕ} {v : Value} {o : Written} → Index r v o → word_of o ≡ None → cell_of displacement_of v ≡ None
   unfolding word_of
   index_out by_IX w = w
   index_out by_IY w = w
   index_out by_SP w = w
 
-  out-begins : {us : List Token} {o : Written} → OperandText line us o → word_of o ≡ N.OutOfRange → (rest : List Token)
+  out-begins : {us : List Token} {o : Written} → OperandText line us o → word_of o ≡ None → (rest : List Token)
       → NumberStarts us (number_start_in (us ++ rest))
   unfolding word_of
   out-begins (G.immediate {m} e u) w rest = value-last kept_of m rest e u w
@@ -328,14 +326,14 @@ module _ (line : List ℕ) where
   -- ---- the first number out of range
 
   -- an operand out of range is there
-  out-there : (os : List Written) (i : ℕ) → word_of (operand_at os i) ≡ N.OutOfRange → i < length os
+  out-there : (os : List Written) (i : ℕ) → word_of (operand_at os i) ≡ None → i < length os
   unfolding word_of
   out-there [] i w = held w refl
   out-there (o ∷ os) zero w = omega arith
   out-there (o ∷ os) (suc i) w = omega (arith, out-there os i w)
 
   -- what its number's place is
-  number-there : {ts : List Token} {os : List Written} → OperandField line ts os → (i : ℕ) → word_of (operand_at os i) ≡ N.OutOfRange
+  number-there : {ts : List Token} {os : List Written} → OperandField line ts os → (i : ℕ) → word_of (operand_at os i) ≡ None
       → NumberAt line ts (suc i) (operand_at os i) (number_start_in (after_commas i ts))
   number-there {ts} {os} r i e =
       let h = field_there r i (out-there os i e) in
@@ -350,28 +348,28 @@ module _ (line : List ℕ) where
     unfolding number_out_in
     out_is = ap (out_of ts) (field_complete line r)
 
-    pub number_out_exactly : (word_of (operand_at os 0) ≡ N.OutOfRange) ⊎ (word_of (operand_at os 1) ≡ N.OutOfRange) → {p : ℕ}
+    pub number_out_exactly : (word_of (operand_at os 0) ≡ None) ⊎ (word_of (operand_at os 1) ≡ None) → {p : ℕ}
         → (number_out_in line ts ≡ p) ↔ NumberOut line ts p
     unfolding after_commas
     number_out_exactly out {p} = (λ e. there (word_of (operand_at os 0)) refl out (sym out_is ∙ e), back)
       where
-        there : (k : Kept) → word_of (operand_at os 0) ≡ k → (word_of (operand_at os 0) ≡ N.OutOfRange) ⊎ (word_of (operand_at os 1) ≡ N.OutOfRange)
+        there : (k : Option ℕ) → word_of (operand_at os 0) ≡ k → (word_of (operand_at os 0) ≡ None) ⊎ (word_of (operand_at os 1) ≡ None)
             → out_by ts k (word_of (operand_at os 1)) ≡ p → NumberOut line ts p
-        there N.OutOfRange q h e = in_first (subst (NumberAt line ts 1 (operand_at os 0)) e (number-there r 0 q)) q
-        there (N.Cell w) q (inl h) e = held h q
-        there (N.Cell w) q (inr h) e =
+        there None q h e = in_first (subst (NumberAt line ts 1 (operand_at os 0)) e (number-there r 0 q)) q
+        there (Some w) q (inl h) e = held h q
+        there (Some w) q (inr h) e =
             let l = out-there os 1 h in
             let f : number_start_in (after_comma ts) ≡ p = rw h at e in
             in_second (field_there r 0 (omega (arith, l))).1 q (subst (NumberAt line ts 2 (operand_at os 1)) f (number-there r 1 h)) h
 
         back : NumberOut line ts p → number_out_in line ts ≡ p
         back (in_first h e) =
-            let f : word_of (operand_at os 0) ≡ N.OutOfRange = ap word_of (same-there r h.there) ∙ e in
+            let f : word_of (operand_at os 0) ≡ None = ap word_of (same-there r h.there) ∙ e in
             out_is ∙ rw f (number-back h)
         back (in_second u q h e) =
             let f : word_of (operand_at os 0) ≡ _ = ap word_of (same-there r u) ∙ q in
-            let g : word_of (operand_at os 1) ≡ N.OutOfRange = ap word_of (same-there r h.there) ∙ e in
+            let g : word_of (operand_at os 1) ≡ None = ap word_of (same-there r h.there) ∙ e in
             out_is ∙ rw (f, g) (number-back h)
 
-    pub number_out_none : {v w : ℕ} → word_of (operand_at os 0) ≡ N.Cell v → word_of (operand_at os 1) ≡ N.Cell w → number_out_in line ts ≡ 0
+    pub number_out_none : {v w : ℕ} → word_of (operand_at os 0) ≡ Some v → word_of (operand_at os 1) ≡ Some w → number_out_in line ts ≡ 0
     number_out_none e f = out_is ∙ rw (e, f)

@@ -24,7 +24,7 @@ use Rattle.values.proofs.Walks.{never, Each}
 use Rattle.values.proofs.Begins.{value_cases, digits_cases, digits-read}
 use Rattle.operands.specs.Operands as G
 use Rattle.operands.specs.Operands.{Index, by_IX, by_IY, by_SP, RegisterName, OperandText, Operands, one, more, OperandField, none, some}
-use Rattle.operands.specs.Reading.{Shape, hash, slash, dollar, State, operand, value, digits, after_hash, index_dot, index_name, register_name, indirect_dot, indirect_name, closing, done, put, Step, to, emit, halt, Result, reads, on_word, starts, index_step, cons, finish, code_at, step, walk, operands_of}
+use Rattle.operands.specs.Reading.{Shape, hash, slash, dollar, State, operand, value, digits, after_hash, index_dot, index_name, register_name, indirect_dot, indirect_name, closing, done, put, Step, to, emit, halt, RowRead, reads, on_word, starts, index_step, cons, finish, code_at, step, walk, operands_of}
 use Rattle.operands.specs.Inner.Peeks.{stepped}
 use Rattle.operands.specs.declared.Written.{Written}
 use Rattle.operands.specs.declared.Written.TheVariants.{Immediate, Register, Memory, Indirect, IndexedX, IndexedY, IndexedSp, Relative}
@@ -115,7 +115,7 @@ module _ (line : List ℕ) where
   complete (one {ts} {o} u) = rw (append-nil ts) at (operand-complete u [] tt)
   complete (more {ts} {us} {o} {os} c u e r) =
       operand-complete u (c ∷ us) (λ q. let z : ◌≡◌ {A = ℕ} (code ",") (code "[") = cc in omega arith)
-      ∙ comma o c us e ∙ ap (λ (x : Result). cons o x) (complete r)
+      ∙ comma o c us e ∙ ap (λ (x : RowRead). cons o x) (complete r)
 
   -- ---- what is read is what the rule gives: what has been passed of an operand, by the state, and what makes it one
 

@@ -5,8 +5,7 @@ use Rattle.isa.specs.Operands.{allows}
 use Rattle.isa.specs.declared.Kinds.{Kinds}
 use Rattle.isa.specs.declared.Operand.{Operand}
 use Rattle.isa.specs.declared.Operand.TheVariants as O
-use Rattle.values.specs.declared.LabelIn.{LabelIn}
-use Rattle.values.specs.declared.LabelIn.TheVariants as L
+use Rattle.std.proofs.Common.{Option, Some, None}
 use Rattle.values.specs.declared.Name.{Name}
 use Rattle.operands.specs.Checks.{operand_with, label_in, given}
 use Rattle.operands.specs.Settling.{reworded, settled_by, settled_operand}
@@ -39,15 +38,15 @@ reworded_as (IndexedY v) x w = refl
 reworded_as (IndexedSp v) x w = refl
 reworded_as (Relative v) x w = refl
 
-pub unlabelled-stays : (g : Given) (w : ℕ) → g.label ≡ L.Absent → settled_operand g w ≡ g.operand
-unlabelled-stays g w e = ap (λ (l : LabelIn). settled_by l g.operand w) e
+pub unlabelled-stays : (g : Given) (w : ℕ) → g.label ≡ None → settled_operand g w ≡ g.operand
+unlabelled-stays g w e = ap (λ (l : Option Name). settled_by l g.operand w) e
 
-pub label_replaced : (o : Written) (x w : ℕ) {n : Name} → label_in o ≡ L.Named n → settled_operand (given o x) w ≡ operand_with o w
-label_replaced o x w e = ap (λ (l : LabelIn). settled_by l (operand_with o x) w) e ∙ reworded_as o x w
+pub label_replaced : (o : Written) (x w : ℕ) {n : Name} → label_in o ≡ Some n → settled_operand (given o x) w ≡ operand_with o w
+label_replaced o x w e = ap (λ (l : Option Name). settled_by l (operand_with o x) w) e ∙ reworded_as o x w
 
 pub kind-stays : (k : Kinds) (g : Given) (w : ℕ) → allows k (settled_operand g w) ≡ allows k g.operand
 kind-stays k g w = by g.label
   where
-    by : (l : LabelIn) → allows k (settled_by l g.operand w) ≡ allows k g.operand
-    by L.Absent = refl
-    by (L.Named n) = same_kind k g.operand w
+    by : (l : Option Name) → allows k (settled_by l g.operand w) ≡ allows k g.operand
+    by None = refl
+    by (Some n) = same_kind k g.operand w

@@ -6,8 +6,10 @@ use mathlib.Core.List.{List}
 use mathlib.Core.Path.{◌≡◌, refl, ap, subst}
 use lib.Dec.{eqb, T}
 use lib.ListN.{length}
-use Rattle.numerals.specs.declared.Kept.{Kept}
-use Rattle.numerals.specs.declared.Kept.TheVariants as N
+use Rattle.std.proofs.Common.{Option, Some, None, Result, Ok, Err}
+use Rattle.operands.specs.declared.Operands.{Operands}
+use Rattle.operands.specs.declared.OperandsFault.{OperandsFault}
+use Rattle.operands.specs.declared.OperandsFault.TheVariants.{WrongForm, WrongCount, WrongKind, OutOfRange}
 use Rattle.numerals.specs.declared.Numeral.{Numeral}
 use Rattle.numerals.specs.declared.Radix.TheVariants.{Decimal, Hexadecimal}
 use Rattle.codes.specs.Registers.{IX, IY, SP, is_register}
@@ -26,8 +28,6 @@ use Rattle.operands.specs.Reading as W
 use Rattle.operands.specs.Reading.{Shape, hash, slash, dollar, State, put, starts, index_step, finish, step, walk, operands_of}
 use Rattle.operands.specs.Checks.{operand_with, operand_at, right_count, kind_allowed, cell_of, word_of, label_of, label_in, ranged, judged, judged_form, instruction_read}
 use Rattle.operands.specs.declared.Given.{Given}
-use Rattle.operands.specs.declared.InstructionRead.{InstructionRead}
-use Rattle.operands.specs.declared.InstructionRead.TheVariants as I
 use Rattle.operands.specs.declared.Written.{Written}
 use Rattle.operands.specs.declared.Written.TheVariants as O
 
@@ -49,12 +49,12 @@ module _ (line line' : List ℕ) where
     pub operand : g.operand ≡ g'.operand
     pub label : AlikeLabel line line' g.label g'.label
 
-  pub data AlikeRead : InstructionRead → InstructionRead → Type 0 where
-    read : {a a' b b' : Given} → AlikeGiven a a' → AlikeGiven b b' → AlikeRead (I.Read a b) (I.Read a' b')
-    wrong-form : AlikeRead I.WrongForm I.WrongForm
-    wrong-count : AlikeRead I.WrongCount I.WrongCount
-    wrong-kind : (place : ℕ) → AlikeRead (I.WrongKind place) (I.WrongKind place)
-    out_of_range : AlikeRead I.OutOfRange I.OutOfRange
+  pub data AlikeRead : Result Operands OperandsFault → Result Operands OperandsFault → Type 0 where
+    read : {a a' b b' : Given} → AlikeGiven a a' → AlikeGiven b b' → AlikeRead (Ok (record { first = a; second = b })) (Ok (record { first = a'; second = b' }))
+    wrong-form : AlikeRead (Err WrongForm) (Err WrongForm)
+    wrong-count : AlikeRead (Err WrongCount) (Err WrongCount)
+    wrong-kind : (place : ℕ) → AlikeRead (Err (WrongKind place)) (Err (WrongKind place))
+    out_of_range : AlikeRead (Err OutOfRange) (Err OutOfRange)
 
   -- ---- the walk
 
@@ -198,7 +198,7 @@ module _ (line line' : List ℕ) where
   shape_same w (indexed_sp h) = refl
   shape_same w (relative h) = refl
 
-  cell_same : (keeps : Numeral → Kept) {v v' : Value} → AlikeValue line line' v v' → cell_of keeps v ≡ cell_of keeps v'
+  cell_same : (keeps : Numeral → Option ℕ) {v v' : Value} → AlikeValue line line' v v' → cell_of keeps v ≡ cell_of keeps v'
   cell_same keeps (number n) = refl
   cell_same keeps (label e) = refl
 
@@ -239,11 +239,11 @@ module _ (line line' : List ℕ) where
   length-same none = refl
   length-same (some h l) = ap suc (length-same l)
 
-  ranged-alike : {a a' b b' : Written} → AlikeWritten a a' → AlikeWritten b b' → (x y : Kept) → AlikeRead (ranged a x b y) (ranged a' x b' y)
-  ranged-alike h g (N.Cell x) (N.Cell y) =
+  ranged-alike : {a a' b b' : Written} → AlikeWritten a a' → AlikeWritten b b' → (x y : Option ℕ) → AlikeRead (ranged a x b y) (ranged a' x b' y)
+  ranged-alike h g (Some x) (Some y) =
       read (record { operand = shape_same x h; label = label-alike h }) (record { operand = shape_same y g; label = label-alike g })
-  ranged-alike h g (N.Cell x) N.OutOfRange = out_of_range
-  ranged-alike h g N.OutOfRange y = out_of_range
+  ranged-alike h g (Some x) None = out_of_range
+  ranged-alike h g None y = out_of_range
 
   judged-alike : (op : Opcode) {os os' : List Written} → AlikeList AlikeWritten os os' → AlikeRead (judged op os) (judged op os')
   unfolding judged
@@ -255,7 +255,7 @@ module _ (line line' : List ℕ) where
       (pick (kind_allowed op os' 0)
       (pick (kind_allowed op os' 1) (ranged-alike h g (word_of (operand_at os' 0)) (word_of (operand_at os' 1))) (wrong-kind 2)) (wrong-kind 1)) wrong-count)
     where
-      pick : (y : Bool) {r r' x x' : InstructionRead} → AlikeRead r r' → AlikeRead x x' → AlikeRead (cond y r x) (cond y r' x')
+      pick : (y : Bool) {r r' x x' : Result Operands OperandsFault} → AlikeRead r r' → AlikeRead x x' → AlikeRead (cond y r x) (cond y r' x')
       pick true h g = h
       pick false h g = g
 

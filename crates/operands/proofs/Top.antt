@@ -5,7 +5,9 @@ use mathlib.Core.List.{List}
 use mathlib.Core.Logic.{◌↔◌, ◌⊎◌}
 use mathlib.Core.Path.{◌≡◌, sym, ap, ◌∙◌}
 use lib.ListN.{length}
-use Rattle.numerals.specs.declared.Kept.TheVariants as N
+use Rattle.std.proofs.Common.{Some, None, Ok, Err}
+use Rattle.operands.specs.declared.Operands.{Operands}
+use Rattle.operands.specs.declared.OperandsFault.TheVariants.{WrongKind}
 use Rattle.isa.specs.Opcodes.{count_of}
 use Rattle.isa.specs.Encoding.{words_of, encode_of}
 use Rattle.isa.specs.Operands.{allows}
@@ -14,7 +16,6 @@ use Rattle.isa.specs.declared.Opcode.{Opcode}
 use Rattle.tokens.specs.Reading.{tokens_from}
 use Rattle.tokens.specs.declared.Token.{Token}
 use Rattle.tokens.proofs.Places.{Within}
-use Rattle.values.specs.declared.LabelIn.TheVariants as L
 use Rattle.values.specs.declared.Name.{Name}
 use Rattle.values.proofs.Within.{LabelWithin}
 use Rattle.operands.specs.Operands.{OperandField}
@@ -23,7 +24,6 @@ use Rattle.operands.specs.Checks.{operand_with, operand_at, word_of, label_in, g
 use Rattle.operands.specs.Settling.{settled_operand, settled_instruction}
 use Rattle.operands.specs.Places.{OperandStart, NumberOut, operand_start_in, number_out_in}
 use Rattle.operands.specs.declared.Given.{Given}
-use Rattle.operands.specs.declared.InstructionRead.TheVariants.{Read, WrongKind}
 use Rattle.operands.specs.declared.Written.{Written}
 use Rattle.operands.proofs.Readings as Readings
 use Rattle.operands.proofs.Exactly as Exactly
@@ -62,7 +62,7 @@ third_allowed = Exactly.third_allowed
 module _ (line : List ℕ) (ts : List Token) (op : Opcode) where
   -- An instruction is read exactly where the row has a reading that fits and whose numbers are all in range; the operands handed
   -- back are that reading's, each with its word and its label.
-  pub read-exactly : {a b : Given} → (instruction_read line op ts ≡ Read a b) ↔ Accepted line ts op a b
+  pub read-exactly : {a b : Given} → (instruction_read line op ts ≡ Ok (record { first = a; second = b })) ↔ Accepted line ts op a b
   read-exactly = (Exactly.tells line ts op, Exactly.accepted-back line ts op)
 
   -- 0: a reading that fits, each number in its range.
@@ -82,7 +82,7 @@ module _ (line : List ℕ) (ts : List Token) (op : Opcode) where
   kind-exactly = (Exactly.number-tells line ts op, λ h. ap refusal_of (Exactly.misfit-back line ts op h.1))
 
   -- "with the operand's place, 1 or 2", and "the first is named".
-  pub place-exactly : {place : ℕ} → (instruction_read line op ts ≡ WrongKind place) ↔ Misfit line ts op place
+  pub place-exactly : {place : ℕ} → (instruction_read line op ts ≡ Err (WrongKind place)) ↔ Misfit line ts op place
   place-exactly = (Exactly.tells line ts op, Exactly.misfit-back line ts op)
 
   -- 6: a reading that fits, and a number out of its range.
@@ -90,11 +90,11 @@ module _ (line : List ℕ) (ts : List Token) (op : Opcode) where
   range_exactly = (Exactly.number-tells line ts op, λ h. ap refusal_of (Exactly.unranged_back line ts op h))
 
   -- What is read is encoded: with any words in its labels' places, the encoder does not refuse it.
-  pub encodes : {a b : Given} → instruction_read line op ts ≡ Read a b → (v w : ℕ) → (encode_of (settled_instruction op a b v w)).refusal ≡ 0
+  pub encodes : {a b : Given} → instruction_read line op ts ≡ Ok (record { first = a; second = b }) → (v w : ℕ) → (encode_of (settled_instruction op a b v w)).refusal ≡ 0
   encodes e = Encodes.encodes line ts op (Exactly.tells line ts op e)
 
   -- "First word .., then one word per operand": it takes as many words as its opcode has operands, plus one.
-  pub words_count : {a b : Given} → instruction_read line op ts ≡ Read a b → (v w : ℕ) → length (words_of (settled_instruction op a b v w)) ≡ suc (count_of op)
+  pub words_count : {a b : Given} → instruction_read line op ts ≡ Ok (record { first = a; second = b }) → (v w : ℕ) → length (words_of (settled_instruction op a b v w)) ≡ suc (count_of op)
   words_count e = Encodes.words_count line ts op (Exactly.tells line ts op e)
 
 -- ---- labels
@@ -104,18 +104,18 @@ pub field_within : (n : ℕ) (line : List ℕ) {us : List Token} {os : List Writ
     → LabelWithin n (label_in (operand_at os i))
 field_within = Bounds.of_field
 
-pub label-within : (line : List ℕ) (at : ℕ) (op : Opcode) {a b : Given} → instruction_read line op (tokens_from line at) ≡ Read a b
+pub label-within : (line : List ℕ) (at : ℕ) (op : Opcode) {a b : Given} → instruction_read line op (tokens_from line at) ≡ Ok (record { first = a; second = b })
     → LabelWithin (length line) a.label × LabelWithin (length line) b.label
 label-within = Bounds.of_read
 
 -- ---- labels replaced by their values
 
 -- "one word per operand in order: value, displacement or register code": an operand that names no label keeps its own word.
-pub unlabelled-stays : (g : Given) (w : ℕ) → g.label ≡ L.Absent → settled_operand g w ≡ g.operand
+pub unlabelled-stays : (g : Given) (w : ℕ) → g.label ≡ None → settled_operand g w ≡ g.operand
 unlabelled-stays = Settled.unlabelled-stays
 
 -- One that names a label gets that word, whatever stood there, and is as it was written otherwise.
-pub label_replaced : (o : Written) (x w : ℕ) {n : Name} → label_in o ≡ L.Named n → settled_operand (given o x) w ≡ operand_with o w
+pub label_replaced : (o : Written) (x w : ℕ) {n : Name} → label_in o ≡ Some n → settled_operand (given o x) w ≡ operand_with o w
 label_replaced = Settled.label_replaced
 
 -- No kind changes: an opcode allows the operand where it allowed it before, and nowhere else.
@@ -131,12 +131,12 @@ operand_start_exactly = Located.operand_start_exactly
 
 module _ (line : List ℕ) {ts : List Token} {os : List Written} (r : OperandField line ts os) where
   -- "the number .. in 6", its `-` included: of the first two operands, from the left, the first number that is out of range;
-  pub number_out_exactly : (word_of (operand_at os 0) ≡ N.OutOfRange) ⊎ (word_of (operand_at os 1) ≡ N.OutOfRange) → {p : ℕ}
+  pub number_out_exactly : (word_of (operand_at os 0) ≡ None) ⊎ (word_of (operand_at os 1) ≡ None) → {p : ℕ}
       → (number_out_in line ts ≡ p) ↔ NumberOut line ts p
   number_out_exactly = Located.number_out_exactly line r
 
   -- 0 where there is none.
-  pub number_out_none : {v w : ℕ} → word_of (operand_at os 0) ≡ N.Cell v → word_of (operand_at os 1) ≡ N.Cell w → number_out_in line ts ≡ 0
+  pub number_out_none : {v w : ℕ} → word_of (operand_at os 0) ≡ Some v → word_of (operand_at os 1) ≡ Some w → number_out_in line ts ≡ 0
   number_out_none = Located.number_out_none line r
 
 -- ---- examples, and one reply

@@ -13,31 +13,30 @@ use Rattle.tokens.specs.Marks.{IsMark, on_mark, mark_by, mark_of}
 use Rattle.tokens.specs.Reading.{token_at, tokens_from}
 use Rattle.tokens.specs.declared.Kind.{Kind}
 use Rattle.tokens.specs.declared.Kind.TheVariants as K
-use Rattle.tokens.specs.declared.MarkRead.TheVariants as M
+use Rattle.std.proofs.Common.{Option, Some, None}
+use Rattle.numerals.specs.Reading.{upto}
+use Rattle.numerals.specs.declared.Read.{Read}
 use Rattle.tokens.specs.declared.Token.{Token}
 use Rattle.tokens.proofs.Places.{token_placed}
 use Rattle.values.specs.Values.{numeral, BelowZero, name_at}
 use Rattle.values.specs.Reading.{digits_by, minus_at, value_at}
 use Rattle.values.specs.declared.Value.{Value}
 use Rattle.values.specs.declared.Value.TheVariants.{Number, Label}
-use Rattle.values.specs.declared.ValueRead.{ValueRead}
-use Rattle.values.specs.declared.ValueRead.TheVariants as V'
 use Rattle.tokens.proofs.Heads.{row_of, ends_of}
 use Rattle.values.proofs.Walks as Walks
 use Rattle.values.proofs.Walks.{turned}
 use Rattle.values.proofs.Begins.{value_cases, digits_cases, digits-read, digits-row}
-use Rattle.operands.specs.Reading.{Shape, State, operand, value, digits, put, Step, to, halt, Result, wrong, on_word, finish, code_at, step, walk}
+use Rattle.operands.specs.Reading.{Shape, State, operand, value, digits, put, Step, to, halt, RowRead, wrong, on_word, finish, code_at, step, walk}
 use Rattle.operands.specs.Inner.Peeks.{register_by, register_of, stepped}
-use Rattle.operands.specs.declared.RegisterRead.TheVariants as R
 
 -- what the answer for a value says of the walk
-abbrev pub value_on : List ℕ → Shape → ValueRead → Result
-value_on s k (V'.Found v c) = walk s (put k v) (tokens_from s c.at)
-value_on s k V'.Absent = wrong
+abbrev pub value_on : List ℕ → Shape → Option (Read Value) → RowRead
+value_on s k (Some r) = walk s (put k r.value) (tokens_from s r.next.at)
+value_on s k None = wrong
 
-abbrev pub ValueOnward : ℕ → ValueRead → Type 0
-ValueOnward at (V'.Found v c) = at ≤ c.at
-ValueOnward at V'.Absent = Unit
+abbrev pub ValueOnward : ℕ → Option (Read Value) → Type 0
+ValueOnward at (Some r) = at ≤ r.next.at
+ValueOnward at None = Unit
 
 module _ (s : List ℕ) (at : ℕ) where
   -- ---- a token that the walk takes, and one that it does not
@@ -53,7 +52,7 @@ module _ (s : List ℕ) (at : ℕ) where
 
   -- ---- marks
 
-  marked : (k : Kind) (b : ℕ) (c n : Cursor) → mark_by k n ≡ M.Is b c → (k ≡ K.Mark b) × (n ≡ c)
+  marked : (k : Kind) (b : ℕ) (c n : Cursor) → mark_by k n ≡ Some (upto b c) → (k ≡ K.Mark b) × (n ≡ c)
   marked K.End b c n e = let z : ◌≡◌ {A = ℕ} 0 1 = cc in absurd (omega arith)
   marked K.Stray b c n e = let z : ◌≡◌ {A = ℕ} 0 1 = cc in absurd (omega arith)
   marked K.Word b c n e = let z : ◌≡◌ {A = ℕ} 0 1 = cc in absurd (omega arith)
@@ -62,7 +61,7 @@ module _ (s : List ℕ) (at : ℕ) where
   marked (K.Mark x) b c n e = let y : x ≡ b = cc in (ap K.Mark y, cc)
 
   -- a mark: the row is it and the row after it
-  pub mark-row : (b : ℕ) (c : Cursor) → mark_of (token_at s at) ≡ M.Is b c
+  pub mark-row : (b : ℕ) (c : Cursor) → mark_of (token_at s at) ≡ Some (upto b c)
       → (tokens_from s at ≡ token_at s at ∷ tokens_from s c.at) × ((token_at s at).kind ≡ K.Mark b) × (at < c.at) × (c.at ≤ length s)
   mark-row b c e =
       let m = marked (token_at s at).kind b c (token_at s at).next e in
@@ -72,7 +71,7 @@ module _ (s : List ℕ) (at : ℕ) where
       (row_of s at m.0 ∙ ap (λ (n : ℕ). token_at s at ∷ tokens_from s n) q, m.0, omega arith, omega arith)
 
   module _ (st : State) (f : ℕ → Step) (p : (u : Token) → step s st u ≡ on_mark halt f u.kind) where
-    pub on-mark : (b : ℕ) (c : Cursor) → mark_of (token_at s at) ≡ M.Is b c
+    pub on-mark : (b : ℕ) (c : Cursor) → mark_of (token_at s at) ≡ Some (upto b c)
         → walk s st (tokens_from s at) ≡ stepped (f b) (λ x. walk s x (tokens_from s c.at))
     unfolding walk
     on-mark b c e =
@@ -81,10 +80,10 @@ module _ (s : List ℕ) (at : ℕ) where
         rw h.0 (ap (λ (x : Step). stepped x (λ y. walk s y (tokens_from s c.at))) q)
 
     -- no mark, where only a mark may be
-    pub off_mark : finish st ≡ wrong → mark_of (token_at s at) ≡ M.Absent → walk s st (tokens_from s at) ≡ wrong
+    pub off_mark : finish st ≡ wrong → mark_of (token_at s at) ≡ None → walk s st (tokens_from s at) ≡ wrong
     off_mark z e = halted st z (p (token_at s at) ∙ go (token_at s at).kind e)
       where
-        go : (k : Kind) → mark_by k (token_at s at).next ≡ M.Absent → on_mark halt f k ≡ halt
+        go : (k : Kind) → mark_by k (token_at s at).next ≡ None → on_mark halt f k ≡ halt
         go K.End e = refl
         go K.Stray e = refl
         go K.Word e = refl
@@ -94,12 +93,12 @@ module _ (s : List ℕ) (at : ℕ) where
 
   -- ---- words, and registers' names
 
-  named_is : (k : Kind) (r x : ℕ) (c n : Cursor) → register_by r k n ≡ R.Named x c → (k ≡ K.Word) × (r ≡ x) × (n ≡ c) × (is_register x ≡ true)
+  named_is : (k : Kind) (r x : ℕ) (c n : Cursor) → register_by r k n ≡ Some (upto x c) → (k ≡ K.Word) × (r ≡ x) × (n ≡ c) × (is_register x ≡ true)
   named_is K.End r x c n e = let z : ◌≡◌ {A = ℕ} 0 1 = cc in absurd (omega arith)
   named_is K.Stray r x c n e = let z : ◌≡◌ {A = ℕ} 0 1 = cc in absurd (omega arith)
   named_is K.Word r x c n e = go (is_register r) refl e
     where
-      go : (b : Bool) → is_register r ≡ b → cond b (R.Named r n) R.Absent ≡ R.Named x c
+      go : (b : Bool) → is_register r ≡ b → cond b (Some (upto r n)) None ≡ Some (upto x c)
           → (K.Word ≡ K.Word) × (r ≡ x) × (n ≡ c) × (is_register x ≡ true)
       go true q e = let y : r ≡ x = cc in (refl, y, cc, ap is_register (sym y) ∙ q)
       go false q e = let z : ◌≡◌ {A = ℕ} 0 1 = cc in absurd (omega arith)
@@ -108,7 +107,7 @@ module _ (s : List ℕ) (at : ℕ) where
   named_is (K.Mark b) r x c n e = let z : ◌≡◌ {A = ℕ} 0 1 = cc in absurd (omega arith)
 
   module _ (st : State) (f : ℕ → Step) (p : (u : Token) → step s st u ≡ on_word (f (code_at s u)) u.kind) where
-    pub on_name : (x : ℕ) (c : Cursor) → register_of s (token_at s at) ≡ R.Named x c
+    pub on_name : (x : ℕ) (c : Cursor) → register_of s (token_at s at) ≡ Some (upto x c)
         → (walk s st (tokens_from s at) ≡ stepped (f x) (λ y. walk s y (tokens_from s c.at))) × (at < c.at) × (is_register x ≡ true)
     unfolding walk
     on_name x c e =
@@ -121,19 +120,19 @@ module _ (s : List ℕ) (at : ℕ) where
         (rw w (ap (λ (y : Step). stepped y (λ y. walk s y (tokens_from s c.at))) z), omega arith, m.3)
 
     -- no register's name, where only one may be
-    pub off_name : finish st ≡ wrong → ((r : ℕ) → is_register r ≡ false → f r ≡ halt) → register_of s (token_at s at) ≡ R.Absent
+    pub off_name : finish st ≡ wrong → ((r : ℕ) → is_register r ≡ false → f r ≡ halt) → register_of s (token_at s at) ≡ None
         → walk s st (tokens_from s at) ≡ wrong
     off_name z w e = halted st z (p (token_at s at) ∙ go (token_at s at).kind e)
       where
         r : ℕ
         r = code_at s (token_at s at)
 
-        go : (k : Kind) → register_by r k (token_at s at).next ≡ R.Absent → on_word (f r) k ≡ halt
+        go : (k : Kind) → register_by r k (token_at s at).next ≡ None → on_word (f r) k ≡ halt
         go K.End e = refl
         go K.Stray e = refl
         go K.Word e = word (is_register r) refl e
           where
-            word : (b : Bool) → is_register r ≡ b → cond b (R.Named r (token_at s at).next) R.Absent ≡ R.Absent → f r ≡ halt
+            word : (b : Bool) → is_register r ≡ b → cond b (Some (upto r (token_at s at).next)) None ≡ None → f r ≡ halt
             word true q e = let z : ◌≡◌ {A = ℕ} 0 1 = cc in absurd (omega arith)
             word false q e = w r q
         go (K.Number v h) e = refl
@@ -148,36 +147,36 @@ onward s at = omega (arith, (token_placed s at).starts, (token_placed s at).move
 
 module _ (s : List ℕ) (at : ℕ) (k : Shape) where
   -- the answer for a value that the walk from a state finds at the place, or from there on
-  abbrev Turned : State → ValueRead → Type 0
+  abbrev Turned : State → Option (Read Value) → Type 0
   Turned st r = (walk s st (tokens_from s at) ≡ value_on s k r) × ValueOnward at r
 
   -- one token that is a value, and one that is none
   one-turn : (st : State) (v : Value) → tokens_from s at ≡ token_at s at ∷ tokens_from s (token_at s at).next.at → step s st (token_at s at) ≡ to (put k v)
-      → Turned st (V'.Found v (token_at s at).next)
+      → Turned st (Some (upto v (token_at s at).next))
   one-turn st v e h = (taken s at st (put k v) (tokens_from s (token_at s at).next.at) e h, onward s at)
 
-  no_turn : (st : State) → finish st ≡ wrong → step s st (token_at s at) ≡ halt → Turned st V'.Absent
+  no_turn : (st : State) → finish st ≡ wrong → step s st (token_at s at) ≡ halt → Turned st None
   no_turn st z h = (halted s at st z h, tt)
 
   -- the digits after a `-`
   digits-turn : Turned (digits k) (minus_at s at)
   unfolding minus_at
   digits-turn =
-      digits_cases (token_at s at) below (λ h. subst (Turned (digits k)) (sym (h ValueRead found V'.Absent)) (no_turn (digits k) refl (h Step goes halt)))
+      digits_cases (token_at s at) below (λ h. subst (Turned (digits k)) (sym (h (Option (Read Value)) found None)) (no_turn (digits k) refl (h Step goes halt)))
     where
-      found : Numeral → ValueRead
-      found n = V'.Found (Number n) (token_at s at).next
+      found : Numeral → Option (Read Value)
+      found n = Some (upto (Number n) (token_at s at).next)
 
       goes : Numeral → Step
       goes n = to (put k (Number n))
 
-      below : (n : Numeral) → BelowZero (token_at s at) n → Turned (digits k) (digits_by found V'.Absent (token_at s at).kind (token_at s at).directly)
+      below : (n : Numeral) → BelowZero (token_at s at) n → Turned (digits k) (digits_by found None (token_at s at).kind (token_at s at).directly)
       below n b =
-          subst (Turned (digits k)) (sym (digits-read found V'.Absent b)) (one-turn (digits k) (Number n) (digits-row s at b) (digits-read goes halt b))
+          subst (Turned (digits k)) (sym (digits-read found None b)) (one-turn (digits k) (Number n) (digits-row s at b) (digits-read goes halt b))
 
-later : (at n : ℕ) (r : ValueRead) → at ≤ n → ValueOnward n r → ValueOnward at r
-later at n (V'.Found v c) h o = omega arith
-later at n V'.Absent h o = tt
+later : (at n : ℕ) (r : Option (Read Value)) → at ≤ n → ValueOnward n r → ValueOnward at r
+later at n (Some r) h o = omega arith
+later at n None h o = tt
 
 pub value-turn : (s : List ℕ) (at : ℕ) (k : Shape) → Turned s at k (value k) (value_at s at)
 unfolding value_at
@@ -186,7 +185,7 @@ value-turn s at k =
     (λ q. rw q (one-turn s at k (value k) (Label (name_at (token_at s at))) (row_of s at q) (rw q)))
     (λ v x q. rw q (one-turn s at k (value k) (Number (numeral false x v)) (row_of s at q) (rw q)))
     (λ q. rw q (minus q))
-    (λ h. subst (Turned s at k (value k)) (sym (h ValueRead _ (λ n. V'.Found (Number n) (token_at s at).next) (minus_at s (token_at s at).next.at) V'.Absent))
+    (λ h. subst (Turned s at k (value k)) (sym (h (Option (Read Value)) _ (λ n. (Some (upto (Number n) (token_at s at).next))) (minus_at s (token_at s at).next.at) None))
     (no_turn s at k (value k) refl (h Step _ (λ n. to (put k (Number n))) (to (digits k)) halt)))
   where
     minus : IsMark (code "-") (token_at s at) → Turned s at k (value k) (minus_at s (token_at s at).next.at)

@@ -15,7 +15,7 @@ use Rattle.operands.specs.Operands as G
 use Rattle.operands.specs.Operands.{Index, by_IX, by_IY, by_SP, OperandText, Operands, one, more, OperandField, none, some}
 use Rattle.operands.specs.Checks.{operand_at, label_of, label_in, instruction_read}
 use Rattle.operands.specs.declared.Given.{Given}
-use Rattle.operands.specs.declared.InstructionRead.TheVariants.{Read}
+use Rattle.std.proofs.Common.{Ok}
 use Rattle.operands.specs.declared.Written.{Written}
 use Rattle.operands.proofs.Exactly.{tells}
 
@@ -55,7 +55,7 @@ module _ (n : ℕ) where
     of_field none h i = tt
     of_field (some r) h i = of_operands r h i
 
-pub of_read : (line : List ℕ) (at : ℕ) (op : Opcode) {a b : Given} → instruction_read line op (tokens_from line at) ≡ Read a b
+pub of_read : (line : List ℕ) (at : ℕ) (op : Opcode) {a b : Given} → instruction_read line op (tokens_from line at) ≡ Ok (record { first = a; second = b })
     → LabelWithin (length line) a.label × LabelWithin (length line) b.label
 of_read line at op e =
     let h = tells line (tokens_from line at) op e in

@@ -2,8 +2,11 @@
 -- not allowed", then 6, "number .. out of range". Of 5 it is told which, and of kinds the first that is wrong (02, K4).
 use Rattle.std.specs.Prelude.{ℕ, Bool, cond, ◌&&◌, List, [], ◌∷◌, eqb, length, get_or}
 use Rattle.numerals.specs.Numbers.{kept_of}
-use Rattle.numerals.specs.declared.Kept.{Kept}
-use Rattle.numerals.specs.declared.Kept.TheVariants as N
+use Rattle.std.specs.Prelude.{Option, Some, None, Result, Ok, Err}
+use Rattle.operands.specs.declared.Operands.{Operands}
+use Rattle.values.specs.declared.Name.{Name}
+use Rattle.operands.specs.declared.OperandsFault.{OperandsFault}
+use Rattle.operands.specs.declared.OperandsFault.TheVariants.{WrongForm, WrongCount, WrongKind, OutOfRange}
 use Rattle.numerals.specs.declared.Numeral.{Numeral}
 use Rattle.isa.specs.Opcodes.{table, count_of}
 use Rattle.isa.specs.Operands.{allows}
@@ -14,14 +17,10 @@ use Rattle.isa.specs.declared.Operand.{Operand}
 use Rattle.isa.specs.declared.Operand.TheVariants as O
 use Rattle.tokens.specs.declared.Token.{Token}
 use Rattle.values.specs.Ranges.{displacement_of}
-use Rattle.values.specs.declared.LabelIn.{LabelIn}
-use Rattle.values.specs.declared.LabelIn.TheVariants as L
 use Rattle.values.specs.declared.Value.{Value}
 use Rattle.values.specs.declared.Value.TheVariants.{Number, Label}
-use Rattle.operands.specs.Reading.{Result, reads, wrong, operands_of}
+use Rattle.operands.specs.Reading.{RowRead, reads, wrong, operands_of}
 use Rattle.operands.specs.declared.Given.{Given}
-use Rattle.operands.specs.declared.InstructionRead.{InstructionRead}
-use Rattle.operands.specs.declared.InstructionRead.TheVariants.{Read, WrongForm, WrongCount, WrongKind, OutOfRange}
 use Rattle.operands.specs.declared.Written.{Written}
 use Rattle.operands.specs.declared.Written.TheVariants.{Absent, Immediate, Register, Memory, Indirect, IndexedX, IndexedY, IndexedSp, Relative}
 
@@ -60,17 +59,17 @@ fits op os = right_count op os && (kind_allowed op os 0 && kind_allowed op os 1)
 -- ---- ranges (6)
 
 -- the cell that keeps a number; a label's value takes the place of the 0 later
-abbrev pub cell_of : (Numeral → Kept) → Value → Kept
+abbrev pub cell_of : (Numeral → Option ℕ) → Value → Option ℕ
 cell_of keeps (Number n) = keeps n
-cell_of keeps (Label name) = N.Cell 0
+cell_of keeps (Label name) = Some 0
 
 -- "one word per operand ..: value, displacement or register code"
-unfoldable pub word_of : Written → Kept
-word_of Absent = N.Cell 0
+unfoldable pub word_of : Written → Option ℕ
+word_of Absent = Some 0
 word_of (Immediate v) = cell_of kept_of v
-word_of (Register r) = N.Cell r
+word_of (Register r) = Some r
 word_of (Memory v) = cell_of kept_of v
-word_of (Indirect r) = N.Cell r
+word_of (Indirect r) = Some r
 word_of (IndexedX v) = cell_of displacement_of v
 word_of (IndexedY v) = cell_of displacement_of v
 word_of (IndexedSp v) = cell_of displacement_of v
@@ -78,16 +77,16 @@ word_of (Relative v) = cell_of displacement_of v
 
 -- ---- the answer
 
-abbrev pub label_of : Value → LabelIn
-label_of (Number n) = L.Absent
-label_of (Label name) = L.Named name
+abbrev pub label_of : Value → Option Name
+label_of (Number n) = None
+label_of (Label name) = Some name
 
-unfoldable pub label_in : Written → LabelIn
-label_in Absent = L.Absent
+unfoldable pub label_in : Written → Option Name
+label_in Absent = None
 label_in (Immediate v) = label_of v
-label_in (Register r) = L.Absent
+label_in (Register r) = None
 label_in (Memory v) = label_of v
-label_in (Indirect r) = L.Absent
+label_in (Indirect r) = None
 label_in (IndexedX v) = label_of v
 label_in (IndexedY v) = label_of v
 label_in (IndexedSp v) = label_of v
@@ -96,35 +95,35 @@ label_in (Relative v) = label_of v
 abbrev pub given : Written → ℕ → Given
 given o w = record { operand = operand_with o w; label = label_in o }
 
-abbrev pub ranged : Written → Kept → Written → Kept → InstructionRead
-ranged a (N.Cell x) b (N.Cell y) = Read (given a x) (given b y)
-ranged a (N.Cell x) b N.OutOfRange = OutOfRange
-ranged a N.OutOfRange b k = OutOfRange
+abbrev pub ranged : Written → Option ℕ → Written → Option ℕ → Result Operands OperandsFault
+ranged a (Some x) b (Some y) = Ok (record { first = (given a x); second = (given b y) })
+ranged a (Some x) b None = Err OutOfRange
+ranged a None b k = Err OutOfRange
 
 -- the count, then the first operand's kind, then the second's: "of two operands wrong in kind the first is named" (02, K4); then 6
-unfoldable pub judged : Opcode → List Written → InstructionRead
+unfoldable pub judged : Opcode → List Written → Result Operands OperandsFault
 judged op os =
     cond (right_count op os)
     (cond (kind_allowed op os 0)
     (cond (kind_allowed op os 1)
     (ranged (operand_at os 0) (word_of (operand_at os 0)) (operand_at os 1) (word_of (operand_at os 1)))
-    (WrongKind 2))
-    (WrongKind 1))
-    WrongCount
+    (Err (WrongKind 2)))
+    (Err (WrongKind 1)))
+    (Err WrongCount)
 
 -- form 3 first
-abbrev pub judged_form : Opcode → Result → InstructionRead
+abbrev pub judged_form : Opcode → RowRead → Result Operands OperandsFault
 judged_form op (reads os) = judged op os
-judged_form op wrong = WrongForm
+judged_form op wrong = Err WrongForm
 
-unfoldable pub instruction_read : List ℕ → Opcode → List Token → InstructionRead
+unfoldable pub instruction_read : List ℕ → Opcode → List Token → Result Operands OperandsFault
 instruction_read line op ts = judged_form op (operands_of line ts)
 
 -- the paper's number for each answer: 0 where the operands pass, 3 "form, unknown registers included", "15, wrong number of operands,
 -- and 16, kind not allowed" (02, K4), 6 "number .. out of range"
-abbrev pub refusal_of : InstructionRead → ℕ
-refusal_of (Read a b) = 0
-refusal_of WrongForm = 3
-refusal_of WrongCount = 15
-refusal_of (WrongKind place) = 16
-refusal_of OutOfRange = 6
+abbrev pub refusal_of : Result Operands OperandsFault → ℕ
+refusal_of (Ok r) = 0
+refusal_of (Err WrongForm) = 3
+refusal_of (Err WrongCount) = 15
+refusal_of (Err (WrongKind place)) = 16
+refusal_of (Err OutOfRange) = 6

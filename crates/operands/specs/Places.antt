@@ -2,15 +2,14 @@
 -- a reader; then the same places as functions of the tokens, which `proofs/Top.antt` shows to be these. Places are bytes of the line, from 0.
 use Rattle.std.specs.Prelude.{ℕ, zero, suc, List, [], ◌∷◌, ◌++◌, ◌≡◌}
 use Prim.Native.Char.{code}
-use Rattle.numerals.specs.declared.Kept.{Kept}
-use Rattle.numerals.specs.declared.Kept.TheVariants as N
+use Rattle.std.specs.Prelude.{Option, Some, None}
 use Rattle.numerals.specs.declared.Numeral.{Numeral}
 use Rattle.tokens.specs.Commas.{on_comma}
 use Rattle.tokens.specs.Marks.{IsMark, on_mark}
 use Rattle.tokens.specs.declared.Token.{Token}
 use Rattle.values.specs.Values.{NumberText}
 use Rattle.operands.specs.Operands.{OperandText, Operands}
-use Rattle.operands.specs.Reading.{Result, reads, wrong, operands_of}
+use Rattle.operands.specs.Reading.{RowRead, reads, wrong, operands_of}
 use Rattle.operands.specs.Checks.{operand_at, word_of}
 use Rattle.operands.specs.declared.Written.{Written}
 
@@ -49,8 +48,8 @@ module _ (line : List ℕ) where
 
   -- of the first two operands, from the left, the first whose number is out of range has it at p
   pub data NumberOut (ts : List Token) (p : ℕ) : Type 0 where
-    in_first : {o : Written} → NumberAt ts 1 o p → word_of o ≡ N.OutOfRange → NumberOut ts p
-    in_second : {us : List Token} {o q : Written} {w : ℕ} → OperandThere ts 1 us o → word_of o ≡ N.Cell w → NumberAt ts 2 q p → word_of q ≡ N.OutOfRange
+    in_first : {o : Written} → NumberAt ts 1 o p → word_of o ≡ None → NumberOut ts p
+    in_second : {us : List Token} {o q : Written} {w : ℕ} → OperandThere ts 1 us o → word_of o ≡ Some w → NumberAt ts 2 q p → word_of q ≡ None
         → NumberOut ts p
 
 -- ---- as functions of the tokens; 0 where there is no such place
@@ -78,12 +77,12 @@ unfoldable pub number_start_in : List Token → ℕ
 number_start_in [] = 0
 number_start_in (t ∷ ts) = on_mark 0 (λ b. start_of ts) t.kind
 
-abbrev pub out_by : List Token → Kept → Kept → ℕ
-out_by ts N.OutOfRange l = number_start_in ts
-out_by ts (N.Cell x) N.OutOfRange = number_start_in (after_comma ts)
-out_by ts (N.Cell x) (N.Cell y) = 0
+abbrev pub out_by : List Token → Option ℕ → Option ℕ → ℕ
+out_by ts None l = number_start_in ts
+out_by ts (Some x) None = number_start_in (after_comma ts)
+out_by ts (Some x) (Some y) = 0
 
-abbrev pub out_of : List Token → Result → ℕ
+abbrev pub out_of : List Token → RowRead → ℕ
 out_of ts (reads os) = out_by ts (word_of (operand_at os 0)) (word_of (operand_at os 1))
 out_of ts wrong = 0
 

@@ -40,8 +40,8 @@ pub data State : Type 0 where
 abbrev pub Step : Type 0
 Step = Walks.Step State Written
 
-abbrev pub Result : Type 0
-Result = Walks.Result Written
+abbrev pub RowRead : Type 0
+RowRead = Walks.RowRead Written
 
 abbrev pub put : Shape → Value → State
 put hash v = after_hash v
@@ -71,7 +71,7 @@ index_step v r =
     (cond (eqb r IY) (to (closing (IndexedY v)))
     (cond (eqb r SP) (to (closing (IndexedSp v))) halt))
 
-abbrev pub finish : State → Result
+abbrev pub finish : State → RowRead
 finish operand = wrong
 finish (value k) = wrong
 finish (digits k) = wrong
@@ -102,10 +102,10 @@ module _ (line : List ℕ) where
   step (closing o) t = on_mark halt (only halt (code "]") (to (done o))) t.kind
   step (done o) t = on_comma halt (emit o) t.kind
 
-  unfoldable pub walk : State → List Token → Result
+  unfoldable pub walk : State → List Token → RowRead
   walk st ts = Walks.walk operand step finish st ts
 
   -- what follows an opcode: no operands, or some
-  unfoldable pub operands_of : List Token → Result
+  unfoldable pub operands_of : List Token → RowRead
   operands_of [] = reads []
   operands_of (t ∷ ts) = walk operand (t ∷ ts)

@@ -4,8 +4,8 @@ use Rattle.isa.specs.declared.Instruction.{Instruction}
 use Rattle.isa.specs.declared.Opcode.{Opcode}
 use Rattle.isa.specs.declared.Operand.{Operand}
 use Rattle.isa.specs.declared.Operand.TheVariants as O
-use Rattle.values.specs.declared.LabelIn.{LabelIn}
-use Rattle.values.specs.declared.LabelIn.TheVariants as L
+use Rattle.std.specs.Prelude.{Option, Some, None}
+use Rattle.values.specs.declared.Name.{Name}
 use Rattle.operands.specs.declared.Given.{Given}
 
 -- an operand of the same kind, with another word
@@ -21,9 +21,9 @@ reworded (O.IndexedSp d) w = O.IndexedSp w
 reworded (O.Relative d) w = O.Relative w
 
 -- that word takes the place of the 0 that stands there till labels are settled
-abbrev pub settled_by : LabelIn → Operand → ℕ → Operand
-settled_by L.Absent o w = o
-settled_by (L.Named name) o w = reworded o w
+abbrev pub settled_by : Option Name → Operand → ℕ → Operand
+settled_by None o w = o
+settled_by (Some name) o w = reworded o w
 
 abbrev pub settled_operand : Given → ℕ → Operand
 settled_operand g w = settled_by g.label g.operand w

@@ -6,11 +6,11 @@ ghost use Rattle.operands.specs.Inner.Peeks.{judged_listed};
 
 use super::listed::operands;
 use super::words::{label_in, operand_with, word_of};
-use super::{FirstTwo, Given, InstructionRead, ListRead, Written};
+use super::{FirstTwo, Given, Written, OperandsFault, Operands};
 use isa::Opcode;
 use isa::opcodes::{operand_count, row};
 use isa::operands::allowed_kind;
-use numerals::{Cursor, Kept};
+use numerals::Cursor;
 
 fn given_with(o: Written, word: u16) -> Given
     ensures { result ≡ given o word }
@@ -22,28 +22,28 @@ fn given_with(o: Written, word: u16) -> Given
 }
 
 // Operands that fit, each number in its range.
-fn in_range(a: Written, b: Written) -> InstructionRead
+fn in_range(a: Written, b: Written) -> Result<Operands, OperandsFault>
     ensures { result ≡ ranged a (word_of a) b (word_of b) }
 {
     let first = word_of(a);
     let second = word_of(b);
     match first {
-        Kept::Cell(x) => match second {
-            Kept::Cell(y) => InstructionRead::Read(given_with(a, x), given_with(b, y)),
-            Kept::OutOfRange => InstructionRead::OutOfRange,
+        Some(x) => match second {
+            Some(y) => Ok(Operands { first: given_with(a, x), second: given_with(b, y) }),
+            None => Err(OperandsFault::OutOfRange),
         },
-        Kept::OutOfRange => InstructionRead::OutOfRange,
+        None => Err(OperandsFault::OutOfRange),
     }
 }
 
 // Number (15) before kinds (16), the first operand's before the second's, and kinds before ranges (6).
-fn judge(op: Opcode, all: FirstTwo) -> InstructionRead
+fn judge(op: Opcode, all: FirstTwo) -> Result<Operands, OperandsFault>
     ensures { result ≡ judged_listed op all }
 {
     let first = all.first;
     let second = all.second;
     if all.count != operand_count(op) {
-        return InstructionRead::WrongCount;
+        return Err(OperandsFault::WrongCount);
     }
     let its = row(op);
     let one = its.first;
@@ -52,17 +52,17 @@ fn judge(op: Opcode, all: FirstTwo) -> InstructionRead
         if allowed_kind(two, operand_with(second, 0)) {
             return in_range(first, second);
         }
-        return InstructionRead::WrongKind(2);
+        return Err(OperandsFault::WrongKind(2));
     }
-    InstructionRead::WrongKind(1)
+    Err(OperandsFault::WrongKind(1))
 }
 
-pub fn instruction(s: &[u8], op: Opcode, from: Cursor) -> InstructionRead
+pub fn instruction(s: &[u8], op: Opcode, from: Cursor) -> Result<Operands, OperandsFault>
     ensures { result ≡ instruction_read s.now op (tokens_from s.now from.at) }
 {
     let read = operands(s, from);
     match read {
-        ListRead::Read(all) => judge(op, all),
-        ListRead::Wrong => InstructionRead::WrongForm,
+        Some(all) => judge(op, all),
+        None => Err(OperandsFault::WrongForm),
     }
 }

@@ -4,7 +4,7 @@
 
 use isa::Operand;
 use numerals::Cursor;
-use values::{LabelIn, Value};
+use values::{Value, Name};
 
 pub mod instruction; // the operands that follow an opcode
 mod listed; // what is kept of a list of operands
@@ -30,31 +30,23 @@ pub enum Written {
 #[derive(Clone, Copy)]
 pub struct Given {
     pub operand: Operand,
-    pub label: LabelIn,
+    pub label: Option<Name>,
 }
 
-// What the tokens after an opcode are: its operands, or refusal 3, 15, 16 or 6. A wrong kind names the operand's place, 1 or 2.
+// An opcode's two operands.
 #[derive(Clone, Copy)]
-pub enum InstructionRead {
-    Read(Given, Given),
+pub struct Operands {
+    pub first: Given,
+    pub second: Given,
+}
+
+// Why the tokens after an opcode are not its operands: refusal 3, 15, 16 or 6. A wrong kind names the operand's place, 1 or 2.
+#[derive(Clone, Copy, Debug, PartialEq, Eq)]
+pub enum OperandsFault {
     WrongForm,
     WrongCount,
     WrongKind(u8),
     OutOfRange,
-}
-
-// A register's name at a cursor: its code, with the cursor after it.
-#[derive(Clone, Copy)]
-enum RegisterRead {
-    Named(u16, Cursor),
-    Absent,
-}
-
-// One operand, with the cursor after it.
-#[derive(Clone, Copy)]
-enum OperandRead {
-    Read(Written, Cursor),
-    Wrong,
 }
 
 // The first two of a list of operands, and how many they are, up to 3: no opcode has three.
@@ -63,11 +55,4 @@ struct FirstTwo {
     count: usize,
     first: Written,
     second: Written,
-}
-
-// A list of operands up to the line's end.
-#[derive(Clone, Copy)]
-enum ListRead {
-    Read(FirstTwo),
-    Wrong,
 }

@@ -6,8 +6,8 @@ ghost use Rattle.operands.specs.Reading as W;
 ghost use Rattle.operands.specs.Inner.Peeks.{keep, listed, none_listed};
 
 use super::shapes::operand;
-use super::{FirstTwo, ListRead, OperandRead, Written};
-use numerals::Cursor;
+use super::{FirstTwo, Written};
+use numerals::{Cursor, Read};
 use tokens::Follows;
 use tokens::commas::follows;
 
@@ -38,7 +38,7 @@ fn with_operand(all: FirstTwo, o: Written) -> FirstTwo
 }
 
 // One operand or more, parted by commas, up to the line's end.
-fn some_operands(s: &[u8], from: Cursor, none: FirstTwo) -> ListRead
+fn some_operands(s: &[u8], from: Cursor, none: FirstTwo) -> Option<FirstTwo>
     ensures { result ≡ listed none (walk s.now W.operand (tokens_from s.now from.at)) }
 {
     let mut at = from.at;
@@ -46,18 +46,18 @@ fn some_operands(s: &[u8], from: Cursor, none: FirstTwo) -> ListRead
     loop {
         let read = operand(s, Cursor { at: at });
         match read {
-            OperandRead::Wrong => {
-                return ListRead::Wrong;
+            None => {
+                return None;
             }
-            OperandRead::Read(o, next) => {
+            Some(Read { value: o, next }) => {
                 let end = next.at;
                 all = with_operand(all, o);
                 match follows(s, Cursor { at: end }) {
                     Follows::Over => {
-                        return ListRead::Read(all);
+                        return Some(all);
                     }
                     Follows::Neither => {
-                        return ListRead::Wrong;
+                        return None;
                     }
                     Follows::Comma(after) => {
                         at = after.at;
@@ -69,7 +69,7 @@ fn some_operands(s: &[u8], from: Cursor, none: FirstTwo) -> ListRead
 }
 
 // The operands that follow an opcode: none, or some.
-pub(crate) fn operands(s: &[u8], from: Cursor) -> ListRead
+pub(crate) fn operands(s: &[u8], from: Cursor) -> Option<FirstTwo>
     ensures { result ≡ listed none_listed (operands_of s.now (tokens_from s.now from.at)) }
 {
     let at = from.at;
@@ -79,7 +79,7 @@ pub(crate) fn operands(s: &[u8], from: Cursor) -> ListRead
         second: Written::Absent,
     };
     match follows(s, Cursor { at: at }) {
-        Follows::Over => ListRead::Read(none),
+        Follows::Over => Some(none),
         Follows::Neither => some_operands(s, Cursor { at: at }, none),
         Follows::Comma(_) => some_operands(s, Cursor { at: at }, none),
     }

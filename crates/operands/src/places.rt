@@ -6,11 +6,11 @@ ghost use Rattle.operands.specs.Checks.{word_of};
 
 use super::listed::operands;
 use super::words::word_of;
-use super::{FirstTwo, ListRead};
-use numerals::{Cursor, Kept};
+use super::FirstTwo;
+use numerals::{Cursor, Read};
 use tokens::marks::mark_at;
 use tokens::tokens::next_token;
-use tokens::{Kind, MarkRead};
+use tokens::Kind;
 
 // Where the token at a cursor starts; 0 at the line's end.
 fn start_at(s: &[u8], from: Cursor) -> usize
@@ -79,8 +79,8 @@ fn number_start(s: &[u8], from: Cursor) -> usize
     ensures { result ≡ number_start_in (tokens_from s.now from.at) }
 {
     match mark_at(s, from) {
-        MarkRead::Is(_, next) => start_at(s, next),
-        MarkRead::Absent => 0,
+        Some(Read { value: _, next }) => start_at(s, next),
+        None => 0,
     }
 }
 
@@ -90,10 +90,10 @@ fn first_out(s: &[u8], from: Cursor, all: FirstTwo) -> usize
     let first = all.first;
     let second = all.second;
     match word_of(first) {
-        Kept::OutOfRange => number_start(s, from),
-        Kept::Cell(_) => match word_of(second) {
-            Kept::OutOfRange => number_start(s, behind_comma(s, from)),
-            Kept::Cell(_) => 0,
+        None => number_start(s, from),
+        Some(_) => match word_of(second) {
+            None => number_start(s, behind_comma(s, from)),
+            Some(_) => 0,
         },
     }
 }
@@ -104,7 +104,7 @@ pub fn number_out(s: &[u8], from: Cursor) -> usize
 {
     let at = from.at;
     match operands(s, Cursor { at: at }) {
-        ListRead::Read(all) => first_out(s, Cursor { at: at }, all),
-        ListRead::Wrong => 0,
+        Some(all) => first_out(s, Cursor { at: at }, all),
+        None => 0,
     }
 }

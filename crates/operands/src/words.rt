@@ -6,10 +6,9 @@ ghost use Rattle.operands.specs.Checks.{operand_with, cell_of, word_of, label_of
 
 use super::Written;
 use isa::Operand;
-use numerals::Kept;
 use numerals::reading::kept;
 use values::ranges::displacement;
-use values::{LabelIn, Value};
+use values::{Value, Name};
 
 pub(crate) fn operand_with(o: Written, word: u16) -> Operand
     ensures { result ≡ operand_with o word }
@@ -28,34 +27,34 @@ pub(crate) fn operand_with(o: Written, word: u16) -> Operand
 }
 
 // The cell of an immediate or an address; 0 in a label's place.
-fn number_word(v: Value) -> Kept
+fn number_word(v: Value) -> Option<u16>
     ensures { result ≡ cell_of kept_of v }
 {
     match v {
         Value::Number(n) => kept(n),
-        Value::Label(_) => Kept::Cell(0),
+        Value::Label(_) => Some(0),
     }
 }
 
 // The cell of a displacement; 0 in a label's place.
-fn displacement_word(v: Value) -> Kept
+fn displacement_word(v: Value) -> Option<u16>
     ensures { result ≡ cell_of displacement_of v }
 {
     match v {
         Value::Number(n) => displacement(n),
-        Value::Label(_) => Kept::Cell(0),
+        Value::Label(_) => Some(0),
     }
 }
 
-pub(crate) fn word_of(o: Written) -> Kept
+pub(crate) fn word_of(o: Written) -> Option<u16>
     ensures { result ≡ word_of o }
 {
     match o {
-        Written::Absent => Kept::Cell(0),
+        Written::Absent => Some(0),
         Written::Immediate(v) => number_word(v),
-        Written::Register(r) => Kept::Cell(r),
+        Written::Register(r) => Some(r),
         Written::Memory(v) => number_word(v),
-        Written::Indirect(r) => Kept::Cell(r),
+        Written::Indirect(r) => Some(r),
         Written::IndexedX(v) => displacement_word(v),
         Written::IndexedY(v) => displacement_word(v),
         Written::IndexedSp(v) => displacement_word(v),
@@ -63,24 +62,24 @@ pub(crate) fn word_of(o: Written) -> Kept
     }
 }
 
-fn label_of(v: Value) -> LabelIn
+fn label_of(v: Value) -> Option<Name>
     ensures { result ≡ label_of v }
 {
     match v {
-        Value::Number(_) => LabelIn::Absent,
-        Value::Label(name) => LabelIn::Named(name),
+        Value::Number(_) => None,
+        Value::Label(name) => Some(name),
     }
 }
 
-pub(crate) fn label_in(o: Written) -> LabelIn
+pub(crate) fn label_in(o: Written) -> Option<Name>
     ensures { result ≡ label_in o }
 {
     match o {
-        Written::Absent => LabelIn::Absent,
+        Written::Absent => None,
         Written::Immediate(v) => label_of(v),
-        Written::Register(_) => LabelIn::Absent,
+        Written::Register(_) => None,
         Written::Memory(v) => label_of(v),
-        Written::Indirect(_) => LabelIn::Absent,
+        Written::Indirect(_) => None,
         Written::IndexedX(v) => label_of(v),
         Written::IndexedY(v) => label_of(v),
         Written::IndexedSp(v) => label_of(v),

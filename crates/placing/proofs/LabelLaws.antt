@@ -9,7 +9,7 @@ use lib.ListN.{length, take, drop, take-append-drop}
 use lib.Seq.{take-append-le, drop-append-le, length-take-le, length-slice}
 use borrow.Author.Tests.{lt-ltb, le-ltb, ltb-true, ltb-false}
 use Rattle.codes.specs.Limits.{most_labels, longest_label}
-use Rattle.values.specs.declared.LabelIn.TheVariants.{Named}
+use Rattle.std.proofs.Common.{Some}
 use Rattle.values.specs.declared.Name.{Name}
 use Rattle.statements.specs.Reading.{line_read}
 use Rattle.statements.proofs.Top as Statements
@@ -87,7 +87,7 @@ module _ (s starts keys line vs ms : List ℕ) (c : Counters) (n : Name) (k : �
   pub label_by : {x y z : Bool} {i : ℕ} → ltb longest_label (n.end - n.start) ≡ x → leb most_labels count ≡ y
       → i ≡ labels_before (window line n.start (n.end - n.start)) held
       → ltb i count ≡ z
-      → label_verdict k (place_in s starts keys vs ms c) line (Named n) ≡ cond (x || y) (refused (10 on k)) (cond z (refused (9 on k)) passes)
+      → label_verdict k (place_in s starts keys vs ms c) line (Some n) ≡ cond (x || y) (refused (10 on k)) (cond z (refused (9 on k)) passes)
   unfolding name_verdict first_of
   label_by {z = z} e f o g =
       let a : names (place_in s starts keys vs ms c) ≡ held =
@@ -103,7 +103,7 @@ module _ (s starts keys line vs ms : List ℕ) (c : Counters) (n : Name) (k : �
   -- one label more, in rows that `hold` has written
   pub label-held : (starts' keys' : List ℕ) → words s starts' keys' (count + 1) ≡ held ++ (window line n.start (n.end - n.start) ∷ [])
       → place_in s starts' keys' vs ms (record { at = c.at; bound = c.bound; waiting = c.waiting + 1 })
-      ≡ labelled (place_in s starts keys vs ms c) line (Named n)
+      ≡ labelled (place_in s starts keys vs ms c) line (Some n)
   label-held starts' keys' e =
       let l = held-long in
       let i : c.bound + (c.waiting + 1) ≡ count + 1 = omega arith in
@@ -118,5 +118,5 @@ module _ (s starts keys line vs ms : List ℕ) (c : Counters) (n : Name) (k : �
       state us ws = record { at = c.at.0; bound = zipped us vs; waiting = ws; marks = ms }
 
 -- a label lies within its line
-pub label-within : (line : List ℕ) {n : Name} → (line_read line).label ≡ Named n → (n.start ≤ n.end) × (n.end ≤ length line)
+pub label-within : (line : List ℕ) {n : Name} → (line_read line).label ≡ Some n → (n.start ≤ n.end) × (n.end ≤ length line)
 label-within line {n} e = let h = Statements.label-within line ((Statements.label-exactly line n).0 e) in (omega (arith, h.0), h.1)

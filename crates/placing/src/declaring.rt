@@ -4,7 +4,7 @@ ghost use Rattle.codes.specs.Limits.{most_labels, longest_source};
 ghost use Rattle.labels.specs.Inner.Labels.{Part, key_cells};
 ghost use Rattle.placing.specs.Inner.State.{Fair, FairDid, TellsLabel, place_in};
 
-use super::{Counters, Did};
+use super::Counters;
 use codes::limits::{LONGEST_LABEL, MOST_LABELS};
 use labels::finding::find;
 use labels::holding::hold;
@@ -18,7 +18,7 @@ pub(crate) fn declare(
     keys: &mut [u16],
     c: Counters,
     n: Name,
-) -> Did
+) -> Result<Counters, u8>
     requires { Fair c
         × (length starts.old ≡ most_labels)
         × (length keys.old ≡ key_cells)
@@ -34,17 +34,17 @@ pub(crate) fn declare(
     let start = n.start;
     let size = n.end - start;
     if LONGEST_LABEL < size {
-        return Did::No(10);
+        return Err(10);
     }
     let at = c.at;
     let bound = c.bound;
     let waiting = c.waiting;
     let count = bound + waiting;
     if MOST_LABELS <= count {
-        return Did::No(10);
+        return Err(10);
     }
     if find(s, starts, keys, count, line, start, size) < count {
-        return Did::No(9);
+        return Err(9);
     }
     hold(
         starts,
@@ -55,9 +55,9 @@ pub(crate) fn declare(
         start,
         size,
     );
-    Did::Go(Counters {
-        at: at,
-        bound: bound,
+    Ok(Counters {
+        at,
+        bound,
         waiting: waiting + 1,
     })
 }

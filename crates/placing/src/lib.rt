@@ -18,10 +18,3 @@ pub struct Counters {
     pub bound: usize,
     pub waiting: usize,
 }
-
-// A line passes, or a refusal's number.
-#[derive(Clone, Copy)]
-pub enum Did {
-    Go(Counters),
-    No(u8),
-}

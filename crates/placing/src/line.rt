@@ -1,16 +1,15 @@
 // A line at its place: its label, then its statement.
 ghost use Rattle.std.specs.Prelude.{◌≡◌, ℕ, ◌+◌, ◌≤◌, length};
 ghost use Rattle.statements.specs.Reading.{line_read};
-ghost use Rattle.values.specs.declared.LabelIn.TheVariants.{Named};
 ghost use Rattle.codes.specs.Limits.{most_cells, longest_source};
 ghost use Rattle.labels.specs.Inner.Labels.{Part, Rows};
 ghost use Rattle.placing.specs.Inner.State.{place_in, Fair, FairDid, TellsLine};
 
 use super::declaring::declare;
 use super::placing::place_statement;
-use super::{Counters, Did};
+use super::Counters;
 use statements::LineRead;
-use values::{LabelIn, Name};
+use values::Name;
 
 fn place_named(
     s: &[u8],
@@ -23,14 +22,14 @@ fn place_named(
     values: &mut [u16],
     marks: &mut [u8],
     c: Counters,
-) -> Did
+) -> Result<Counters, u8>
     requires { Fair c
         × Rows starts.old keys.old values.old
         × (length marks.old ≤ most_cells)
         × (read ≡ line_read line.now)
         × (from + length line.now ≤ longest_source)
         × Part s.now from line.now
-        × (read.label ≡ Named n) }
+        × (read.label ≡ Some n) }
     ensures { FairDid result
         × ((k : ℕ) → TellsLine (length marks.old) line.now
         (place_in s.now starts.old keys.old values.old marks.old c)
@@ -38,8 +37,8 @@ fn place_named(
 {
     let st = read.statement;
     match declare(s, from, line, starts, keys, c, n) {
-        Did::No(f) => Did::No(f),
-        Did::Go(d) => place_statement(values, marks, d, st),
+        Err(f) => Err(f),
+        Ok(d) => place_statement(values, marks, d, st),
     }
 }
 
@@ -53,7 +52,7 @@ pub fn place_line(
     values: &mut [u16],
     marks: &mut [u8],
     c: Counters,
-) -> Did
+) -> Result<Counters, u8>
     requires { Fair c
         × Rows starts.old keys.old values.old
         × (length marks.old ≤ most_cells)
@@ -68,7 +67,7 @@ pub fn place_line(
     let label = read.label;
     let st = read.statement;
     match label {
-        LabelIn::Absent => place_statement(values, marks, c, st),
-        LabelIn::Named(n) => place_named(s, from, line, read, n, starts, keys, values, marks, c),
+        None => place_statement(values, marks, c, st),
+        Some(n) => place_named(s, from, line, read, n, starts, keys, values, marks, c),
     }
 }

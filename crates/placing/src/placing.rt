@@ -5,14 +5,14 @@ ghost use Rattle.sources.specs.Placing.{moved_by};
 ghost use Rattle.sources.specs.Inner.Assembling.{gives_start, reserves_too_far};
 ghost use Rattle.placing.specs.Inner.State.{state_of, Fair, FairDid, Keeps, WithNames, TellsAct, TellsStatement, Sound, past_at};
 
+use statements::{Statement, Failure};
 use super::acts::act;
 use super::claims::{is_taken, paint};
 use super::naming::bind_by;
-use super::{Counters, Did};
+use super::Counters;
 use codes::limits::MOST_CELLS;
 use isa::Address;
 use sources::{Act, Gives, Moves};
-use statements::StatementRead;
 use statements::refusals::number_of;
 
 // A label that waits would get 65,536.
@@ -67,7 +67,7 @@ fn moved(m: Moves, at: usize) -> usize
     }
 }
 
-fn place(values: &mut [u16], marks: &mut [u8], c: Counters, a: Act) -> Did
+fn place(values: &mut [u16], marks: &mut [u8], c: Counters, a: Act) -> Result<Counters, u8>
     requires { Fair c × (length values.old ≡ most_labels) × (length marks.old ≤ most_cells) × Sound a.moves a.claims }
     ensures { FairDid result
         × Keeps (c.bound + c.waiting) result
@@ -80,25 +80,25 @@ fn place(values: &mut [u16], marks: &mut [u8], c: Counters, a: Act) -> Did
     let n = a.claims;
     let mark = a.mark;
     if label_out(gives, c.waiting, at) {
-        return Did::No(6);
+        return Err(6);
     }
     if reserves_out(moves, at) {
-        return Did::No(6);
+        return Err(6);
     }
     if is_past(marks.len(), at, n) {
-        return Did::No(11);
+        return Err(11);
     }
     if is_taken(marks, at, n) {
-        return Did::No(12);
+        return Err(12);
     }
     paint(marks, at, n, mark);
     let d = bind_by(values, c, gives);
     let bound = d.bound;
     let waiting = d.waiting;
-    Did::Go(Counters {
+    Ok(Counters {
         at: Address(moved(moves, at)),
-        bound: bound,
-        waiting: waiting,
+        bound,
+        waiting,
     })
 }
 
@@ -107,8 +107,8 @@ pub(crate) fn place_statement(
     values: &mut [u16],
     marks: &mut [u8],
     c: Counters,
-    s: StatementRead,
-) -> Did
+    s: Result<Statement, Failure>,
+) -> Result<Counters, u8>
     requires { Fair c × (length values.old ≡ most_labels) × (length marks.old ≤ most_cells) }
     ensures { FairDid result
         × Keeps (c.bound + c.waiting) result
@@ -116,8 +116,8 @@ pub(crate) fn place_statement(
         (state_of ws values.old marks.old c) (state_of ws values.new marks.new) k result)) }
 {
     match s {
-        StatementRead::Fails(why) => Did::No(number_of(why)),
-        StatementRead::Passes(says) => {
+        Err(why) => Err(number_of(why)),
+        Ok(says) => {
             let a = act(says);
             place(values, marks, c, a)
         }

@@ -17,17 +17,15 @@ use mir.Val.{of_z}
 use Rattle.numerals.specs.Bytes.{LF}
 use Rattle.numerals.specs.Numbers.{in_range, value_of, kept_of}
 use Rattle.numerals.specs.Reading.{or_zero, wholly, number_at, line_number}
-use Rattle.numerals.specs.declared.Kept.TheVariants.{Cell, OutOfRange}
-use Rattle.numerals.specs.declared.NumberRead.{NumberRead}
-use Rattle.numerals.specs.declared.NumberRead.TheVariants.{Found, Absent}
+use Rattle.std.proofs.Common.{Option, Some, None, Result, Ok, Err}
+use Rattle.numerals.specs.declared.Read.{Read}
+use Rattle.numerals.specs.declared.Numeral.{Numeral}
 use Rattle.numerals.specs.Writing.{signed_decimal}
 use Rattle.ports.specs.Overwriting.{overwrite}
 use Rattle.codes.specs.Stops.{memory_end, input_end, output_short}
 use Rattle.ports.specs.Input.{line_at, after_line, byte_taken, number_taken, Passed, passed, string_taken}
 use Rattle.ports.specs.Output.{low_byte, string_of, ends_in_zero, text_put, byte_put, number_put, string_put}
 use Rattle.ports.specs.declared.Taken.{Taken}
-use Rattle.ports.specs.declared.Taken.TheVariants.{Value, NoValue}
-use Rattle.ports.specs.declared.Moved.TheVariants.{To, Short}
 use Rattle.ports.proofs.Overwrites.{overwrite-length}
 use Rattle.ports.proofs.Searches.{up_to-ends, up_to-take}
 
@@ -66,7 +64,7 @@ module _ (k : ℕ) where
 
 -- ---- "kept modulo 65536": the number of a line is a cell
 
-cell_below : (z : ℤ) → or_zero (cond (in_range z) (Cell (of_z w16 z)) OutOfRange) < 65536
+cell_below : (z : ℤ) → or_zero (cond (in_range z) (Some (of_z w16 z)) None) < 65536
 cell_below (pos n) =
     elim (dec_le n 65535) [
       | yes l ↦ rw (le-leb n 65535 l) (omega arith)
@@ -86,20 +84,20 @@ line_number_cell s = go (number_at s 0)
     pick true h = h
     pick false h = omega arith
 
-    go : (r : NumberRead) → wholly (length s) r < 65536
-    go (Found n c) = pick (eqb c.at (length s)) (cell_below (value_of n))
-    go Absent = omega arith
+    go : (r : Option (Read Numeral)) → wholly (length s) r < 65536
+    go (Some r) = pick (eqb r.next.at (length s)) (cell_below (value_of r.value))
+    go None = omega arith
 
 -- ---- rows
 
 -- what an answer keeps: the row's length; where it moved to; after a refusal the row itself, and which stop it is
 pub record Keeps (lent : List ℕ) (place stop : ℕ → Type 0) (its : Passed) : Type 0 where
   pub same_length : length its.row ≡ length lent
-  pub moves : {p : ℕ} → its.moved ≡ To p → place p
-  pub refuses : {k : ℕ} → its.moved ≡ Short k → (its.row ≡ lent) × stop k
+  pub moves : {p : ℕ} → its.moved ≡ Ok p → place p
+  pub refuses : {k : ℕ} → its.moved ≡ Err k → (its.row ≡ lent) × stop k
 
 module _ (lent : List ℕ) (place stop : ℕ → Type 0) where
-  keeps_to : (p : ℕ) (row : List ℕ) → length row ≡ length lent → place p → Keeps lent place stop (passed (To p) row)
+  keeps_to : (p : ℕ) (row : List ℕ) → length row ≡ length lent → place p → Keeps lent place stop (passed (Ok p) row)
   keeps_to p row l h =
       record {
         same_length = l;
@@ -107,7 +105,7 @@ module _ (lent : List ℕ) (place stop : ℕ → Type 0) where
         refuses = λ {k} e. let z : ◌≡◌ {A = ℕ} 0 1 = cc in absurd (omega arith);
       }
 
-  keeps-short : (k : ℕ) → stop k → Keeps lent place stop (passed (Short k) lent)
+  keeps-short : (k : ℕ) → stop k → Keeps lent place stop (passed (Err k) lent)
   keeps-short k h =
       record {
         same_length = refl;
@@ -187,8 +185,8 @@ module _ (input : List ℕ) (at : ℕ) where
   INSTR-below k m to g h = go (ltb at (length input)) (leb (to + length (line_at input at) + 1) (length m))
     where
       go : (a b : Bool) → Below k
-          (cond a (cond b (passed (To (after_line input at)) (overwrite m to (line_at input at ++ (0 ∷ [])))) (passed (Short memory_end) m))
-          (passed (Short input_end) m)).row
+          (cond a (cond b (passed (Ok (after_line input at)) (overwrite m to (line_at input at ++ (0 ∷ [])))) (passed (Err memory_end) m))
+          (passed (Err input_end) m)).row
       go true true = overwrite-below k m to (line_at input at ++ (0 ∷ [])) g (append_below k (line_at input at) (0 ∷ []) (line-below k input at h) (zero-below k (omega (arith, g 0))))
       go true false = g
       go false b = g
@@ -196,15 +194,15 @@ module _ (input : List ℕ) (at : ℕ) where
 -- ---- values
 
 -- what a value taken keeps: its position moves past what was taken, and it is a cell
-pub record Takes (input : List ℕ) (at : ℕ) (its : Taken) : Type 0 where
-  pub moves : {v p : ℕ} → its ≡ Value v p → Past at input p × (v < 65536)
-  pub refuses : {k : ℕ} → its ≡ NoValue k → k ≡ input_end
+pub record Takes (input : List ℕ) (at : ℕ) (its : Result Taken ℕ) : Type 0 where
+  pub moves : {v p : ℕ} → its ≡ Ok (record { value = v; after = p }) → Past at input p × (v < 65536)
+  pub refuses : {k : ℕ} → its ≡ Err k → k ≡ input_end
 
 module _ (input : List ℕ) (at : ℕ) where
-  takes-cond : (v p : ℕ) → (at < length input → Past at input p × (v < 65536)) → Takes input at (cond (ltb at (length input)) (Value v p) (NoValue input_end))
+  takes-cond : (v p : ℕ) → (at < length input → Past at input p × (v < 65536)) → Takes input at (cond (ltb at (length input)) (Ok (record { value = v; after = p })) (Err input_end))
   takes-cond v p h = go (ltb at (length input)) (λ e. h (ltb-true _ _ e))
     where
-      go : (b : Bool) → (b ≡ true → Past at input p × (v < 65536)) → Takes input at (cond b (Value v p) (NoValue input_end))
+      go : (b : Bool) → (b ≡ true → Past at input p × (v < 65536)) → Takes input at (cond b (Ok (record { value = v; after = p })) (Err input_end))
       go true g =
           record {
             moves = λ {v = w} {p = q} e. let f : v ≡ w = cc in let z : p ≡ q = cc in omega (arith, g refl);

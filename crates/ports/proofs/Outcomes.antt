@@ -20,8 +20,7 @@ use Rattle.ports.specs.Searching.{up_to}
 use Rattle.codes.specs.Stops.{input_end, memory_end, output_short}
 use Rattle.ports.specs.Input.{line_at, after_line, byte_taken, number_taken, passed, string_taken}
 use Rattle.ports.specs.Output.{low_byte, string_of, text_put, string_put}
-use Rattle.ports.specs.declared.Taken.TheVariants.{Value, NoValue}
-use Rattle.ports.specs.declared.Moved.TheVariants.{To, Short}
+use Rattle.std.proofs.Common.{Ok, Err}
 use Rattle.ports.proofs.Searches.{up_to_part, meets-within}
 
 -- room from a place on, with no sum that could wrap
@@ -39,11 +38,11 @@ take-map f (suc n) (x ∷ s) = ap (λ (r : List ℕ). f x ∷ r) (take-map f n s
 
 -- a text
 module _ (out : List ℕ) (at : ℕ) (text : List ℕ) where
-  pub text-put : leb (at + length text) (length out) ≡ true → text_put out at text ≡ passed (To (at + length text)) (overwrite out at text)
+  pub text-put : leb (at + length text) (length out) ≡ true → text_put out at text ≡ passed (Ok (at + length text)) (overwrite out at text)
   unfolding text_put
   text-put e = rw e
 
-  pub text-short : leb (at + length text) (length out) ≡ false → text_put out at text ≡ passed (Short output_short) out
+  pub text-short : leb (at + length text) (length out) ≡ false → text_put out at text ≡ passed (Err output_short) out
   unfolding text_put
   text-short e = rw e
 
@@ -61,24 +60,24 @@ module _ {w : Written} (x : ℕ) (cell : x < 65536) (is : w ≡ written (signed_
 
 -- INCHAR, ININT
 module _ (input : List ℕ) (at : ℕ) where
-  pub byte-none : length input ≤ at → byte_taken input at ≡ NoValue input_end
+  pub byte-none : length input ≤ at → byte_taken input at ≡ Err input_end
   unfolding byte_taken
   byte-none h = rw (le-ltb _ _ h)
 
-  pub byte-taken : at < length input → byte_taken input at ≡ Value (get_or input at 0) (at + 1)
+  pub byte-taken : at < length input → byte_taken input at ≡ Ok (record { value = (get_or input at 0); after = (at + 1) })
   unfolding byte_taken
   byte-taken h = rw (lt-ltb _ _ h)
 
-  pub number-none : length input ≤ at → number_taken input at ≡ NoValue input_end
+  pub number-none : length input ≤ at → number_taken input at ≡ Err input_end
   unfolding number_taken
   number-none h = rw (le-ltb _ _ h)
 
-  pub number-taken : at < length input → number_taken input at ≡ Value (line_number (line_at input at)) (after_line input at)
+  pub number-taken : at < length input → number_taken input at ≡ Ok (record { value = (line_number (line_at input at)); after = (after_line input at) })
   unfolding number_taken
   number-taken h = rw (lt-ltb _ _ h)
 
 -- INSTR
-pub string-none : (m : List ℕ) (to : ℕ) (input : List ℕ) (at : ℕ) → length input ≤ at → string_taken m to input at ≡ passed (Short input_end) m
+pub string-none : (m : List ℕ) (to : ℕ) (input : List ℕ) (at : ℕ) → length input ≤ at → string_taken m to input at ≡ passed (Err input_end) m
 unfolding string_taken
 string-none m to input at h = rw (le-ltb _ _ h)
 
@@ -88,17 +87,17 @@ module _ (m : List ℕ) (to : ℕ) (input : List ℕ) (at end : ℕ) (here : at 
   room_is = ap (λ (k : ℕ). leb k (length m)) (omega arith)
 
   pub string-taken : leb (to + (end - at + 1)) (length m) ≡ true
-      → string_taken m to input at ≡ passed (To (after_line input at)) (overwrite m to (take (end - at) (drop at input) ++ (0 ∷ [])))
+      → string_taken m to input at ≡ passed (Ok (after_line input at)) (overwrite m to (take (end - at) (drop at input) ++ (0 ∷ [])))
   unfolding string_taken
   string-taken e = rw (up_to_part LF input at end ends, lt-ltb _ _ here, room_is, e)
 
-  pub string-long : leb (to + (end - at + 1)) (length m) ≡ false → string_taken m to input at ≡ passed (Short memory_end) m
+  pub string-long : leb (to + (end - at + 1)) (length m) ≡ false → string_taken m to input at ≡ passed (Err memory_end) m
   unfolding string_taken
   string-long e = rw (lt-ltb _ _ here, room_is, e)
 
 -- WRSTR, where the cells before the first that is 0 end at `end`
 module _ (out : List ℕ) (at : ℕ) (m : List ℕ) (from end : ℕ) (ends : end ≡ from + length (string_of (drop from m))) where
-  pub string-unended : length m ≤ end → string_put out at m from ≡ passed (Short memory_end) out
+  pub string-unended : length m ≤ end → string_put out at m from ≡ passed (Err memory_end) out
   unfolding string_put
   string-unended h = rw (meets-within 0 (drop from m), le-ltb (length (up_to 0 (drop from m))) (length (drop from m)) (omega (arith, length-drop from m)))
 
@@ -114,10 +113,10 @@ module _ (out : List ℕ) (at : ℕ) (m : List ℕ) (from end : ℕ) (ends : end
         length-map (take (end - from) (drop from m)) low_byte ∙ length-take-le (end - from) (drop from m) (omega (arith, length-drop from m))
 
     pub string-put : leb (at + (end - from)) (length out) ≡ true
-        → string_put out at m from ≡ passed (To (at + (end - from))) (overwrite out at (map low_byte (take (end - from) (drop from m))))
+        → string_put out at m from ≡ passed (Ok (at + (end - from))) (overwrite out at (map low_byte (take (end - from) (drop from m))))
     unfolding text_put
     string-put e = rw (text_is, text-length, e)
 
-    pub string-short : leb (at + (end - from)) (length out) ≡ false → string_put out at m from ≡ passed (Short output_short) out
+    pub string-short : leb (at + (end - from)) (length out) ≡ false → string_put out at m from ≡ passed (Err output_short) out
     unfolding text_put
     string-short e = rw (text_is, text-length, e)

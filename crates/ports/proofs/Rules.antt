@@ -16,8 +16,7 @@ use Rattle.codes.specs.Stops.{memory_end}
 use Rattle.ports.specs.Input.{line_at, after_line, number_taken, passed, string_taken}
 use Rattle.ports.specs.Output.{string_of, ends_in_zero}
 use Rattle.ports.specs.Rules.{Free, Line, ended, last, StringFrom, Stands}
-use Rattle.ports.specs.declared.Taken.TheVariants.{Value}
-use Rattle.ports.specs.declared.Moved.TheVariants.{To, Short}
+use Rattle.std.proofs.Common.{Ok, Err}
 use Rattle.ports.proofs.Outcomes.{number-taken}
 use Rattle.ports.proofs.Overwrites.{overwrite-there, overwrite-before, overwrite-after}
 use Rattle.ports.proofs.Searches.{up_to-free, up_to-split, up_to_is, up_to-all, up_to-whole, meets-within}
@@ -63,14 +62,14 @@ module _ (input : List ℕ) (at : ℕ) where
           last (up_to-free LF (drop at input)) (sym (up_to-whole LF (drop at input) l)) refl
 
   module _ {line : List ℕ} {next : ℕ} (here : at < length input) (its : Line input at line next) where
-    pub line_read : number_taken input at ≡ Value (line_number line) next
+    pub line_read : number_taken input at ≡ Ok (record { value = (line_number line); after = next })
     line_read = rw (← (line_is its).0, ← (line_is its).1) (number-taken input at here)
 
-    pub line_stored : (m : List ℕ) (to : ℕ) → to + length line + 1 ≤ length m → string_taken m to input at ≡ passed (To next) (overwrite m to (line ++ (0 ∷ [])))
+    pub line_stored : (m : List ℕ) (to : ℕ) → to + length line + 1 ≤ length m → string_taken m to input at ≡ passed (Ok next) (overwrite m to (line ++ (0 ∷ [])))
     unfolding string_taken
     line_stored m to h = rw ((line_is its).0, (line_is its).1, lt-ltb _ _ here, le-leb _ _ h)
 
-    pub line_too_long : (m : List ℕ) (to : ℕ) → length m < to + length line + 1 → string_taken m to input at ≡ passed (Short memory_end) m
+    pub line_too_long : (m : List ℕ) (to : ℕ) → length m < to + length line + 1 → string_taken m to input at ≡ passed (Err memory_end) m
     unfolding string_taken
     line_too_long m to h = rw ((line_is its).0, lt-ltb _ _ here, lt-leb _ _ h)
 

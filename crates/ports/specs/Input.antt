@@ -7,9 +7,7 @@ use Rattle.numerals.specs.Reading.{line_number}
 use Rattle.ports.specs.Overwriting.{overwrite}
 use Rattle.ports.specs.Searching.{up_to}
 use Rattle.ports.specs.declared.Taken.{Taken}
-use Rattle.ports.specs.declared.Taken.TheVariants.{Value, NoValue}
-use Rattle.ports.specs.declared.Moved.{Moved}
-use Rattle.ports.specs.declared.Moved.TheVariants.{To, Short}
+use Rattle.std.specs.Prelude.{Result, Ok, Err}
 
 -- the line that a text begins with: up to its LF, or all of it ("the last may lack it")
 abbrev pub line_of : List ℕ → List ℕ
@@ -24,19 +22,19 @@ after_line input at =
     cond (ltb (at + length (line_at input at)) (length input)) (at + length (line_at input at) + 1) (at + length (line_at input at))
 
 -- INCHAR: the byte at the position
-unfoldable pub byte_taken : List ℕ → ℕ → Taken
-byte_taken input at = cond (ltb at (length input)) (Value (get_or input at 0) (at + 1)) (NoValue input_end)
+unfoldable pub byte_taken : List ℕ → ℕ → Result Taken ℕ
+byte_taken input at = cond (ltb at (length input)) (Ok (record { value = (get_or input at 0); after = (at + 1) })) (Err input_end)
 
 -- ININT: the number that the line is
-unfoldable pub number_taken : List ℕ → ℕ → Taken
-number_taken input at = cond (ltb at (length input)) (Value (line_number (line_at input at)) (after_line input at)) (NoValue input_end)
+unfoldable pub number_taken : List ℕ → ℕ → Result Taken ℕ
+number_taken input at = cond (ltb at (length input)) (Ok (record { value = (line_number (line_at input at)); after = (after_line input at) })) (Err input_end)
 
 -- a row of cells or bytes, and the position after, or the stop
 pub record Passed : Type 0 where
-  pub moved : Moved
+  pub moved : Result ℕ ℕ
   pub row : List ℕ
 
-abbrev pub passed : Moved → List ℕ → Passed
+abbrev pub passed : Result ℕ ℕ → List ℕ → Passed
 passed a xs = record { moved = a; row = xs }
 
 -- INSTR: the line's bytes and a 0 cell from a cell on; "a string passing M is 5", and then takes no input
@@ -44,6 +42,6 @@ unfoldable pub string_taken : List ℕ → ℕ → List ℕ → ℕ → Passed
 string_taken m to input at =
     cond (ltb at (length input))
     (cond (leb (to + length (line_at input at) + 1) (length m))
-    (passed (To (after_line input at)) (overwrite m to (line_at input at ++ (0 ∷ []))))
-    (passed (Short memory_end) m))
-    (passed (Short input_end) m)
+    (passed (Ok (after_line input at)) (overwrite m to (line_at input at ++ (0 ∷ []))))
+    (passed (Err memory_end) m))
+    (passed (Err input_end) m)

@@ -6,12 +6,12 @@ use Rattle.ports.specs.Overwriting.{overwrite}
 use Rattle.ports.specs.Searching.{up_to, meets}
 use Rattle.codes.specs.Stops.{memory_end, output_short}
 use Rattle.ports.specs.Input.{Passed, passed}
-use Rattle.ports.specs.declared.Moved.TheVariants.{To, Short}
+use Rattle.std.specs.Prelude.{Ok, Err}
 
 -- a text written at the position, if there is room for all of it
 unfoldable pub text_put : List ℕ → ℕ → List ℕ → Passed
 text_put out at text =
-    cond (leb (at + length text) (length out)) (passed (To (at + length text)) (overwrite out at text)) (passed (Short output_short) out)
+    cond (leb (at + length text) (length out)) (passed (Ok (at + length text)) (overwrite out at text)) (passed (Err output_short) out)
 
 abbrev pub low_byte : ℕ → ℕ
 low_byte x = x % 256
@@ -34,4 +34,4 @@ ends_in_zero cells = meets 0 cells
 -- WRSTR, from a cell on
 unfoldable pub string_put : List ℕ → ℕ → List ℕ → ℕ → Passed
 string_put out at m from =
-    cond (ends_in_zero (drop from m)) (text_put out at (map low_byte (string_of (drop from m)))) (passed (Short memory_end) out)
+    cond (ends_in_zero (drop from m)) (text_put out at (map low_byte (string_of (drop from m)))) (passed (Err memory_end) out)

@@ -3,7 +3,7 @@ ghost use Rattle.std.specs.Prelude.{◌≡◌, [], ◌∷◌, ◌++◌, ◌+◌,
 ghost use Rattle.ports.specs.Overwriting.{overwrite};
 ghost use Rattle.ports.specs.Input.{line_at, after_line, byte_taken, number_taken, passed, string_taken};
 
-use super::{Moved, Taken, has_room};
+use super::{Taken, has_room};
 use codes::stops::{INPUT_END, MEMORY_END};
 
 // The end of the line at a position: its LF, or the input's end.
@@ -29,26 +29,26 @@ fn after(input: &[u8], at: usize, end: usize) -> usize
 }
 
 // INCHAR: the byte at the position.
-pub fn take_byte(input: &[u8], at: usize) -> Taken
+pub fn take_byte(input: &[u8], at: usize) -> Result<Taken, u8>
     ensures { result ≡ byte_taken input.now at }
 {
     if at < input.len() {
-        Taken::Value(input[at] as u16, at + 1)
+        Ok(Taken { value: input[at] as u16, after: at + 1 })
     } else {
-        Taken::NoValue(INPUT_END)
+        Err(INPUT_END)
     }
 }
 
 // ININT: the number that the line is, or 0.
-pub fn take_number(input: &[u8], at: usize) -> Taken
+pub fn take_number(input: &[u8], at: usize) -> Result<Taken, u8>
     ensures { result ≡ number_taken input.now at }
 {
     if input.len() <= at {
-        return Taken::NoValue(INPUT_END);
+        return Err(INPUT_END);
     }
     let end = line_end(input, at);
     let x = numerals::reading::line_number(&input[at..end]);
-    Taken::Value(x, after(input, at, end))
+    Ok(Taken { value: x, after: after(input, at, end) })
 }
 
 // n bytes from `from` on as cells from `to` on, and a 0 cell.
@@ -65,18 +65,18 @@ fn fill(m: &mut [u16], to: usize, input: &[u8], from: usize, n: usize)
 }
 
 // INSTR: the line's bytes and a 0 cell, from a cell on.
-pub fn take_string(m: &mut [u16], to: u16, input: &[u8], at: usize) -> Moved
+pub fn take_string(m: &mut [u16], to: u16, input: &[u8], at: usize) -> Result<usize, u8>
     ensures { passed result m.new ≡ string_taken m.old to input.now at }
 {
     if input.len() <= at {
-        return Moved::Short(INPUT_END);
+        return Err(INPUT_END);
     }
     let end = line_end(input, at);
     let n = end - at;
     let first = to as usize;
     if has_room(m.len(), first, n + 1) {
         fill(m, first, input, at, n);
-        return Moved::To(after(input, at, end));
+        return Ok(after(input, at, end));
     }
-    Moved::Short(MEMORY_END)
+    Err(MEMORY_END)
 }

@@ -7,18 +7,11 @@ ghost use Rattle.std.specs.Prelude.{◌≡◌, ◌+◌, leb};
 pub mod input;
 pub mod output;
 
-// A value taken, and the position after it; or stop 8.
+// A value taken, and the position after it.
 #[derive(Clone, Copy)]
-pub enum Taken {
-    Value(u16, usize),
-    NoValue(u8),
-}
-
-// The position after what was taken or written; or stop 5, 8 or 9.
-#[derive(Clone, Copy)]
-pub enum Moved {
-    To(usize),
-    Short(u8),
+pub struct Taken {
+    pub value: u16,
+    pub after: usize,
 }
 
 // Whether a row of a size has n elements from a place on.

@@ -4,18 +4,18 @@ ghost use Rattle.ports.specs.Overwriting.{overwrite};
 ghost use Rattle.ports.specs.Input.{passed};
 ghost use Rattle.ports.specs.Output.{low_byte, string_of, text_put, byte_put, number_put, string_put};
 
-use super::{Moved, has_room};
+use super::has_room;
 use codes::stops::{MEMORY_END, OUTPUT_SHORT};
 
 // WRCHAR: the low byte.
-pub fn put_byte(out: &mut [u8], at: usize, x: u16) -> Moved
+pub fn put_byte(out: &mut [u8], at: usize, x: u16) -> Result<usize, u8>
     ensures { passed result out.new ≡ byte_put out.old at x }
 {
     if at < out.len() {
         out[at] = (x % 256) as u8;
-        return Moved::To(at + 1);
+        return Ok(at + 1);
     }
-    Moved::Short(OUTPUT_SHORT)
+    Err(OUTPUT_SHORT)
 }
 
 // A whole text, for which there is room.
@@ -31,18 +31,18 @@ fn copy(out: &mut [u8], at: usize, text: &[u8])
 }
 
 // A text, if there is room for all of it.
-pub fn put_text(out: &mut [u8], at: usize, text: &[u8]) -> Moved
+pub fn put_text(out: &mut [u8], at: usize, text: &[u8]) -> Result<usize, u8>
     ensures { passed result out.new ≡ text_put out.old at text.now }
 {
     if has_room(out.len(), at, text.len()) {
         copy(out, at, text);
-        return Moved::To(at + text.len());
+        return Ok(at + text.len());
     }
-    Moved::Short(OUTPUT_SHORT)
+    Err(OUTPUT_SHORT)
 }
 
 // WRINT: the signed decimal.
-pub fn put_number(out: &mut [u8], at: usize, x: u16) -> Moved
+pub fn put_number(out: &mut [u8], at: usize, x: u16) -> Result<usize, u8>
     ensures { passed result out.new ≡ number_put out.old at x }
 {
     let text = numerals::writing::signed_decimal(x);
@@ -110,18 +110,18 @@ fn print(out: &mut [u8], at: usize, m: &[u16], from: usize, n: usize)
 }
 
 // WRSTR: the low bytes of the cells from a cell on, up to the first that is 0.
-pub fn put_string(out: &mut [u8], at: usize, m: &[u16], from: u16) -> Moved
+pub fn put_string(out: &mut [u8], at: usize, m: &[u16], from: u16) -> Result<usize, u8>
     ensures { passed result out.new ≡ string_put out.old at m.now from }
 {
     let first = from as usize;
     let end = zero_at(m, first);
     if m.len() <= end {
-        return Moved::Short(MEMORY_END);
+        return Err(MEMORY_END);
     }
     let n = end - first;
     if has_room(out.len(), at, n) {
         print(out, at, m, first, n);
-        return Moved::To(at + n);
+        return Ok(at + n);
     }
-    Moved::Short(OUTPUT_SHORT)
+    Err(OUTPUT_SHORT)
 }

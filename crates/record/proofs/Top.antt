@@ -10,8 +10,9 @@ use Rattle.codes.specs.Registers.{A, SR, IX, IY, SP, PC}
 use Rattle.numerals.specs.Bytes.{bytes}
 use Rattle.machine.specs.declared.Ran.{Ran}
 use Rattle.record.specs.Recording.{refusal_of, length_of, Leaves, leaves, fitted, largest_position, text_of_run, recorded}
-use Rattle.record.specs.declared.Recorded.{Recorded}
-use Rattle.record.specs.declared.Recorded.TheVariants.{Done, TooFar, RoomShort}
+use Rattle.std.proofs.Common.{Result, Ok, Err}
+use Rattle.record.specs.declared.NotRecorded.{NotRecorded}
+use Rattle.record.specs.declared.NotRecorded.TheVariants.{TooFar, RoomShort}
 use Rattle.record.proofs.Outcomes as outcomes
 use Rattle.record.proofs.Tells.{line-tells}
 use Rattle.record.proofs.Examples.{Examples}
@@ -26,7 +27,7 @@ module _ (ran : Ran) (room : List ℕ) (taken : ran.registers.taken ≤ largest_
   writes h = sym (outcomes.recorded-fitted ran room taken written) ∙ rw (le-leb (length (text_of_run ran)) (length room) h)
 
   -- In a shorter one nothing is written.
-  pub room-short : length room < length (text_of_run ran) → recorded ran room ≡ leaves RoomShort room
+  pub room-short : length room < length (text_of_run ran) → recorded ran room ≡ leaves (Err RoomShort) room
   unfolding fitted
   room-short h = sym (outcomes.recorded-fitted ran room taken written) ∙ rw (lt-leb (length (text_of_run ran)) (length room) h)
 
@@ -117,17 +118,17 @@ pub examples : Examples
 examples = worked.examples
 
 -- "That two replies meeting it coincide".
-pub answers_coincide : (r s : Recorded) {meaning : Leaves} {xs ys : List ℕ} → leaves r xs ≡ meaning → leaves s ys ≡ meaning → (r ≡ s) × (xs ≡ ys)
+pub answers_coincide : (r s : Result ℕ NotRecorded) {meaning : Leaves} {xs ys : List ℕ} → leaves r xs ≡ meaning → leaves s ys ≡ meaning → (r ≡ s) × (xs ≡ ys)
 answers_coincide r s p q =
     (same r s (ap (λ (a : Leaves). a.refusal) (p ∙ sym q)) (ap (λ (a : Leaves). a.text) (p ∙ sym q)), ap (λ (a : Leaves). a.room) (p ∙ sym q))
   where
-    same : (r s : Recorded) → refusal_of r ≡ refusal_of s → length_of r ≡ length_of s → r ≡ s
-    same (Done n) (Done m) e f = ap Done f
-    same (Done n) TooFar e f = absurd (omega (arith, e))
-    same (Done n) RoomShort e f = absurd (omega (arith, e))
-    same TooFar (Done m) e f = absurd (omega (arith, e))
-    same TooFar TooFar e f = refl
-    same TooFar RoomShort e f = absurd (omega (arith, e))
-    same RoomShort (Done m) e f = absurd (omega (arith, e))
-    same RoomShort TooFar e f = absurd (omega (arith, e))
-    same RoomShort RoomShort e f = refl
+    same : (r s : Result ℕ NotRecorded) → refusal_of r ≡ refusal_of s → length_of r ≡ length_of s → r ≡ s
+    same (Ok n) (Ok m) e f = ap Ok f
+    same (Ok n) (Err TooFar) e f = absurd (omega (arith, e))
+    same (Ok n) (Err RoomShort) e f = absurd (omega (arith, e))
+    same (Err TooFar) (Ok m) e f = absurd (omega (arith, e))
+    same (Err TooFar) (Err TooFar) e f = refl
+    same (Err TooFar) (Err RoomShort) e f = absurd (omega (arith, e))
+    same (Err RoomShort) (Ok m) e f = absurd (omega (arith, e))
+    same (Err RoomShort) (Err TooFar) e f = absurd (omega (arith, e))
+    same (Err RoomShort) (Err RoomShort) e f = refl

@@ -2,20 +2,21 @@
 use Rattle.std.specs.Prelude.{ℕ, Bool, cond, ◌&&◌, List, ◌++◌, leb, length, drop}
 use Rattle.machine.specs.declared.Ran.{Ran}
 use Rattle.record.specs.Record.{record_text}
-use Rattle.record.specs.declared.Recorded.{Recorded}
-use Rattle.record.specs.declared.Recorded.TheVariants.{Done, TooFar, RoomShort}
+use Rattle.std.specs.Prelude.{Result, Ok, Err}
+use Rattle.record.specs.declared.NotRecorded.{NotRecorded}
+use Rattle.record.specs.declared.NotRecorded.TheVariants.{TooFar, RoomShort}
 
 -- the number of an answer, 0 where the record is written
-abbrev pub refusal_of : Recorded → ℕ
-refusal_of (Done n) = 0
-refusal_of TooFar = 1
-refusal_of RoomShort = 2
+abbrev pub refusal_of : Result ℕ NotRecorded → ℕ
+refusal_of (Ok n) = 0
+refusal_of (Err TooFar) = 1
+refusal_of (Err RoomShort) = 2
 
 -- the length of the record that an answer tells
-abbrev pub length_of : Recorded → ℕ
-length_of (Done n) = n
-length_of TooFar = 0
-length_of RoomShort = 0
+abbrev pub length_of : Result ℕ NotRecorded → ℕ
+length_of (Ok n) = n
+length_of (Err TooFar) = 0
+length_of (Err RoomShort) = 0
 
 -- a refusal or 0, the record's length, and the room after
 pub record Leaves : Type 0 where
@@ -23,7 +24,7 @@ pub record Leaves : Type 0 where
   pub text : ℕ
   pub room : List ℕ
 
-abbrev pub leaves : Recorded → List ℕ → Leaves
+abbrev pub leaves : Result ℕ NotRecorded → List ℕ → Leaves
 leaves answer room = record { refusal = refusal_of answer; text = length_of answer; room = room }
 
 -- a text at the head of the room, where it fits; else the room is as it was

@@ -5,10 +5,9 @@
 mod lines; // the text, written
 pub mod recording;
 
-// The length of the record that was written; or why nothing was.
-#[derive(Clone, Copy)]
-pub enum Recorded {
-    Done(usize),
+// Why no record is written.
+#[derive(Clone, Copy, Debug, PartialEq, Eq)]
+pub enum NotRecorded {
     TooFar,
     RoomShort,
 }

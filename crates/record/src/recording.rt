@@ -3,10 +3,9 @@ ghost use Rattle.std.specs.Prelude.{◌≡◌, length};
 ghost use Rattle.record.specs.Record.{record_text};
 ghost use Rattle.record.specs.Recording.{leaves, fitted, recorded};
 
-use super::Recorded;
+use super::NotRecorded;
 use super::lines::write;
 use machine::Ran;
-use ports::Moved;
 use ports::output::put_text;
 
 // Room for the longest record. The `ensures` gives the length, which lending needs.
@@ -17,27 +16,27 @@ fn longest() -> [u8; 400]
 }
 
 // A record that fits is written at the head of the room.
-fn put(room: &mut [u8], stop: u8, steps: u32, r: [u16; 16], taken: u32, written: u32) -> Recorded
+fn put(room: &mut [u8], stop: u8, steps: u32, r: [u16; 16], taken: u32, written: u32) -> Result<usize, NotRecorded>
     ensures { leaves result room.new ≡ fitted (record_text stop steps r taken written) room.old }
 {
     let mut text = longest();
     let end = write(&mut text, stop, steps, r, taken, written);
     match put_text(room, 0, &text[..end]) {
-        Moved::To(n) => Recorded::Done(n),
-        Moved::Short(k) => Recorded::RoomShort,
+        Ok(n) => Ok(n),
+        Err(k) => Err(NotRecorded::RoomShort),
     }
 }
 
 // Writes a run's record at the head of a room, if there is place for all of it.
-pub fn write_record(ran: Ran, room: &mut [u8]) -> Recorded
+pub fn write_record(ran: Ran, room: &mut [u8]) -> Result<usize, NotRecorded>
     ensures { leaves result room.new ≡ recorded ran room.old }
 {
     let registers = ran.registers;
     if 4294967295 < registers.taken {
-        return Recorded::TooFar;
+        return Err(NotRecorded::TooFar);
     }
     if 4294967295 < registers.written {
-        return Recorded::TooFar;
+        return Err(NotRecorded::TooFar);
     }
     let r = registers.r;
     put(

@@ -11,24 +11,25 @@ use lib.Seq.{ext_get_or, get_or-take, length-take-le}
 use Rattle.codes.specs.Marks.{free, code_mark, largest_mark}
 use Rattle.isa.specs.Encoding.{words_of, allowed}
 use Rattle.isa.specs.Decoding.{decode_of, stop_of}
-use Rattle.isa.specs.declared.Decoded.TheVariants as D
+use Rattle.std.proofs.Common.{Option, Result, Ok, Err}
+use Rattle.numerals.specs.declared.Read.{Read}
+use Rattle.statements.specs.declared.Failure.{Failure}
+use Rattle.operands.specs.declared.Operands.{Operands}
+use Rattle.values.specs.declared.Name.{Name}
+use Rattle.operands.specs.declared.OperandsFault.{OperandsFault}
+use Rattle.operands.specs.declared.OperandsFault.TheVariants.{WrongForm, WrongCount, WrongKind, OutOfRange}
 use Rattle.isa.specs.declared.Instruction.{Instruction}
 use Rattle.isa.specs.declared.Opcode.{Opcode}
 use Rattle.isa.proofs.Top as isa
 use Rattle.items.specs.Items.{cells_of, all_in_range}
 use Rattle.operands.specs.Checks as Operands
 use Rattle.operands.specs.Settling.{settled_instruction}
-use Rattle.operands.specs.declared.InstructionRead.{InstructionRead}
-use Rattle.operands.specs.declared.InstructionRead.TheVariants as I
 use Rattle.operands.specs.declared.Written.{Written}
 use Rattle.statements.specs.Judging.{judged, instruction_result}
 use Rattle.statements.specs.Statements.{Reading, nothing, instruction, org, equ, res, cells, end, Says}
 use Rattle.statements.specs.declared.Failure.TheVariants as F
 use Rattle.statements.specs.declared.Statement.{Statement}
 use Rattle.statements.specs.declared.Statement.TheVariants as S
-use Rattle.statements.specs.declared.StatementRead.{StatementRead}
-use Rattle.statements.specs.declared.StatementRead.TheVariants.{Passes, Fails}
-use Rattle.values.specs.declared.LabelIn.{LabelIn}
 use Rattle.sources.specs.Sources.{Said}
 use Rattle.sources.specs.Placing.{does, does_read, Bound, judged_line, next_from}
 use Rattle.sources.specs.Image.{word_in, code_read, given_by, Block, blocks_of, Has, Apart, Image}
@@ -48,20 +49,20 @@ abbrev pub IsCode : List ℕ → Type 0
 IsCode ws = (length ws ≡ 0) ⊎ ((i : Instruction) × (allowed i ≡ true) × (ws ≡ words_of i))
 
 module _ (bs : List Bound) (bytes : List ℕ) (next : ℕ) where
-  code_read_lem : (op : Opcode) (os : List Written) {l : LabelIn} → Says bytes l (instruction op os) → (i : InstructionRead) → Operands.judged op os ≡ i
+  code_read_lem : (op : Opcode) (os : List Written) {l : Option Name} → Says bytes l (instruction op os) → (i : Result Operands OperandsFault) → Operands.judged op os ≡ i
       → IsCode (code_read bs bytes next op i)
   unfolding judged
-  code_read_lem op os x (I.Read a b) e =
+  code_read_lem op os x (Ok r) e =
       let f = statement-read bytes (instruction op os) x (ap (instruction_result op) e) in
-      let v = word_in bs bytes next a in
-      let w = word_in bs bytes next b in
-      inr (settled_instruction op a b v w, settled-allowed bytes f v w, refl)
-  code_read_lem op os x I.WrongForm e = inl refl
-  code_read_lem op os x I.WrongCount e = inl refl
-  code_read_lem op os x (I.WrongKind place) e = inl refl
-  code_read_lem op os x I.OutOfRange e = inl refl
+      let v = word_in bs bytes next r.first in
+      let w = word_in bs bytes next r.second in
+      inr (settled_instruction op r.first r.second v w, settled-allowed bytes f v w, refl)
+  code_read_lem op os x (Err WrongForm) e = inl refl
+  code_read_lem op os x (Err WrongCount) e = inl refl
+  code_read_lem op os x (Err (WrongKind place)) e = inl refl
+  code_read_lem op os x (Err OutOfRange) e = inl refl
 
-  code-given : {l : LabelIn} (r : Reading) → Says bytes l r → (does_read (judged r)).mark ≡ code_mark → IsCode (given_by bs bytes next r)
+  code-given : {l : Option Name} (r : Reading) → Says bytes l r → (does_read (judged r)).mark ≡ code_mark → IsCode (given_by bs bytes next r)
   unfolding judged does
   code-given nothing x e = inl refl
   code-given (instruction op os) x e = code_read_lem op os x (Operands.judged op os) refl
@@ -72,12 +73,12 @@ module _ (bs : List Bound) (bytes : List ℕ) (next : ℕ) where
       reserving : {s : Statement} → PassesAs (res t) s → (does s).mark ≡ code_mark → ⊥
       reserving (as_res f) e = omega arith
 
-      go : (s : StatementRead) → judged (res t) ≡ s → (does_read s).mark ≡ code_mark → ⊥
-      go (Passes s) q e = reserving (passes_as (res t) q) e
-      go (Fails why) q e = omega arith
+      go : (s : Result Statement Failure) → judged (res t) ≡ s → (does_read s).mark ≡ code_mark → ⊥
+      go (Ok s) q e = reserving (passes_as (res t) q) e
+      go (Err why) q e = omega arith
   code-given (cells is) x e = absurd (go (all_in_range is) e)
     where
-      go : (b : Bool) → (does_read (cond b (Passes (S.Data (length (cells_of is)))) (Fails F.OutOfRange))).mark ≡ code_mark → ⊥
+      go : (b : Bool) → (does_read (cond b (Ok (S.Data (length (cells_of is)))) (Err F.OutOfRange))).mark ≡ code_mark → ⊥
       go true e = omega arith
       go false e = omega arith
   code-given end x e = inl refl
@@ -103,9 +104,9 @@ mark-low (S.Res v) = omega arith
 mark-low (S.Data n) = omega arith
 mark-low S.End = omega arith
 
-read_low : (s : StatementRead) → (does_read s).mark ≤ largest_mark
-read_low (Passes s) = mark-low s
-read_low (Fails f) = omega arith
+read_low : (s : Result Statement Failure) → (does_read s).mark ≤ largest_mark
+read_low (Ok s) = mark-low s
+read_low (Err f) = omega arith
 
 pub low-blocks : (bs : List Bound) (xs : List Said) (at : ℕ) (b : Block) → Memᴰ b (blocks_of bs at xs) → b.mark ≤ largest_mark
 unfolding blocks_of
@@ -156,7 +157,7 @@ module _ (M : ℕ) (bs : List Block) (memory marks : List ℕ) (image : Image M 
   -- the instruction at the head of what is left of a code run
   record Head (at : ℕ) (ws : List ℕ) : Type 0 where
     is : Instruction
-    decodes : decode_of ws 0 ≡ D.Read is (record { 0 = 0 + length (words_of is) })
+    decodes : decode_of ws 0 ≡ Ok (record { instruction = is; next = (record { 0 = 0 + length (words_of is) }) })
     behind : Boundary (at + length (words_of is))
 
   head : (at : ℕ) (ws : List ℕ) → 0 < length ws → HoldCells memory marks at ws code_mark → (get_or marks (at + length ws) free ≡ code_mark → ⊥) → Boundary at
@@ -174,7 +175,7 @@ module _ (M : ℕ) (bs : List Block) (memory marks : List ℕ) (image : Image M 
       go b m f p c (inl e) = absurd (omega (arith, e, p.1))
       go b m f p c (inr (i, t, e)) = record {
         is = i;
-        decodes = subst (λ (l : List ℕ). decode_of l 0 ≡ D.Read i (record { 0 = 0 + length (words_of i) })) whole_run
+        decodes = subst (λ (l : List ℕ). decode_of l 0 ≡ Ok (record { instruction = i; next = (record { 0 = 0 + length (words_of i) }) })) whole_run
             (isa.decode_encode i [] (drop (length (words_of i)) ws) t);
         behind = past;
       }

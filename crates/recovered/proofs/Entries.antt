@@ -13,15 +13,14 @@ use Rattle.isa.proofs.Top.{words_count}
 use Rattle.tokens.specs.Lines as L
 use Rattle.tokens.specs.Lines.{no_lf, Lines}
 use Rattle.tokens.proofs.LinesOf.{word-no_lf, mark-no_lf, join-no_lf}
-use Rattle.values.specs.declared.LabelIn.TheVariants.{Absent}
+use Rattle.std.proofs.Common.{None, Result, Ok}
+use Rattle.statements.specs.declared.Failure.{Failure}
 use Rattle.expressions.specs.Trees.{literal}
 use Rattle.operands.proofs.Back.{plainly}
 use Rattle.statements.specs.Statements.{Reading, org, res, end, Says}
 use Rattle.statements.specs.Judging.{judged}
 use Rattle.statements.specs.declared.Statement.{Statement}
 use Rattle.statements.specs.declared.Statement.TheVariants as S
-use Rattle.statements.specs.declared.StatementRead.{StatementRead}
-use Rattle.statements.specs.declared.StatementRead.TheVariants.{Passes}
 use Rattle.sources.specs.Sources.{Said, said}
 use Rattle.sources.specs.Placing.{does, does_read, Bound, moved_by}
 use Rattle.sources.specs.Image.{given_by}
@@ -50,7 +49,7 @@ reading_in (Reserves n) = res (literal n)
 reading_in Finish = end
 
 abbrev pub said_in : Entry → Said
-said_in e = said (line_of e) Absent (reading_in e)
+said_in e = said (line_of e) None (reading_in e)
 
 abbrev pub statement_in : Entry → Statement
 statement_in (Origin a) = S.Org a.0
@@ -83,7 +82,7 @@ next_in at (Reserves n) = at + n
 next_in at Finish = at
 
 -- its line says so
-pub entry-says : (e : Entry) → Writable e → Says (line_of e) Absent (reading_in e)
+pub entry-says : (e : Entry) → Writable e → Says (line_of e) None (reading_in e)
 entry-says (Origin a) h = org-says a.0 h
 entry-says (Instructs i) h = instruction-says i h
 entry-says (Holds x) h = data_says x h
@@ -91,7 +90,7 @@ entry-says (Reserves n) h = res-says n h
 entry-says Finish h = end-says
 
 -- and passes every check of a line by itself
-pub entry-judged : (e : Entry) → Writable e → judged (reading_in e) ≡ Passes (statement_in e)
+pub entry-judged : (e : Entry) → Writable e → judged (reading_in e) ≡ Ok (statement_in e)
 unfolding judged
 entry-judged (Origin a) h = org-judged a.0 h
 entry-judged (Instructs i) h = instruction-judged i h
@@ -105,7 +104,7 @@ unfolding does
 entry_gives bs next (Origin a) h = refl
 entry_gives bs next (Instructs i) h = instruction-gives i h bs (line_of (Instructs i)) next
 entry_gives bs next (Holds x) h = (data_judged x h).1
-entry_gives bs next (Reserves n) h = ap (λ (s : StatementRead). replicate (does_read s).claims 0) (res-judged n h)
+entry_gives bs next (Reserves n) h = ap (λ (s : Result Statement Failure). replicate (does_read s).claims 0) (res-judged n h)
 entry_gives bs next Finish h = refl
 
 -- as many cells as it lists are claimed, with their mark

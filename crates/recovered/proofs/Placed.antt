@@ -12,12 +12,12 @@ use lib.Seq.{sets}
 use borrow.Author.Tests.{le-ltb}
 use Rattle.codes.specs.Limits.{most_cells}
 use Rattle.codes.specs.Marks.{free}
-use Rattle.values.specs.declared.LabelIn.TheVariants.{Absent}
+use Rattle.std.proofs.Common.{None, Result, Ok}
+use Rattle.statements.specs.declared.Statement.{Statement}
+use Rattle.statements.specs.declared.Failure.{Failure}
 use Rattle.statements.specs.FirstFailing.{Pass}
 use Rattle.statements.specs.Judging.{judged}
 use Rattle.statements.specs.Statements.{end}
-use Rattle.statements.specs.declared.StatementRead.{StatementRead}
-use Rattle.statements.specs.declared.StatementRead.TheVariants.{Passes}
 use Rattle.statements.proofs.Labelling.{never}
 use Rattle.sources.specs.Sources.{UpToEnd, ends, more, SourceText}
 use Rattle.sources.specs.Placing.{does, does_read, Bound, Place, start, bound_to, labelled, moved_by, acted, Judged, judged_line, after, place_after, bindings}
@@ -107,12 +107,12 @@ abbrev place_at : ℕ → List Bound → List ℕ → Place
 place_at at bs m = record { at = at; bound = bs; waiting = []; marks = m }
 
 abbrev judged_in : Entry → Judged
-judged_in e = record { bytes = line_of e; read = record { label = Absent; statement = Passes (statement_in e) } }
+judged_in e = record { bytes = line_of e; read = record { label = None; statement = Ok (statement_in e) } }
 
 judged-in : (e : Entry) → Writable e → judged_line (said_in e) ≡ judged_in e
-judged-in e h = ap (λ (s : StatementRead). record { bytes = line_of e; read = record { label = Absent; statement = s } }) (entry-judged e h)
+judged-in e h = ap (λ (s : Result Statement Failure). record { bytes = line_of e; read = record { label = None; statement = s } }) (entry-judged e h)
 
-no_label : (at : ℕ) (bs : List Bound) (m : List ℕ) (e : Entry) → label_out (labelled (place_at at bs m) (line_of e) Absent) (does (statement_in e)) ≡ false
+no_label : (at : ℕ) (bs : List Bound) (m : List ℕ) (e : Entry) → label_out (labelled (place_at at bs m) (line_of e) None) (does (statement_in e)) ≡ false
 unfolding does
 no_label at bs m (Origin a) = refl
 no_label at bs m (Instructs i) = refl
@@ -239,8 +239,8 @@ blocks-are bs [] h at = refl
 blocks-are bs (e ∷ es) h at =
     let j = entry-judged e h.0 in
     let next = moved_by (does_read (judged (reading_in e))).moves at in
-    let n : next ≡ next_in at e = ap (λ (s : StatementRead). moved_by (does_read s).moves at) j ∙ entry-moves at e h.0 in
-    let k : (does_read (judged (reading_in e))).mark ≡ mark_in e = ap (λ (s : StatementRead). (does_read s).mark) j ∙ entry-mark e in
+    let n : next ≡ next_in at e = ap (λ (s : Result Statement Failure). moved_by (does_read s).moves at) j ∙ entry-moves at e h.0 in
+    let k : (does_read (judged (reading_in e))).mark ≡ mark_in e = ap (λ (s : Result Statement Failure). (does_read s).mark) j ∙ entry-mark e in
     ap₂ (λ (b : Block) (cs : List Block). b ∷ cs)
     (ap₂ (λ (y : ℕ) (g : List ℕ). record { from = at; mark = y; given = g }) k (entry_gives bs next e h.0))
     (ap (λ (a : ℕ). blocks_of bs a (map said_in es)) n ∙ blocks-are bs es h.1 (next_in at e))

@@ -30,7 +30,7 @@ use Rattle.names.specs.declared.Word.{Word}
 use Rattle.names.proofs.Exactly.{opcode_is_found}
 use Rattle.names.proofs.Own.{org_is_found, res_is_found, data_is_found, end_is_found}
 use Rattle.values.specs.Values.{plain}
-use Rattle.values.specs.declared.LabelIn.TheVariants.{Absent}
+use Rattle.std.proofs.Common.{None, Ok}
 use Rattle.values.specs.declared.Name.{Name}
 use Rattle.values.proofs.Displaced.{unsigned_of}
 use Rattle.expressions.specs.Grammar as Grammar
@@ -38,7 +38,6 @@ use Rattle.expressions.specs.Trees.{literal, depth}
 use Rattle.expressions.specs.Worths.{worth_of, of_number}
 use Rattle.operands.specs.Operands.{one, more, OperandField, none, some}
 use Rattle.operands.specs.Checks as Checks
-use Rattle.operands.specs.declared.InstructionRead.TheVariants as I
 use Rattle.operands.proofs.Back.{written_of, plainly, list_by, written_in, judged-back}
 use Rattle.items.specs.Items as Items
 use Rattle.items.specs.Items.{cells_of, all_in_range}
@@ -48,7 +47,6 @@ use Rattle.statements.specs.Checks.{least_unsigned}
 use Rattle.statements.specs.Judging.{judged, tree_result, result_of}
 use Rattle.statements.specs.declared.Statement.{Statement}
 use Rattle.statements.specs.declared.Statement.TheVariants as S
-use Rattle.statements.specs.declared.StatementRead.TheVariants.{Passes}
 use Rattle.sources.specs.Placing.{Bound}
 use Rattle.sources.specs.Image.{given_by, code_read}
 use Rattle.listing.specs.Pieces.{Piece, word, number, mark, space, text_of}
@@ -85,7 +83,7 @@ statement-word name ps n e = record { word = refl; means = ap word_of (word-ther
 
 -- a line without a label, by the tokens of its pieces
 says : (ps : List Piece) (r : Reading) → Fine ps → second_directly (row_from 0 true ps) ≡ false → Body (text_of ps) (row_from 0 true ps) r
-    → Says (text_of ps) Absent r
+    → Says (text_of ps) None r
 says ps r f s b = record { tokens = row_from 0 true ps; row = row_of ps 0 true f; text = unlabelled (no_label s) b }
 
 -- a word and a number behind it
@@ -98,7 +96,7 @@ number-fine name n w h = (w.begins, w.all, tt, (omega arith, tt, tt))
 abbrev pub data_reading : ℕ → Reading
 data_reading x = cells (Items.number (unsigned_of x) ∷ [])
 
-pub data_says : (x : ℕ) → x < 65536 → Says (line_of (Holds x)) Absent (data_reading x)
+pub data_says : (x : ℕ) → x < 65536 → Says (line_of (Holds x)) None (data_reading x)
 unfolding row_from Fine second_directly
 data_says x h =
     says (entry_pieces (Holds x)) (data_reading x) (number-fine "DATA" x data_is_word h) refl
@@ -106,7 +104,7 @@ data_says x h =
 
 -- ---- `ORG n`
 
-pub org-says : (n : ℕ) → n < 65536 → Says (line_of (Origin (record { 0 = n }))) Absent (org (literal n))
+pub org-says : (n : ℕ) → n < 65536 → Says (line_of (Origin (record { 0 = n }))) None (org (literal n))
 unfolding row_from Fine second_directly
 org-says n h =
     says (entry_pieces (Origin (record { 0 = n }))) (org (literal n)) (number-fine "ORG" n org_is_word h) refl
@@ -114,7 +112,7 @@ org-says n h =
 
 -- ---- `RES n`
 
-pub res-says : (n : ℕ) → n < 65536 → Says (line_of (Reserves n)) Absent (res (literal n))
+pub res-says : (n : ℕ) → n < 65536 → Says (line_of (Reserves n)) None (res (literal n))
 unfolding row_from Fine second_directly
 res-says n h =
     says (entry_pieces (Reserves n)) (res (literal n)) (number-fine "RES" n res_is_word h) refl
@@ -126,7 +124,7 @@ pub end-fine : Fine (entry_pieces Finish)
 unfolding Fine
 end-fine = (end_is_word.begins, end_is_word.all, tt, tt)
 
-pub end-says : Says (line_of Finish) Absent end
+pub end-says : Says (line_of Finish) None end
 unfolding row_from Fine second_directly
 end-says =
     says (entry_pieces Finish) end end-fine refl (Rule.ends (statement-word "END" [] end_is_word end_is_found))
@@ -137,22 +135,22 @@ end-says =
 cell-number : (n : ℕ) → n < 65536 → of_z w16 (pos n) ≡ n
 cell-number n h = refl
 
-pub data_judged : (x : ℕ) → x < 65536 → (judged (data_reading x) ≡ Passes (S.Data 1)) × (cells_of (Items.number (unsigned_of x) ∷ []) ≡ x ∷ [])
+pub data_judged : (x : ℕ) → x < 65536 → (judged (data_reading x) ≡ Ok (S.Data 1)) × (cells_of (Items.number (unsigned_of x) ∷ []) ≡ x ∷ [])
 unfolding judged all_in_range cells_of
 data_judged x h = (rw (le-leb x 65535 (omega arith)), ap (λ (n : ℕ). n ∷ []) (cell-number x h))
 
 -- an expression that is a number alone results in it
-number-result : (makes : ℕ → Statement) (n : ℕ) → n < 65536 → tree_result least_unsigned makes (literal n) ≡ Passes (makes n)
+number-result : (makes : ℕ → Statement) (n : ℕ) → n < 65536 → tree_result least_unsigned makes (literal n) ≡ Ok (makes n)
 unfolding tree_result depth worth_of of_number result_of
 number-result makes n h =
     rw (le-leb n 65535 (omega arith))
-    (rw (le-leb 0 n (omega arith), le-leb n 65535 (omega arith)) (ap (λ (v : ℕ). Passes (makes v)) (cell-number n h)))
+    (rw (le-leb 0 n (omega arith), le-leb n 65535 (omega arith)) (ap (λ (v : ℕ). Ok (makes v)) (cell-number n h)))
 
-pub org-judged : (n : ℕ) → n < 65536 → judged (org (literal n)) ≡ Passes (S.Org n)
+pub org-judged : (n : ℕ) → n < 65536 → judged (org (literal n)) ≡ Ok (S.Org n)
 unfolding judged
 org-judged = number-result S.Org
 
-pub res-judged : (n : ℕ) → n < 65536 → judged (res (literal n)) ≡ Passes (S.Res n)
+pub res-judged : (n : ℕ) → n < 65536 → judged (res (literal n)) ≡ Ok (S.Res n)
 unfolding judged
 res-judged = number-result S.Res
 
@@ -253,7 +251,7 @@ present-mode (O.Relative d) = refl
 those_there : (i : Instruction) → list_by (present i.first) (present i.second) i.first i.second ≡ written_in i
 those_there i = ap₂ (λ (one two : Bool). list_by one two i.first i.second) (present-mode i.first) (present-mode i.second)
 
-pub instruction-says : (i : Instruction) → Sound i → Says (line_of (Instructs i)) Absent (reading_of i)
+pub instruction-says : (i : Instruction) → Sound i → Says (line_of (Instructs i)) None (reading_of i)
 unfolding row_from Fine
 instruction-says i s =
     let a = i.first in
@@ -273,10 +271,10 @@ instruction-says i s =
 -- ---- what is judged of an instruction
 
 module _ (i : Instruction) (s : Sound i) where
-  operands-back : Checks.judged i.op (written_in i) ≡ I.Read (plainly i.first) (plainly i.second)
+  operands-back : Checks.judged i.op (written_in i) ≡ Ok (record { first = (plainly i.first); second = (plainly i.second) })
   operands-back = judged-back i s.is_allowed s.first_below s.second_below
 
-  pub instruction-judged : judged (reading_of i) ≡ Passes (S.Instruction i.op (plainly i.first) (plainly i.second))
+  pub instruction-judged : judged (reading_of i) ≡ Ok (S.Instruction i.op (plainly i.first) (plainly i.second))
   unfolding judged
   instruction-judged = rw operands-back
 

@@ -1,10 +1,10 @@
 // Cases of an image, printed or listed.
+use listing::NotListed;
+use image::NotPrinted;
 use super::fields::{byte, is_whole, number, word};
 use super::memory::{CELLS, fill_room, lend_cells, lend_marks};
 use super::outcomes::Outcome;
 use super::replies::{Row, Sheet, numbers, room_changed};
-use image::Printed;
-use listing::Listed;
 use std::io::Write;
 
 // Which text of an image is asked for.
@@ -49,19 +49,19 @@ fn head(count: usize, a: usize, b: usize, c: usize) -> Row {
 // Refusal and length.
 fn printed(m: &[u16], map: &[u8], room: &mut [u8]) -> Row {
     match image::printing::print(m, map, room) {
-        Printed::Done(n) => head(2, 0, n, 0),
-        Printed::BadLoan => head(2, 1, 0, 0),
-        Printed::RoomShort => head(2, 2, 0, 0),
+        Ok(n) => head(2, 0, n, 0),
+        Err(NotPrinted::BadLoan) => head(2, 1, 0, 0),
+        Err(NotPrinted::RoomShort) => head(2, 2, 0, 0),
     }
 }
 
 // Refusal, the address of what does not decode, and length.
 fn listed(m: &[u16], map: &[u8], room: &mut [u8]) -> Row {
     match listing::giving::list(m, map, room) {
-        Listed::Done(n) => head(3, 0, 0, n),
-        Listed::BadLoan => head(3, 1, 0, 0),
-        Listed::Undecoded(a) => head(3, 2, a.0, 0),
-        Listed::TooLong => head(3, 3, 0, 0),
+        Ok(n) => head(3, 0, 0, n),
+        Err(NotListed::BadLoan) => head(3, 1, 0, 0),
+        Err(NotListed::Undecoded(a)) => head(3, 2, a.0, 0),
+        Err(NotListed::TooLong) => head(3, 3, 0, 0),
     }
 }
 

@@ -5,7 +5,7 @@ use super::replies::{Row, put_row, wide};
 use isa::decoding::decode;
 use isa::encoding::encode;
 use isa::opcodes::{opcode, row};
-use isa::{Address, Decoded, Encoded, FoundOpcode, Instruction, Operand};
+use isa::{Address, Decoded, Encoded, Instruction, Operand, Undecoded};
 use std::io::Write;
 
 // The format's kind of an operand, and its word.
@@ -67,12 +67,12 @@ fn listed(count: usize, a: u16, b: u16, c: u16) -> Row {
     }
 }
 
-fn encoded(e: Encoded) -> Row {
+fn encoded(e: Option<Encoded>) -> Row {
     match e {
-        Encoded::One(a) => listed(1, a, 0, 0),
-        Encoded::Two(a, b) => listed(2, a, b, 0),
-        Encoded::Three(a, b, c) => listed(3, a, b, c),
-        Encoded::Refused => one(5),
+        Some(Encoded::One(a)) => listed(1, a, 0, 0),
+        Some(Encoded::Two(a, b)) => listed(2, a, b, 0),
+        Some(Encoded::Three(a, b, c)) => listed(3, a, b, c),
+        None => one(5),
     }
 }
 
@@ -89,7 +89,7 @@ pub(crate) fn encode_case(replies: &mut impl Write, s: &[u8]) -> Outcome {
     let a = operand(kind.value, word(first.value));
     let b = operand(kind2.value, word(second.value));
     match opcode(word(op.value)) {
-        FoundOpcode::Known(op) => put_row(
+        Some(op) => put_row(
             replies,
             encoded(encode(Instruction {
                 op: op,
@@ -97,7 +97,7 @@ pub(crate) fn encode_case(replies: &mut impl Write, s: &[u8]) -> Outcome {
                 second: b,
             })),
         ),
-        FoundOpcode::Unknown => put_row(replies, one(5)),
+        None => put_row(replies, one(5)),
     }
 }
 
@@ -122,13 +122,10 @@ fn instruction(i: Instruction, length: usize) -> Row {
     }
 }
 
-fn decoded(d: Decoded) -> Row {
+fn decoded(d: Result<Decoded, Undecoded>) -> Row {
     match d {
-        Decoded::Read(i, after) => instruction(i, after.0),
-        Decoded::NoOpcode => one(2),
-        Decoded::NoMode => one(3),
-        Decoded::NoRegister => one(4),
-        Decoded::PastMemory => one(5),
+        Ok(Decoded { instruction: i, next: after }) => instruction(i, after.0),
+        Err(why) => one(usize::from(u8::from(why))),
     }
 }
 

@@ -1,6 +1,7 @@
 // A line's reply: the first of its own checks that fails, or 0; its label's place; and what it says, or where the failure points.
 ghost use Rattle.std.specs.Prelude.{◌≤◌};
 
+use values::Name;
 use super::texts::{field, letter, number, room, write};
 use columns::pointing::pointed;
 use isa::opcodes::row;
@@ -9,9 +10,8 @@ use operands::Given;
 use statements::cells::write_cells;
 use statements::line::read_line;
 use statements::refusals::number_of;
-use statements::{Statement, StatementRead};
+use statements::{Statement, Failure};
 use std::io::Write;
-use values::LabelIn;
 
 // An operand's kind and word, by the format's numbers.
 fn operand(out: &mut [u8], at: usize, o: Operand) -> usize {
@@ -44,8 +44,8 @@ fn given(out: &mut [u8], at: usize, g: Given) -> usize {
     let label = g.label;
     let next = operand(out, at, o);
     match label {
-        LabelIn::Absent => place(out, next, 0, 0),
-        LabelIn::Named(n) => place(out, next, n.start, n.end),
+        None => place(out, next, 0, 0),
+        Some(n) => place(out, next, n.start, n.end),
     }
 }
 
@@ -62,15 +62,15 @@ fn valued(out: &mut [u8], at: usize, b: u8, n: usize) -> usize {
     field(out, next, n)
 }
 
-fn label(out: &mut [u8], at: usize, l: LabelIn) -> usize {
+fn label(out: &mut [u8], at: usize, l: Option<Name>) -> usize {
     match l {
-        LabelIn::Absent => place(out, at, 0, 0),
-        LabelIn::Named(n) => place(out, at, n.start, n.end),
+        None => place(out, at, 0, 0),
+        Some(n) => place(out, at, n.start, n.end),
     }
 }
 
 // A refusal, or 0, and the label.
-fn head(out: &mut [u8], refusal: usize, l: LabelIn) -> usize {
+fn head(out: &mut [u8], refusal: usize, l: Option<Name>) -> usize {
     let next = number(out, 0, refusal);
     label(out, next, l)
 }
@@ -110,7 +110,7 @@ fn data_shown(out: &mut [u8], at: usize, line: &[u8], n: usize) -> usize {
 }
 
 // What a line says, behind 0 and its label.
-fn saying(out: &mut [u8], line: &[u8], l: LabelIn, s: Statement) -> usize {
+fn saying(out: &mut [u8], line: &[u8], l: Option<Name>, s: Statement) -> usize {
     let at = head(out, 0, l);
     match s {
         Statement::Nothing => letter(out, at, b'N'),
@@ -124,7 +124,7 @@ fn saying(out: &mut [u8], line: &[u8], l: LabelIn, s: Statement) -> usize {
 }
 
 // A refusal, the label, and behind it the column and the operand's place: the line is read once more.
-fn refused(out: &mut [u8], line: &[u8], l: LabelIn, refusal: u8) -> usize {
+fn refused(out: &mut [u8], line: &[u8], l: Option<Name>, refusal: u8) -> usize {
     let p = pointed(line, refusal);
     let column = p.column;
     let at = head(out, refusal as usize, l);
@@ -133,10 +133,10 @@ fn refused(out: &mut [u8], line: &[u8], l: LabelIn, refusal: u8) -> usize {
 }
 
 // The whole reply but its line end.
-fn reply(out: &mut [u8], line: &[u8], l: LabelIn, s: StatementRead) -> usize {
+fn reply(out: &mut [u8], line: &[u8], l: Option<Name>, s: Result<Statement, Failure>) -> usize {
     match s {
-        StatementRead::Passes(said) => saying(out, line, l, said),
-        StatementRead::Fails(f) => refused(out, line, l, number_of(f)),
+        Ok(said) => saying(out, line, l, said),
+        Err(f) => refused(out, line, l, number_of(f)),
     }
 }
 

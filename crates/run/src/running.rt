@@ -1,9 +1,9 @@
 // A run, its output on standard output and its record on standard error.
 ghost use Rattle.std.specs.Prelude.{◌≡◌, length};
 
+use record::NotRecorded;
 use desk::printing::{write, write_error};
 use machine::{Ran, Registers};
-use record::Recorded;
 use std::io::Write;
 
 // The longest record. The `ensures` gives the length, which lending needs.
@@ -16,11 +16,11 @@ fn record_room() -> [u8; 400]
 fn print_record(errors: &mut impl Write, ran: Ran) {
     let mut text = record_room();
     match record::recording::write_record(ran, &mut text) {
-        Recorded::Done(n) => {
+        Ok(n) => {
             write_error(errors, &text, n);
         }
-        Recorded::TooFar => cannot_print(errors),
-        Recorded::RoomShort => cannot_print(errors),
+        Err(NotRecorded::TooFar) => cannot_print(errors),
+        Err(NotRecorded::RoomShort) => cannot_print(errors),
     }
 }
 

@@ -17,8 +17,7 @@ use Rattle.statements.proofs.Labelling.{never}
 use Rattle.labels.specs.Inner.Labels.{window, words, labels_before, zipped}
 use Rattle.labels.proofs.Laws.{length-words}
 use Rattle.uses.specs.Inner.Held.{counted_by, use_held, use_at, uses_held}
-use Rattle.settling.specs.declared.Word.{Word}
-use Rattle.settling.specs.declared.Word.TheVariants as W
+use Rattle.std.proofs.Common.{Result, Ok, Err}
 use Rattle.settling.specs.Inner.Settling.{Reaches, Tells}
 
 -- ---- a label's value
@@ -109,25 +108,25 @@ module _ (bs : List Bound) (s : List ℕ) (start size cell away : ℕ) where
   abbrev value : Value
   value = value_of bs (window s start size)
 
-  abbrev Told : Word → Type 0
+  abbrev Told : Result ℕ ℕ → Type 0
   Told r = Tells (λ k. use_verdict bs (held k)) (counted_word (counted_by cell away) value) r
 
   -- no label has the name
-  pub tells_none : (f : ℕ) → value ≡ unknown → f ≡ 13 → Told (W.No f)
+  pub tells_none : (f : ℕ) → value ≡ unknown → f ≡ 13 → Told (Err f)
   tells_none f e g = λ k. none_such bs (held k) e ∙ ap (λ (x : ℕ). refused (x on k)) (sym g)
 
   -- the value stands as it is
-  pub tells-plain : (v : ℕ) → value ≡ known v → away ≡ 0 → Told (W.Is v)
+  pub tells-plain : (v : ℕ) → value ≡ known v → away ≡ 0 → Told (Ok v)
   tells-plain v e h =
       let p = eq-eqb away 0 h in
       ((λ k. fits bs (held k) v e (rw p)), rw (p, e))
 
   -- the value is counted from the address after the instruction
-  pub tells-far : (v : ℕ) → value ≡ known v → (away ≡ 0 → ⊥) → (r : Word) → Reaches v (cell + away) r → Told r
-  tells-far v e h (W.Is x) (t, g) =
+  pub tells-far : (v : ℕ) → value ≡ known v → (away ≡ 0 → ⊥) → (r : Result ℕ ℕ) → Reaches v (cell + away) r → Told r
+  tells-far v e h (Ok x) (t, g) =
       let p = ne_eqb away 0 h in
       ((λ k. fits bs (held k) v e (rw p t)), rw (p, e) g)
-  tells-far v e h (W.No f) (t, g) =
+  tells-far v e h (Err f) (t, g) =
       let p = ne_eqb away 0 h in
       λ k. too_far_lem bs (held k) v e (rw p t) ∙ ap (λ (x : ℕ). refused (x on k)) (sym g)
 
@@ -190,7 +189,7 @@ module _ (bs : List Bound) (s row aways : List ℕ) (i : ℕ) where
   settles n = uses_verdict bs (uses_held s row aways n)
 
   -- what its word, found, says
-  abbrev Said : Word → Type 0
+  abbrev Said : Result ℕ ℕ → Type 0
   Said r = Told bs s (get_or row (4 * i) 0) (get_or row (4 * i + 1) 0) use'.cell (get_or aways i 0) r
 
   -- what holds of the labels up to it, whatever comes behind it, holds of the labels up to any one behind it
@@ -207,7 +206,7 @@ module _ (bs : List Bound) (s row aways : List ℕ) (i : ℕ) where
       (whatever_behind (λ us. P (us ++ last)) (λ vs. subst P (sym (append_assoc (uses_held s row aways i) (use' ∷ vs) last)) (h (vs ++ last))) n)
 
   -- its refusal is that of all of them
-  pub all-refused : (n f before : ℕ) (r : Word) → i < n → settles i ≡ passes → Second bs s row aways i before → Said r → r ≡ W.No f
+  pub all-refused : (n f before : ℕ) (r : Result ℕ ℕ) → i < n → settles i ≡ passes → Second bs s row aways i before → Said r → r ≡ Err f
       → (settles n ≡ refused (f on use'.line)) × (eqb use'.line before ≡ second_refused 0 bs (uses_held s row aways n))
   all-refused n f before r h e b g k =
       let q : suc (i + (n - suc i)) ≡ n = omega (arith, h) in
@@ -222,7 +221,7 @@ module _ (bs : List Bound) (s row aways : List ℕ) (i : ℕ) where
       ))
       (n - suc i))
 
-  module _ (x : ℕ) (r : Word) (g : Said r) (k : r ≡ W.Is x) where
+  module _ (x : ℕ) (r : Result ℕ ℕ) (g : Said r) (k : r ≡ Ok x) where
     one-fits : use_verdict bs use' ≡ passes
     one-fits = (subst Said k g).0 use'.line
 

@@ -7,16 +7,10 @@ use sources::Line;
 pub mod settle; // all of them, in order
 mod words; // the word that a label stands for
 
-// The word that a label stands for, or a refusal's number.
-#[derive(Clone, Copy)]
-enum Word {
-    Is(u16),
-    No(u8),
-}
-
-// Every label has its word in its cell; or the first refusal, with its line, and whether the label is the second that this line names.
-#[derive(Clone, Copy)]
-pub enum Settled {
-    Done,
-    Refused(u8, Line, bool),
+// The first refusal, with its line, and whether the label is the second that this line names.
+#[derive(Clone, Copy, Debug, PartialEq, Eq)]
+pub struct Unsettled {
+    pub number: u8,
+    pub line: Line,
+    pub second: bool,
 }

@@ -4,8 +4,8 @@ ghost use Rattle.labels.specs.Inner.Labels.{labels_in, Reach};
 ghost use Rattle.uses.specs.Inner.Held.{uses_held, Room, most_uses};
 ghost use Rattle.settling.specs.Inner.Settling.{SettlesUses};
 
+use super::Unsettled;
 use super::words::word;
-use super::{Settled, Word};
 use sources::Line;
 use uses::cells::put;
 
@@ -19,7 +19,7 @@ pub fn settle(
     aways: &[u8],
     uses: usize,
     cells: &mut [u16],
-) -> Settled
+) -> Result<(), Unsettled>
     requires { Reach count starts.now keys.now values.now × (uses < most_uses) × Room uses row.now aways.now }
     ensures { SettlesUses (labels_in s.now starts.now keys.now values.now count)
         (uses_held s.now row.now aways.now uses) cells.old cells.new result }
@@ -34,15 +34,15 @@ pub fn settle(
         let line = row[base + 3] as usize;
         let away = aways[i] as usize;
         match word(s, starts, keys, values, count, start, size, cell, away) {
-            Word::No(f) => {
-                return Settled::Refused(f, Line(line), line == before);
+            Err(f) => {
+                return Err(Unsettled { number: f, line: Line(line), second: line == before });
             }
-            Word::Is(w) => {
+            Ok(w) => {
                 put(cells, cell, w);
             }
         }
         before = line;
         i += 1;
     }
-    Settled::Done
+    Ok(())
 }

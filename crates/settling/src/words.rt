@@ -5,7 +5,6 @@ ghost use Rattle.labels.specs.Inner.Labels.{window, labels_in, Reach, farthest, 
 ghost use Rattle.sources.specs.Uses.{value_of};
 ghost use Rattle.settling.specs.Inner.Settling.{Finds, Reaches, TellsUse};
 
-use super::Word;
 use labels::finding::find;
 
 // A name's value among the labels.
@@ -17,30 +16,30 @@ fn look_up(
     count: usize,
     start: usize,
     size: usize,
-) -> Word
+) -> Result<u16, u8>
     requires { (start < farthest) × InCell size × Reach count starts.now keys.now values.now }
     ensures { Finds (value_of (labels_in s.now starts.now keys.now values.now count) (window s.now start size)) result }
 {
     let k = find(s, starts, keys, count, s, start, size);
     if k < count {
-        return Word::Is(values[k]);
+        return Ok(values[k]);
     }
-    Word::No(13)
+    Err(13)
 }
 
 // A value less the address after the instruction, if it lies from -32768 to 32767.
-fn distance(value: u16, next: usize) -> Word
+fn distance(value: u16, next: usize) -> Result<u16, u8>
     requires { next ≤ most_cells + 254 }
     ensures { Reaches value next result }
 {
     let v = value as usize;
     if v + 32768 < next {
-        return Word::No(14);
+        return Err(14);
     }
     if next + 32767 < v {
-        return Word::No(14);
+        return Err(14);
     }
-    Word::Is(((v + 65536 - next) % 65536) as u16)
+    Ok(((v + 65536 - next) % 65536) as u16)
 }
 
 // The word of a label that is held, and how far the address after its instruction lies behind its cell.
@@ -54,15 +53,15 @@ pub(crate) fn word(
     size: usize,
     cell: usize,
     away: usize,
-) -> Word
+) -> Result<u16, u8>
     requires { (start < farthest) × InCell size × Reach count starts.now keys.now values.now × InCell cell × (away < 256) }
     ensures { TellsUse (labels_in s.now starts.now keys.now values.now count) s.now start size cell away result }
 {
     match look_up(s, starts, keys, values, count, start, size) {
-        Word::No(f) => Word::No(f),
-        Word::Is(v) => {
+        Err(f) => Err(f),
+        Ok(v) => {
             if away == 0 {
-                return Word::Is(v);
+                return Ok(v);
             }
             distance(v, cell + away)
         }

@@ -12,8 +12,10 @@ use Rattle.tokens.specs.Reading.{lines_of, tokens_from}
 use Rattle.tokens.proofs.Top.{source_lines, one_list, line_row, one-row}
 use Rattle.tokens.proofs.Spacing.{Over, over-row}
 use Rattle.tokens.proofs.Respacing.{line-itself}
-use Rattle.values.specs.declared.LabelIn.{LabelIn}
-use Rattle.values.specs.declared.LabelIn.TheVariants.{Absent, Named}
+use Rattle.std.proofs.Common.{Option, Some, None, Result, Ok, Err}
+use Rattle.statements.specs.declared.Statement.{Statement}
+use Rattle.statements.specs.declared.Failure.{Failure}
+use Rattle.values.specs.declared.Name.{Name}
 use Rattle.values.proofs.Spacing as L
 use Rattle.values.proofs.Spacing.{AlikeLabel, AlikeList, some}
 use Rattle.operands.specs.declared.Given.{Given}
@@ -21,8 +23,6 @@ use Rattle.statements.specs.Judging.{number_of}
 use Rattle.statements.specs.Reading.{label_read, after_label, statement_read, line_read}
 use Rattle.statements.specs.Statements.{end, Says}
 use Rattle.statements.specs.declared.Statement.TheVariants as S
-use Rattle.statements.specs.declared.StatementRead.{StatementRead}
-use Rattle.statements.specs.declared.StatementRead.TheVariants.{Passes, Fails}
 use Rattle.statements.proofs.Labelling.{never}
 use Rattle.statements.proofs.Spacing.{ReadAlike, end_read}
 use Rattle.codes.specs.Limits.{longest_source}
@@ -69,14 +69,14 @@ answer-same m m' k k' (refuse n x x') e f = refusal n x x'
 -- ---- a line as another line's number would have it
 
 module _ (k k' : ℕ) where
-  label-near : (p : Place) (bytes : List ℕ) (l : LabelIn) → SameVerdict (label_verdict k p bytes l) (label_verdict k' p bytes l)
+  label-near : (p : Place) (bytes : List ℕ) (l : Option Name) → SameVerdict (label_verdict k p bytes l) (label_verdict k' p bytes l)
   unfolding name_verdict
-  label-near p bytes Absent = pass
-  label-near p bytes (Named n) = first-same (one 10 k k' _ (one 9 k k' _ none))
+  label-near p bytes None = pass
+  label-near p bytes (Some n) = first-same (one 10 k k' _ (one 9 k k' _ none))
 
-  own-near : (r : StatementRead) → SameVerdict (own_verdict k r) (own_verdict k' r)
-  own-near (Passes s) = pass
-  own-near (Fails why) = refuse (number_of why) k k'
+  own-near : (r : Result Statement Failure) → SameVerdict (own_verdict k r) (own_verdict k' r)
+  own-near (Ok s) = pass
+  own-near (Err why) = refuse (number_of why) k k'
 
   act-near : (M : ℕ) (p : Place) (a : Act) → SameVerdict (act_verdict M k p a) (act_verdict M k' p a)
   unfolding act_verdict
@@ -107,21 +107,21 @@ uses-join (some e g) h = some e (uses-join g h)
 use_near : (k k' cell next : ℕ) (bytes : List ℕ) (g : Given) → SameUses (use_of k bytes cell next g) (use_of k' bytes cell next g)
 use_near k k' cell next bytes g = go g.label
   where
-    go : (l : LabelIn)
+    go : (l : Option Name)
         → SameUses (use_by k bytes cell next g.operand l) (use_by k' bytes cell next g.operand l)
-    go Absent = L.none
-    go (Named n) = some (record { name = refl; cell = refl; counted = refl }) L.none
+    go None = L.none
+    go (Some n) = some (record { name = refl; cell = refl; counted = refl }) L.none
 
-uses-near : (k k' at : ℕ) (bytes : List ℕ) (r : StatementRead) → SameUses (uses_read k bytes at r) (uses_read k' bytes at r)
+uses-near : (k k' at : ℕ) (bytes : List ℕ) (r : Result Statement Failure) → SameUses (uses_read k bytes at r) (uses_read k' bytes at r)
 unfolding uses_by
-uses-near k k' at bytes (Passes S.Nothing) = L.none
-uses-near k k' at bytes (Passes (S.Instruction op a b)) = uses-join (use_near k k' _ _ bytes a) (use_near k k' _ _ bytes b)
-uses-near k k' at bytes (Passes (S.Org v)) = L.none
-uses-near k k' at bytes (Passes (S.Equ v)) = L.none
-uses-near k k' at bytes (Passes (S.Res v)) = L.none
-uses-near k k' at bytes (Passes (S.Data n)) = L.none
-uses-near k k' at bytes (Passes S.End) = L.none
-uses-near k k' at bytes (Fails why) = L.none
+uses-near k k' at bytes (Ok S.Nothing) = L.none
+uses-near k k' at bytes (Ok (S.Instruction op a b)) = uses-join (use_near k k' _ _ bytes a) (use_near k k' _ _ bytes b)
+uses-near k k' at bytes (Ok (S.Org v)) = L.none
+uses-near k k' at bytes (Ok (S.Equ v)) = L.none
+uses-near k k' at bytes (Ok (S.Res v)) = L.none
+uses-near k k' at bytes (Ok (S.Data n)) = L.none
+uses-near k k' at bytes (Ok S.End) = L.none
+uses-near k k' at bytes (Err why) = L.none
 
 use_verdict_near : (bs : List Bound) (u u' : Use) → SameUse u u' → SameVerdict (use_verdict bs u) (use_verdict bs u')
 unfolding use_verdict
@@ -161,7 +161,7 @@ worked-near k k' w w' x h =
 
 -- what it says: no label, and nothing
 abbrev Idle : List ℕ → Type 0
-Idle c = line_read c ≡ record { label = Absent; statement = Passes S.Nothing }
+Idle c = line_read c ≡ record { label = None; statement = Ok S.Nothing }
 
 over-idle : {c : List ℕ} → Over c → Idle c
 unfolding line_read label_read after_label statement_read
@@ -217,7 +217,7 @@ pub data SameText : List (List ℕ) → List (List ℕ) → Type 0 where
   line : {b b' : List ℕ} {bs bs' : List (List ℕ)} → SameTokens b b' → SameText bs bs' → SameText (b ∷ bs) (b' ∷ bs')
   added : {c : List ℕ} {bs bs' : List (List ℕ)} → Over c → SameText bs bs' → SameText bs (c ∷ bs')
   dropped : {c : List ℕ} {bs bs' : List (List ℕ)} → Over c → SameText bs bs' → SameText (c ∷ bs) bs'
-  ends : {b b' : List ℕ} {bs bs' : List (List ℕ)} {l l' : LabelIn} → Says b l end → Says b' l' end → AlikeLabel b b' l l'
+  ends : {b b' : List ℕ} {bs bs' : List (List ℕ)} {l l' : Option Name} → Says b l end → Says b' l' end → AlikeLabel b b' l l'
       → SameText (b ∷ bs) (b' ∷ bs')
 
 cut-near : (y y' : Bool) → y ≡ y' → {bs bs' : List (List ℕ)} → Texts bs bs' → Texts (cond y [] bs) (cond y' [] bs')

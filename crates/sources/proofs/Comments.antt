@@ -16,16 +16,18 @@ use Rattle.tokens.specs.Reading.{lines_of, tokens_from}
 use Rattle.tokens.proofs.Top.{source_lines, one_list, line_row}
 use Rattle.tokens.proofs.Spacing.{Over}
 use Rattle.tokens.proofs.Respacing.{NoStray, line-itself, comment-added}
-use Rattle.values.specs.declared.LabelIn.{LabelIn}
+use Rattle.std.proofs.Common.{Option, Result, Ok, Err}
+use Rattle.operands.specs.declared.Operands.{Operands}
+use Rattle.values.specs.declared.Name.{Name}
+use Rattle.expressions.specs.declared.Fault.TheVariants.{OutOfRange, ByZero}
+use Rattle.operands.specs.declared.OperandsFault.{OperandsFault}
+use Rattle.operands.specs.declared.OperandsFault.TheVariants.{WrongForm, WrongCount, WrongKind, OutOfRange}
 use Rattle.values.proofs.Spacing.{none, some}
 use Rattle.codes.specs.Limits.{deepest}
 use Rattle.expressions.specs.Trees.{Tree, depth}
 use Rattle.expressions.specs.Worths.{worth_of}
-use Rattle.expressions.specs.declared.Worth.{Worth}
-use Rattle.expressions.specs.declared.Worth.TheVariants as E
+use Rattle.expressions.specs.Worths.{Worth}
 use Rattle.operands.specs.Checks as Operands
-use Rattle.operands.specs.declared.InstructionRead.{InstructionRead}
-use Rattle.operands.specs.declared.InstructionRead.TheVariants as I
 use Rattle.items.specs.Items.{cells_of, all_in_range}
 use Rattle.statements.specs.Checks.{result_in, least_unsigned, least_signed}
 use Rattle.statements.specs.Judging.{result_of, worth_result, tree_result, instruction_result, judged}
@@ -35,8 +37,6 @@ use Rattle.statements.specs.declared.Failure.{Failure}
 use Rattle.statements.specs.declared.Failure.TheVariants.{OutOfRange, TooDeep, ResultOut}
 use Rattle.statements.specs.declared.Statement.{Statement}
 use Rattle.statements.specs.declared.Statement.TheVariants as S
-use Rattle.statements.specs.declared.StatementRead.{StatementRead}
-use Rattle.statements.specs.declared.StatementRead.TheVariants.{Passes, Fails}
 use Rattle.statements.proofs.Labelling.{never}
 use Rattle.statements.proofs.Spacing.{ReadAlike, alike_read}
 use Rattle.statements.proofs.Top.{says-exactly}
@@ -52,36 +52,36 @@ use Rattle.sources.proofs.EndLines.{end-comment}
 -- ---- what comes to END says END
 
 module _ (least : ℤ) (makes : ℕ → Statement) (n : (v : ℕ) → makes v ≡ S.End → ⊥) where
-  kept_no_end : (y : Bool) (v : ℕ) (why : Failure) → cond y (Passes (makes v)) (Fails why) ≡ Passes S.End → ⊥
+  kept_no_end : (y : Bool) (v : ℕ) (why : Failure) → cond y (Ok (makes v)) (Err why) ≡ Ok S.End → ⊥
   kept_no_end true v why e = n v (cc e)
   kept_no_end false v why e = never (cc e)
 
-  worth_no_end : (w : Worth) → worth_result least makes w ≡ Passes S.End → ⊥
+  worth_no_end : (w : Worth) → worth_result least makes w ≡ Ok S.End → ⊥
   unfolding result_of
-  worth_no_end (E.Is z) e = kept_no_end (result_in least z) (of_z w16 z) ResultOut e
-  worth_no_end E.OutOfRange e = never (cc e)
-  worth_no_end E.ByZero e = never (cc e)
+  worth_no_end (Ok z) e = kept_no_end (result_in least z) (of_z w16 z) ResultOut e
+  worth_no_end (Err OutOfRange) e = never (cc e)
+  worth_no_end (Err ByZero) e = never (cc e)
 
-  deep_no_end : (y : Bool) (w : Worth) (why : Failure) → cond y (worth_result least makes w) (Fails why) ≡ Passes S.End → ⊥
+  deep_no_end : (y : Bool) (w : Worth) (why : Failure) → cond y (worth_result least makes w) (Err why) ≡ Ok S.End → ⊥
   deep_no_end true w why e = worth_no_end w e
   deep_no_end false w why e = never (cc e)
 
-  tree_no_end : (t : Tree) → tree_result least makes t ≡ Passes S.End → ⊥
+  tree_no_end : (t : Tree) → tree_result least makes t ≡ Ok S.End → ⊥
   unfolding tree_result
   tree_no_end t e = deep_no_end (leb (depth t) deepest) (worth_of t) TooDeep e
 
-instruction_no_end : (op : Opcode) (r : InstructionRead) → instruction_result op r ≡ Passes S.End → ⊥
-instruction_no_end op (I.Read a b) e = never (cc e)
-instruction_no_end op I.WrongForm e = never (cc e)
-instruction_no_end op I.WrongCount e = never (cc e)
-instruction_no_end op (I.WrongKind place) e = never (cc e)
-instruction_no_end op I.OutOfRange e = never (cc e)
+instruction_no_end : (op : Opcode) (r : Result Operands OperandsFault) → instruction_result op r ≡ Ok S.End → ⊥
+instruction_no_end op (Ok r) e = never (cc e)
+instruction_no_end op (Err WrongForm) e = never (cc e)
+instruction_no_end op (Err WrongCount) e = never (cc e)
+instruction_no_end op (Err (WrongKind place)) e = never (cc e)
+instruction_no_end op (Err OutOfRange) e = never (cc e)
 
-data_no_end : (y : Bool) (n : ℕ) (why : Failure) → cond y (Passes (S.Data n)) (Fails why) ≡ Passes S.End → ⊥
+data_no_end : (y : Bool) (n : ℕ) (why : Failure) → cond y (Ok (S.Data n)) (Err why) ≡ Ok S.End → ⊥
 data_no_end true n why e = never (cc e)
 data_no_end false n why e = never (cc e)
 
-judged-end : (r : Reading) → judged r ≡ Passes S.End → r ≡ end
+judged-end : (r : Reading) → judged r ≡ Ok S.End → r ≡ end
 unfolding judged
 judged-end nothing e = never (cc e)
 judged-end (instruction op os) e = absurd (instruction_no_end op (Operands.judged op os) e)
@@ -91,10 +91,10 @@ judged-end (res t) e = absurd (tree_no_end least_unsigned S.Res (λ v q. never (
 judged-end (cells is) e = absurd (data_no_end (all_in_range is) (length (cells_of is)) OutOfRange e)
 judged-end end e = refl
 
-says-end : (b : List ℕ) → (line_read b).statement ≡ Passes S.End → (l : LabelIn) × Says b l end
+says-end : (b : List ℕ) → (line_read b).statement ≡ Ok S.End → (l : Option Name) × Says b l end
 says-end b e =
-    let f : line_read b ≡ record { label = (line_read b).label; statement = Passes S.End } =
-    ap (λ (x : StatementRead). record { label = (line_read b).label; statement = x }) e in
+    let f : line_read b ≡ record { label = (line_read b).label; statement = Ok S.End } =
+    ap (λ (x : Result Statement Failure). record { label = (line_read b).label; statement = x }) e in
     let h = (says-exactly b).0 f in
     ((line_read b).label, subst (Says b (line_read b).label) (judged-end h.0 h.2) h.1)
 
@@ -104,11 +104,11 @@ both-pass : (v w : Verdict) → and_then v w ≡ passes → (v ≡ passes) × (w
 both-pass passes w e = (refl, e)
 both-pass (refused why) w e = never (cc e)
 
-own-passes : (k : ℕ) (r : StatementRead) → own_verdict k r ≡ passes → (s : Statement) × (r ≡ Passes s)
-own-passes k (Passes s) e = (s, refl)
-own-passes k (Fails why) e = never (cc e)
+own-passes : (k : ℕ) (r : Result Statement Failure) → own_verdict k r ≡ passes → (s : Statement) × (r ≡ Ok s)
+own-passes k (Ok s) e = (s, refl)
+own-passes k (Err why) e = never (cc e)
 
-line-passes : (M k : ℕ) (p : Place) (b : List ℕ) → line_verdict M k p (read_line b) ≡ passes → (s : Statement) × ((line_read b).statement ≡ Passes s)
+line-passes : (M k : ℕ) (p : Place) (b : List ℕ) → line_verdict M k p (read_line b) ≡ passes → (s : Statement) × ((line_read b).statement ≡ Ok s)
 unfolding line_verdict
 line-passes M k p b e =
     let act = act_verdict M k (labelled p b (line_read b).label) (does_read (line_read b).statement) in
@@ -128,13 +128,13 @@ loan-short M N source e = ltb-false longest_source (length source)
 -- ---- a whole line among others
 
 -- a line that passes reads alike with a comment or blanks at its end
-passing-alike : (b tail : List ℕ) → Over tail → (s : Statement) → (line_read b).statement ≡ Passes s → ReadAlike b (b ++ tail)
+passing-alike : (b tail : List ℕ) → Over tail → (s : Statement) → (line_read b).statement ≡ Ok s → ReadAlike b (b ++ tail)
 passing-alike b tail o s e = go s e
   where
     whole : NoStray (tokens_from b 0) → ReadAlike b (b ++ tail)
     whole n = alike_read (comment-added true tail (line_row b) n o)
 
-    go : (s : Statement) → (line_read b).statement ≡ Passes s → ReadAlike b (b ++ tail)
+    go : (s : Statement) → (line_read b).statement ≡ Ok s → ReadAlike b (b ++ tail)
     go S.Nothing e = whole (line-whole b e (λ q. never (cc q)))
     go (S.Instruction op x y) e = whole (line-whole b e (λ q. never (cc q)))
     go (S.Org v) e = whole (line-whole b e (λ q. never (cc q)))
@@ -151,7 +151,7 @@ lists-itself [] = none
 lists-itself (b ∷ bs) = some (read-itself b) (lists-itself bs)
 
 -- one line for another that reads alike if it passes
-module _ (M : ℕ) (b b' : List ℕ) (ys : List (List ℕ)) (reads : (s : Statement) → (line_read b).statement ≡ Passes s → ReadAlike b b') where
+module _ (M : ℕ) (b b' : List ℕ) (ys : List (List ℕ)) (reads : (s : Statement) → (line_read b).statement ≡ Ok s → ReadAlike b b') where
   changed : (k : ℕ) (p : Place) (xs : List (List ℕ)) → walk_lines M k p (up_to_end (xs ++ (b ∷ ys))) ≡ passes
       → Lists (up_to_end (xs ++ (b ∷ ys))) (up_to_end (xs ++ (b' ∷ ys)))
   unfolding up_to_end walk_lines

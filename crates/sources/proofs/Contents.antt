@@ -18,19 +18,21 @@ use Rattle.isa.specs.declared.Opcode.{Opcode}
 use Rattle.isa.specs.declared.Operand.{Operand}
 use Rattle.isa.specs.declared.Operand.TheVariants as O
 use Rattle.tokens.specs.Reading.{tokens_from}
-use Rattle.values.specs.declared.LabelIn.{LabelIn}
-use Rattle.values.specs.declared.LabelIn.TheVariants as L
+use Rattle.std.proofs.Common.{Option, Some, None, Result, Ok, Err}
+use Rattle.statements.specs.declared.Failure.{Failure}
+use Rattle.operands.specs.declared.Operands.{Operands}
+use Rattle.values.specs.declared.Name.{Name}
+use Rattle.expressions.specs.declared.Fault.TheVariants.{OutOfRange, ByZero}
+use Rattle.operands.specs.declared.OperandsFault.{OperandsFault}
+use Rattle.operands.specs.declared.OperandsFault.TheVariants.{WrongForm, WrongCount, WrongKind, OutOfRange}
 use Rattle.codes.specs.Limits.{deepest}
 use Rattle.expressions.specs.Trees.{Tree, depth}
 use Rattle.expressions.specs.Worths.{worth_of}
-use Rattle.expressions.specs.declared.Worth.{Worth}
-use Rattle.expressions.specs.declared.Worth.TheVariants as E
+use Rattle.expressions.specs.Worths.{Worth}
 use Rattle.operands.specs.Checks.{operand_at, label_in, given}
 use Rattle.operands.specs.Checks as Operands
 use Rattle.operands.specs.Settling.{settled_by, settled_operand, settled_instruction}
 use Rattle.operands.specs.declared.Given.{Given}
-use Rattle.operands.specs.declared.InstructionRead.{InstructionRead}
-use Rattle.operands.specs.declared.InstructionRead.TheVariants as I
 use Rattle.operands.specs.declared.Written.{Written}
 use Rattle.operands.specs.declared.Written.TheVariants as W
 use Rattle.operands.proofs.Top as operands
@@ -43,8 +45,6 @@ use Rattle.statements.specs.declared.Failure.TheVariants as F
 use Rattle.statements.specs.declared.LineRead.{LineRead}
 use Rattle.statements.specs.declared.Statement.{Statement}
 use Rattle.statements.specs.declared.Statement.TheVariants as S
-use Rattle.statements.specs.declared.StatementRead.{StatementRead}
-use Rattle.statements.specs.declared.StatementRead.TheVariants.{Passes, Fails}
 use Rattle.statements.proofs.Labelling.{never}
 use Rattle.statements.proofs.Passing.{instruction-from}
 use Rattle.statements.proofs.Top as statements
@@ -58,51 +58,51 @@ use Rattle.sources.proofs.Stores.{set-inside, zeros_stay}
 -- ---- which reading passes as which statement
 
 -- an expression that passes says its result
-tree_makes : (least : ℤ) (makes : ℕ → Statement) (e : Tree) {s : Statement} → tree_result least makes e ≡ Passes s → (v : ℕ) × (s ≡ makes v)
+tree_makes : (least : ℤ) (makes : ℕ → Statement) (e : Tree) {s : Statement} → tree_result least makes e ≡ Ok s → (v : ℕ) × (s ≡ makes v)
 unfolding tree_result result_of
 tree_makes least makes e {s} h = by_depth (leb (depth e) deepest) h
   where
-    by_result : (z : ℤ) (b : Bool) → cond b (Passes (makes (of_z w16 z))) (Fails F.ResultOut) ≡ Passes s → (v : ℕ) × (s ≡ makes v)
+    by_result : (z : ℤ) (b : Bool) → cond b (Ok (makes (of_z w16 z))) (Err F.ResultOut) ≡ Ok s → (v : ℕ) × (s ≡ makes v)
     by_result z true q = (of_z w16 z, cc)
     by_result z false q = never (cc)
 
-    by_worth : (w : Worth) → worth_result least makes w ≡ Passes s → (v : ℕ) × (s ≡ makes v)
-    by_worth (E.Is z) q = by_result z (result_in least z) q
-    by_worth E.OutOfRange q = never (cc)
-    by_worth E.ByZero q = never (cc)
+    by_worth : (w : Worth) → worth_result least makes w ≡ Ok s → (v : ℕ) × (s ≡ makes v)
+    by_worth (Ok z) q = by_result z (result_in least z) q
+    by_worth (Err OutOfRange) q = never (cc)
+    by_worth (Err ByZero) q = never (cc)
 
-    by_depth : (b : Bool) → cond b (worth_result least makes (worth_of e)) (Fails F.TooDeep) ≡ Passes s → (v : ℕ) × (s ≡ makes v)
+    by_depth : (b : Bool) → cond b (worth_result least makes (worth_of e)) (Err F.TooDeep) ≡ Ok s → (v : ℕ) × (s ≡ makes v)
     by_depth true q = by_worth (worth_of e) q
     by_depth false q = never (cc)
 
 -- a reading and the statement that it passes as
 pub data PassesAs : Reading → Statement → Type 0 where
   as_nothing : PassesAs nothing S.Nothing
-  as_instruction : {op : Opcode} {os : List Written} {a b : Given} → Operands.judged op os ≡ I.Read a b
+  as_instruction : {op : Opcode} {os : List Written} {a b : Given} → Operands.judged op os ≡ Ok (record { first = a; second = b })
       → PassesAs (instruction op os) (S.Instruction op a b)
   as_org : {t : Tree} {v : ℕ} → PassesAs (org t) (S.Org v)
   as_equ : {t : Tree} {v : ℕ} → PassesAs (equ t) (S.Equ v)
-  as_res : {t : Tree} {v : ℕ} → judged (res t) ≡ Passes (S.Res v) → PassesAs (res t) (S.Res v)
+  as_res : {t : Tree} {v : ℕ} → judged (res t) ≡ Ok (S.Res v) → PassesAs (res t) (S.Res v)
   as_cells : {is : List Item} → all_in_range is ≡ true → PassesAs (cells is) (S.Data (length (cells_of is)))
   as_end : PassesAs end S.End
 
-pub passes_as : (r : Reading) {s : Statement} → judged r ≡ Passes s → PassesAs r s
+pub passes_as : (r : Reading) {s : Statement} → judged r ≡ Ok s → PassesAs r s
 unfolding judged
 passes_as nothing {s} e = let q : S.Nothing ≡ s = cc in subst (PassesAs nothing) q as_nothing
 passes_as (instruction op os) {s} e = go (Operands.judged op os) refl e
   where
-    go : (i : InstructionRead) → Operands.judged op os ≡ i → instruction_result op i ≡ Passes s → PassesAs (instruction op os) s
-    go (I.Read a b) f q = let t : S.Instruction op a b ≡ s = cc in subst (PassesAs (instruction op os)) t (as_instruction f)
-    go I.WrongForm f q = never (cc)
-    go I.WrongCount f q = never (cc)
-    go (I.WrongKind place) f q = never (cc)
-    go I.OutOfRange f q = never (cc)
+    go : (i : Result Operands OperandsFault) → Operands.judged op os ≡ i → instruction_result op i ≡ Ok s → PassesAs (instruction op os) s
+    go (Ok r) f q = let t : S.Instruction op r.first r.second ≡ s = cc in subst (PassesAs (instruction op os)) t (as_instruction f)
+    go (Err WrongForm) f q = never (cc)
+    go (Err WrongCount) f q = never (cc)
+    go (Err (WrongKind place)) f q = never (cc)
+    go (Err OutOfRange) f q = never (cc)
 passes_as (org t) e = let h = tree_makes least_unsigned S.Org t e in subst (PassesAs (org t)) (sym h.1) as_org
 passes_as (equ t) e = let h = tree_makes least_signed S.Equ t e in subst (PassesAs (equ t)) (sym h.1) as_equ
-passes_as (res t) e = let h = tree_makes least_unsigned S.Res t e in subst (PassesAs (res t)) (sym h.1) (as_res (e ∙ ap Passes h.1))
+passes_as (res t) e = let h = tree_makes least_unsigned S.Res t e in subst (PassesAs (res t)) (sym h.1) (as_res (e ∙ ap Ok h.1))
 passes_as (cells is) {s} e = go (all_in_range is) refl e
   where
-    go : (b : Bool) → all_in_range is ≡ b → cond b (Passes (S.Data (length (cells_of is)))) (Fails F.OutOfRange) ≡ Passes s → PassesAs (cells is) s
+    go : (b : Bool) → all_in_range is ≡ b → cond b (Ok (S.Data (length (cells_of is)))) (Err F.OutOfRange) ≡ Ok s → PassesAs (cells is) s
     go true f q = let t : S.Data (length (cells_of is)) ≡ s = cc in subst (PassesAs (cells is)) t (as_cells f)
     go false f q = never (cc)
 passes_as end {s} e = let q : S.End ≡ s = cc in subst (PassesAs end) q as_end
@@ -134,8 +134,8 @@ marked-cells S.End h e = omega arith
 -- ---- an operand's word
 
 -- an operand that is not there names no label
-abbrev pub Worded : LabelIn → Operand → Type 0
-Worded l O.Absent = l ≡ L.Absent
+abbrev pub Worded : Option Name → Operand → Type 0
+Worded l O.Absent = l ≡ None
 Worded l (O.Immediate v) = Unit {0}
 Worded l (O.Register r) = Unit {0}
 Worded l (O.Memory a) = Unit {0}
@@ -159,30 +159,30 @@ given-worded (W.IndexedSp v) x = tt
 given-worded (W.Relative v) x = tt
 
 -- no mode changes with an operand's word
-same-mode : (l : LabelIn) (o : Operand) (w : ℕ) → mode_of (settled_by l o w) ≡ mode_of o
-same-mode L.Absent o w = refl
-same-mode (L.Named n) O.Absent w = refl
-same-mode (L.Named n) (O.Immediate v) w = refl
-same-mode (L.Named n) (O.Register r) w = refl
-same-mode (L.Named n) (O.Memory a) w = refl
-same-mode (L.Named n) (O.Indirect r) w = refl
-same-mode (L.Named n) (O.IndexedX d) w = refl
-same-mode (L.Named n) (O.IndexedY d) w = refl
-same-mode (L.Named n) (O.IndexedSp d) w = refl
-same-mode (L.Named n) (O.Relative d) w = refl
+same-mode : (l : Option Name) (o : Operand) (w : ℕ) → mode_of (settled_by l o w) ≡ mode_of o
+same-mode None o w = refl
+same-mode (Some n) O.Absent w = refl
+same-mode (Some n) (O.Immediate v) w = refl
+same-mode (Some n) (O.Register r) w = refl
+same-mode (Some n) (O.Memory a) w = refl
+same-mode (Some n) (O.Indirect r) w = refl
+same-mode (Some n) (O.IndexedX d) w = refl
+same-mode (Some n) (O.IndexedY d) w = refl
+same-mode (Some n) (O.IndexedSp d) w = refl
+same-mode (Some n) (O.Relative d) w = refl
 
 -- nor the number of its words
-same_length : (l : LabelIn) (o : Operand) (w : ℕ) → length (operand_words (settled_by l o w)) ≡ length (operand_words o)
-same_length L.Absent o w = refl
-same_length (L.Named n) O.Absent w = refl
-same_length (L.Named n) (O.Immediate v) w = refl
-same_length (L.Named n) (O.Register r) w = refl
-same_length (L.Named n) (O.Memory a) w = refl
-same_length (L.Named n) (O.Indirect r) w = refl
-same_length (L.Named n) (O.IndexedX d) w = refl
-same_length (L.Named n) (O.IndexedY d) w = refl
-same_length (L.Named n) (O.IndexedSp d) w = refl
-same_length (L.Named n) (O.Relative d) w = refl
+same_length : (l : Option Name) (o : Operand) (w : ℕ) → length (operand_words (settled_by l o w)) ≡ length (operand_words o)
+same_length None o w = refl
+same_length (Some n) O.Absent w = refl
+same_length (Some n) (O.Immediate v) w = refl
+same_length (Some n) (O.Register r) w = refl
+same_length (Some n) (O.Memory a) w = refl
+same_length (Some n) (O.Indirect r) w = refl
+same_length (Some n) (O.IndexedX d) w = refl
+same_length (Some n) (O.IndexedY d) w = refl
+same_length (Some n) (O.IndexedSp d) w = refl
+same_length (Some n) (O.Relative d) w = refl
 
 -- uses are filled one after the other
 pub filled_append : (bs : List Bound) (us vs : List Use) (m : List ℕ) → filled bs (us ++ vs) m ≡ filled bs vs (filled bs us m)
@@ -201,34 +201,34 @@ inside_append at n (u ∷ us) vs h g = (h.0, inside_append at n us vs h.1 g)
 
 module _ (bs : List Bound) (k : ℕ) (bytes : List ℕ) (at next : ℕ) where
   -- an operand's word, filled in behind some words and before others
-  fill-operand : (l : LabelIn) (o : Operand) → Worded l o → (before after m : List ℕ)
+  fill-operand : (l : Option Name) (o : Operand) → Worded l o → (before after m : List ℕ)
       → filled bs (use_by k bytes (at + length before) next o l) (sets m at (before ++ (operand_words o ++ after)))
       ≡ sets m at (before ++ (operand_words (settled_by l o (word_by bs bytes next l o)) ++ after))
   unfolding filled
-  fill-operand L.Absent o h before after m = refl
-  fill-operand (L.Named n) O.Absent h before after m = never (cc)
-  fill-operand (L.Named n) (O.Immediate v) h before after m = set-inside before after m at v _
-  fill-operand (L.Named n) (O.Register r) h before after m = set-inside before after m at r _
-  fill-operand (L.Named n) (O.Memory a) h before after m = set-inside before after m at a _
-  fill-operand (L.Named n) (O.Indirect r) h before after m = set-inside before after m at r _
-  fill-operand (L.Named n) (O.IndexedX d) h before after m = set-inside before after m at d _
-  fill-operand (L.Named n) (O.IndexedY d) h before after m = set-inside before after m at d _
-  fill-operand (L.Named n) (O.IndexedSp d) h before after m = set-inside before after m at d _
-  fill-operand (L.Named n) (O.Relative d) h before after m = set-inside before after m at d _
+  fill-operand None o h before after m = refl
+  fill-operand (Some n) O.Absent h before after m = never (cc)
+  fill-operand (Some n) (O.Immediate v) h before after m = set-inside before after m at v _
+  fill-operand (Some n) (O.Register r) h before after m = set-inside before after m at r _
+  fill-operand (Some n) (O.Memory a) h before after m = set-inside before after m at a _
+  fill-operand (Some n) (O.Indirect r) h before after m = set-inside before after m at r _
+  fill-operand (Some n) (O.IndexedX d) h before after m = set-inside before after m at d _
+  fill-operand (Some n) (O.IndexedY d) h before after m = set-inside before after m at d _
+  fill-operand (Some n) (O.IndexedSp d) h before after m = set-inside before after m at d _
+  fill-operand (Some n) (O.Relative d) h before after m = set-inside before after m at d _
 
   -- its cell is among those of its words
-  inside-operand : (l : LabelIn) (o : Operand) → Worded l o → (cell c n : ℕ) → cell ≡ at + c → c + length (operand_words o) ≤ n
+  inside-operand : (l : Option Name) (o : Operand) → Worded l o → (cell c n : ℕ) → cell ≡ at + c → c + length (operand_words o) ≤ n
       → Inside at n (use_by k bytes cell next o l)
-  inside-operand L.Absent o h cell c n e f = tt
-  inside-operand (L.Named m) O.Absent h cell c n e f = never (cc)
-  inside-operand (L.Named m) (O.Immediate v) h cell c n e f = ((c, omega (arith, f), e), tt)
-  inside-operand (L.Named m) (O.Register r) h cell c n e f = ((c, omega (arith, f), e), tt)
-  inside-operand (L.Named m) (O.Memory a) h cell c n e f = ((c, omega (arith, f), e), tt)
-  inside-operand (L.Named m) (O.Indirect r) h cell c n e f = ((c, omega (arith, f), e), tt)
-  inside-operand (L.Named m) (O.IndexedX d) h cell c n e f = ((c, omega (arith, f), e), tt)
-  inside-operand (L.Named m) (O.IndexedY d) h cell c n e f = ((c, omega (arith, f), e), tt)
-  inside-operand (L.Named m) (O.IndexedSp d) h cell c n e f = ((c, omega (arith, f), e), tt)
-  inside-operand (L.Named m) (O.Relative d) h cell c n e f = ((c, omega (arith, f), e), tt)
+  inside-operand None o h cell c n e f = tt
+  inside-operand (Some m) O.Absent h cell c n e f = never (cc)
+  inside-operand (Some m) (O.Immediate v) h cell c n e f = ((c, omega (arith, f), e), tt)
+  inside-operand (Some m) (O.Register r) h cell c n e f = ((c, omega (arith, f), e), tt)
+  inside-operand (Some m) (O.Memory a) h cell c n e f = ((c, omega (arith, f), e), tt)
+  inside-operand (Some m) (O.Indirect r) h cell c n e f = ((c, omega (arith, f), e), tt)
+  inside-operand (Some m) (O.IndexedX d) h cell c n e f = ((c, omega (arith, f), e), tt)
+  inside-operand (Some m) (O.IndexedY d) h cell c n e f = ((c, omega (arith, f), e), tt)
+  inside-operand (Some m) (O.IndexedSp d) h cell c n e f = ((c, omega (arith, f), e), tt)
+  inside-operand (Some m) (O.Relative d) h cell c n e f = ((c, omega (arith, f), e), tt)
 
 -- ---- an instruction's words
 
@@ -298,12 +298,12 @@ module _ (bs : List Bound) (k : ℕ) (bytes : List ℕ) (at next : ℕ) (op : Op
 
 -- ---- a line that passes
 
-module _ (bytes : List ℕ) {l : LabelIn} (r : Reading) {s : Statement} (x : Says bytes l r) (e : judged r ≡ Passes s) where
+module _ (bytes : List ℕ) {l : Option Name} (r : Reading) {s : Statement} (x : Says bytes l r) (e : judged r ≡ Ok s) where
   -- the statement that is read of it
-  pub statement-read : (line_read bytes).statement ≡ Passes s
+  pub statement-read : (line_read bytes).statement ≡ Ok s
   statement-read = ap (λ (i : LineRead). i.statement) (statements.read-judged bytes x) ∙ e
 
-module _ (bytes : List ℕ) {op : Opcode} {a b : Given} (e : (line_read bytes).statement ≡ Passes (S.Instruction op a b)) where
+module _ (bytes : List ℕ) {op : Opcode} {a b : Given} (e : (line_read bytes).statement ≡ Ok (S.Instruction op a b)) where
   -- an operand of it that names a label is there
   operands-worded : Worded a.label a.operand × Worded b.label b.operand
   operands-worded =
@@ -322,7 +322,7 @@ pub record LineCells (bs : List Bound) (k : ℕ) (bytes : List ℕ) (at : ℕ) (
   pub uses-inside : Inside at (claim_of s) (uses_by k bytes at s)
 
 module _ (bs : List Bound) (k : ℕ) (bytes : List ℕ) (at : ℕ) where
-  line_by : {l : LabelIn} {r : Reading} {s : Statement} → Says bytes l r → (line_read bytes).statement ≡ Passes s → PassesAs r s
+  line_by : {l : Option Name} {r : Reading} {s : Statement} → Says bytes l r → (line_read bytes).statement ≡ Ok s → PassesAs r s
       → LineCells bs k bytes at r s
   unfolding uses_by filled does
   line_by x e as_nothing = record { given-long = λ next. refl; raw-within = omega arith; fills = λ m z. refl; uses-inside = tt }
@@ -333,7 +333,7 @@ module _ (bs : List Bound) (k : ℕ) (bytes : List ℕ) (at : ℕ) where
       let h = operands-worded bytes e in
       let c = sym (same_count op a b v w) ∙ statements.words-claimed bytes e v w in
       let given : (n : ℕ) → code_of bs bytes n op a b ≡ given_by bs bytes n (instruction op os) =
-      λ n. ap (λ (i : InstructionRead). code_read bs bytes n op i) (sym f) in
+      λ n. ap (λ (i : Result Operands OperandsFault). code_read bs bytes n op i) (sym f) in
       record {
         given-long = λ n. ap length (sym (given n)) ∙ statements.words-claimed bytes e (word_in bs bytes n a) (word_in bs bytes n b);
         raw-within = omega (arith, words_long (record { op = op; first = a.operand; second = b.operand }), c);
@@ -343,7 +343,7 @@ module _ (bs : List Bound) (k : ℕ) (bytes : List ℕ) (at : ℕ) where
   line_by x e as_org = record { given-long = λ next. refl; raw-within = omega arith; fills = λ m z. refl; uses-inside = tt }
   line_by x e as_equ = record { given-long = λ next. refl; raw-within = omega arith; fills = λ m z. refl; uses-inside = tt }
   line_by x e (as_res {t} {v} f) =
-      let n : (does_read (judged (res t))).claims ≡ v = ap (λ (j : StatementRead). (does_read j).claims) f in
+      let n : (does_read (judged (res t))).claims ≡ v = ap (λ (j : Result Statement Failure). (does_read j).claims) f in
       record {
         given-long = λ next. length-replicate {A = ℕ} (does_read (judged (res t))).claims 0 ∙ n;
         raw-within = omega arith;
@@ -357,5 +357,5 @@ module _ (bs : List Bound) (k : ℕ) (bytes : List ℕ) (at : ℕ) where
 
   -- as many cells are given as are claimed, and no more are written; over zeros, with the labels' words filled in, they are those that are
   -- given; and each label's cell is among them
-  pub line-cells : {l : LabelIn} (r : Reading) {s : Statement} → Says bytes l r → judged r ≡ Passes s → LineCells bs k bytes at r s
+  pub line-cells : {l : Option Name} (r : Reading) {s : Statement} → Says bytes l r → judged r ≡ Ok s → LineCells bs k bytes at r s
   line-cells r x e = line_by x (statement-read bytes r x e) (passes_as r e)

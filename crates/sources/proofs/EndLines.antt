@@ -30,8 +30,7 @@ use Rattle.tokens.proofs.Spacing.{Over, over-row}
 use Rattle.tokens.proofs.Respacing.{over-ends}
 use Rattle.names.specs.Names.{word_of}
 use Rattle.names.specs.declared.Word.TheVariants as W
-use Rattle.values.specs.declared.LabelIn.{LabelIn}
-use Rattle.values.specs.declared.LabelIn.TheVariants.{Absent, Named}
+use Rattle.std.proofs.Common.{Option, Some, None}
 use Rattle.values.specs.declared.Name.{Name}
 use Rattle.values.proofs.Spacing.{AlikeLabel, absent, named}
 use Rattle.statements.specs.Statements.{end, Label, label, StatementWord, Body, ends, LineText, labelled, unlabelled, Says}
@@ -169,18 +168,18 @@ module _ (b tail : List ℕ) where
 
   -- what an END line with a label becomes, and one without
   labelled-grown : {ts us ts' : List Token} {n : Name} → Label ts n us → Body b us end → Within (length b) ts → Grown ts ts'
-      → LineText (b ++ tail) ts' (Named n) end × (n.end ≤ length b)
+      → LineText (b ++ tail) ts' (Some n) end × (n.end ≤ length b)
   labelled-grown (label {w} {c} k m d) (ends {w = e} h) i (next (next (next g))) =
       (labelled (label k m d) (ends (end-word h (word-within (length b) e h.word i.1.1.0))), word-within (length b) w k i.0)
   labelled-grown (label {w} {c} k m d) (ends {w = e} h) i (next (next (stray q f))) = never (cc (h.word, q))
 
   unlabelled-grown : {ts ts' : List Token} → ((n : Name) (us : List Token) → Label ts n us → ⊥) → Body b ts end → Within (length b) ts → Grown ts ts'
-      → LineText (b ++ tail) ts' Absent end
+      → LineText (b ++ tail) ts' None end
   unlabelled-grown none (ends {w = e} h) i (next g) =
       unlabelled (λ n vs l. still-none e none g l) (ends (end-word h (word-within (length b) e h.word i.0)))
   unlabelled-grown none (ends h) i (stray q f) = never (cc (h.word, q))
 
-  says-grown : {ts ts' : List Token} {l : LabelIn} → LineText b ts l end → Within (length b) ts → Grown ts ts'
+  says-grown : {ts ts' : List Token} {l : Option Name} → LineText b ts l end → Within (length b) ts → Grown ts ts'
       → LineText (b ++ tail) ts' l end × AlikeLabel b (b ++ tail) l l
   says-grown (labelled {n = n} a h) i g =
       let r = labelled-grown a h i g in
@@ -188,7 +187,7 @@ module _ (b tail : List ℕ) where
   says-grown (unlabelled none h) i g = (unlabelled-grown none h i g, absent)
 
 -- a line that says END reads alike with a comment or blanks at its end
-pub end-comment : {b : List ℕ} {l : LabelIn} (tail : List ℕ) → Says b l end → Over tail → ReadAlike b (b ++ tail)
+pub end-comment : {b : List ℕ} {l : Option Name} (tail : List ℕ) → Says b l end → Over tail → ReadAlike b (b ++ tail)
 end-comment {b} {l} tail h o =
     let g = grown tail o h.row in
     let r = says-grown b tail h.text (row_within h.row) g.2 in

@@ -12,11 +12,13 @@ use Rattle.isa.specs.declared.Opcode.{Opcode}
 use Rattle.codes.specs.Limits.{deepest}
 use Rattle.expressions.specs.Trees.{Tree, depth}
 use Rattle.expressions.specs.Worths.{worth_of}
-use Rattle.expressions.specs.declared.Worth.{Worth}
-use Rattle.expressions.specs.declared.Worth.TheVariants as E
+use Rattle.expressions.specs.Worths.{Worth}
+use Rattle.std.proofs.Common.{Result, Ok, Err}
+use Rattle.operands.specs.declared.Operands.{Operands}
+use Rattle.expressions.specs.declared.Fault.TheVariants.{OutOfRange, ByZero}
+use Rattle.operands.specs.declared.OperandsFault.{OperandsFault}
+use Rattle.operands.specs.declared.OperandsFault.TheVariants.{WrongForm, WrongCount, WrongKind, OutOfRange}
 use Rattle.operands.specs.Checks as Operands
-use Rattle.operands.specs.declared.InstructionRead.{InstructionRead}
-use Rattle.operands.specs.declared.InstructionRead.TheVariants as I
 use Rattle.items.specs.Items.{cells_of, all_in_range}
 use Rattle.statements.specs.Statements.{Reading, nothing, instruction, org, equ, res, cells, end}
 use Rattle.statements.specs.Checks.{least_unsigned, least_signed, result_in}
@@ -24,7 +26,6 @@ use Rattle.statements.specs.Judging.{result_of, worth_result, tree_result, instr
 use Rattle.statements.specs.declared.Failure.TheVariants as F
 use Rattle.statements.specs.declared.Statement.{Statement}
 use Rattle.statements.specs.declared.Statement.TheVariants.{Org, Equ, Res, Data}
-use Rattle.statements.specs.declared.StatementRead.TheVariants.{Passes, Fails}
 use Rattle.statements.proofs.Labelling.{never}
 use Rattle.sources.specs.Inner.Assembling.{is_end, ends_it}
 
@@ -32,30 +33,30 @@ use Rattle.sources.specs.Inner.Assembling.{is_end, ends_it}
 module _ (least : ℤ) (makes : ℕ → Statement) (on : (v : ℕ) → is_end (makes v) ≡ false) where
   worth_on : (w : Worth) → ends_it (worth_result least makes w) ≡ false
   unfolding result_of
-  worth_on (E.Is z) = go (result_in least z)
+  worth_on (Ok z) = go (result_in least z)
     where
-      go : (b : Bool) → ends_it (cond b (Passes (makes (of_z w16 z))) (Fails F.ResultOut)) ≡ false
+      go : (b : Bool) → ends_it (cond b (Ok (makes (of_z w16 z))) (Err F.ResultOut)) ≡ false
       go true = on (of_z w16 z)
       go false = refl
-  worth_on E.OutOfRange = refl
-  worth_on E.ByZero = refl
+  worth_on (Err OutOfRange) = refl
+  worth_on (Err ByZero) = refl
 
   tree_on : (e : Tree) → ends_it (tree_result least makes e) ≡ false
   unfolding tree_result
   tree_on e = go (leb (depth e) deepest)
     where
-      go : (b : Bool) → ends_it (cond b (worth_result least makes (worth_of e)) (Fails F.TooDeep)) ≡ false
+      go : (b : Bool) → ends_it (cond b (worth_result least makes (worth_of e)) (Err F.TooDeep)) ≡ false
       go true = worth_on (worth_of e)
       go false = refl
 
-instruction_on : (op : Opcode) (i : InstructionRead) → ends_it (instruction_result op i) ≡ false
-instruction_on op (I.Read a b) = refl
-instruction_on op I.WrongForm = refl
-instruction_on op I.WrongCount = refl
-instruction_on op (I.WrongKind place) = refl
-instruction_on op I.OutOfRange = refl
+instruction_on : (op : Opcode) (i : Result Operands OperandsFault) → ends_it (instruction_result op i) ≡ false
+instruction_on op (Ok g) = refl
+instruction_on op (Err WrongForm) = refl
+instruction_on op (Err WrongCount) = refl
+instruction_on op (Err (WrongKind place)) = refl
+instruction_on op (Err OutOfRange) = refl
 
-cells_on : (n : ℕ) (b : Bool) → ends_it (cond b (Passes (Data n)) (Fails F.OutOfRange)) ≡ false
+cells_on : (n : ℕ) (b : Bool) → ends_it (cond b (Ok (Data n)) (Err F.OutOfRange)) ≡ false
 cells_on n true = refl
 cells_on n false = refl
 

@@ -9,8 +9,10 @@ use lib.Seq.{sets, length-sets}
 use Rattle.statements.specs.Statements.{Reading, Says}
 use Rattle.statements.specs.FirstFailing.{Pass}
 use Rattle.statements.specs.Judging.{judged}
-use Rattle.statements.specs.declared.StatementRead.{StatementRead}
-use Rattle.statements.specs.declared.StatementRead.TheVariants.{Passes}
+use Rattle.std.proofs.Common.{Result, Ok}
+use Rattle.numerals.specs.declared.Read.{Read}
+use Rattle.statements.specs.declared.Statement.{Statement}
+use Rattle.statements.specs.declared.Failure.{Failure}
 use Rattle.statements.proofs.Top as statements
 use Rattle.codes.specs.Marks.{free}
 use Rattle.sources.specs.Sources.{Said, UpToEnd, over, ends, more}
@@ -37,7 +39,7 @@ all_read (more s e u) = (s, all_read u)
 -- ---- one line at its place
 
 -- what holds of a line that passes, by what its statement comes to
-pub record FitsBy (M k : ℕ) (bs : List Bound) (p : Place) (bytes : List ℕ) (r : Reading) (j : StatementRead) : Type 0 where
+pub record FitsBy (M k : ℕ) (bs : List Bound) (p : Place) (bytes : List ℕ) (r : Reading) (j : Result Statement Failure) : Type 0 where
   pub within : 0 < (does_read j).claims → p.at + (does_read j).claims ≤ M
   pub untaken : (i : ℕ) → i < (does_read j).claims → get_or p.marks (p.at + i) free ≡ free
   pub marking : 0 < (does_read j).claims → (does_read j).mark ≡ free → ⊥
@@ -57,7 +59,7 @@ module _ (M k : ℕ) (bs : List Bound) (p : Place) (x : Said) where
       let q = passing-says M k p x.bytes c in
       let s = q.2 in
       let o = statements.one-reading x.bytes q.3 h in
-      let e : judged x.says ≡ Passes s = ap judged (sym o.1) ∙ q.4 in
+      let e : judged x.says ≡ Ok s = ap judged (sym o.1) ∙ q.4 in
       let f = passed-line M k p x.bytes h e c in
       let l = line-cells bs k x.bytes p.at x.says h e in
       let n = claims-count s in

@@ -6,8 +6,8 @@ use mathlib.Core.Logic.{◌⊎◌}
 use mathlib.Core.Path.{◌≡◌, refl, ap, subst}
 use lib.Dec.{leb, ltb}
 use lib.ListN.{length}
-use Rattle.values.specs.declared.LabelIn.{LabelIn}
-use Rattle.values.specs.declared.LabelIn.TheVariants.{Absent, Named}
+use Rattle.std.proofs.Common.{Option, Some, None, Result, Ok, Err}
+use Rattle.statements.specs.declared.Failure.{Failure}
 use Rattle.values.specs.declared.Name.{Name}
 use Rattle.statements.specs.Statements.{Reading, Says}
 use Rattle.statements.specs.FirstFailing.{Check, check, Pass}
@@ -15,8 +15,6 @@ use Rattle.statements.specs.Checks.{checks}
 use Rattle.statements.specs.Judging.{number_of, judged}
 use Rattle.statements.specs.Reading.{line_read}
 use Rattle.statements.specs.declared.Statement.{Statement}
-use Rattle.statements.specs.declared.StatementRead.{StatementRead}
-use Rattle.statements.specs.declared.StatementRead.TheVariants.{Passes, Fails}
 use Rattle.statements.proofs.Top as Lines
 use Rattle.statements.proofs.FirstFails.{answered, first-answered, pass-answered}
 use Rattle.statements.proofs.Labelling.{never}
@@ -37,9 +35,9 @@ module _ (M k : ℕ) (p : Place) (bytes : List ℕ) where
   own-tells : Tells (own_verdict k (line_read bytes).statement) (on_line k (checks bytes))
   own-tells = go (line_read bytes).statement refl
     where
-      go : (x : StatementRead) → (line_read bytes).statement ≡ x → Tells (own_verdict k x) (on_line k (checks bytes))
-      go (Passes s) e = pass-answered (λ n. n on k) (checks bytes) ((Lines.passes-exactly bytes).0 (s, e))
-      go (Fails f) e = first-answered (λ n. n on k) (checks bytes) (number_of f) ((Lines.refused-exactly bytes (number_of f)).0 (f, e, refl))
+      go : (x : Result Statement Failure) → (line_read bytes).statement ≡ x → Tells (own_verdict k x) (on_line k (checks bytes))
+      go (Ok s) e = pass-answered (λ n. n on k) (checks bytes) ((Lines.passes-exactly bytes).0 (s, e))
+      go (Err f) e = first-answered (λ n. n on k) (checks bytes) (number_of f) ((Lines.refused-exactly bytes (number_of f)).0 (f, e, refl))
 
   -- ---- its label
 
@@ -53,7 +51,7 @@ module _ (M k : ℕ) (p : Place) (bytes : List ℕ) where
   label_checks = check (10 on k) (OfLabel bytes OverLimit) ∷ check (9 on k) (OfLabel bytes Again) ∷ []
 
   -- what is tested of a line's label is so of it, as there is no other
-  of_label : (P : List ℕ → Type 0) {n : Name} {b : Bool} → (line_read bytes).label ≡ Named n → Decides b (P (spelled bytes n))
+  of_label : (P : List ℕ → Type 0) {n : Name} {b : Bool} → (line_read bytes).label ≡ Some n → Decides b (P (spelled bytes n))
       → Decides b (OfLabel bytes P)
   of_label P {n} e d = (
     λ h. let f = (Lines.label-exactly bytes h.0).1 h.1 in
@@ -62,16 +60,16 @@ module _ (M k : ℕ) (p : Place) (bytes : List ℕ) where
     λ f. (n, (Lines.label-exactly bytes n).0 e, d.1 f),
   )
 
-  no_label : (P : List ℕ → Type 0) → (line_read bytes).label ≡ Absent → OfLabel bytes P → ⊥
+  no_label : (P : List ℕ → Type 0) → (line_read bytes).label ≡ None → OfLabel bytes P → ⊥
   no_label P e h = (Lines.no_label_exactly bytes).0 e h.0 h.1
 
   label-tells : Tells (label_verdict k p bytes (line_read bytes).label) label_checks
   unfolding name_verdict Pass
   label-tells = go (line_read bytes).label refl
     where
-      go : (l : LabelIn) → (line_read bytes).label ≡ l → Tells (label_verdict k p bytes l) label_checks
-      go Absent e = (no_label OverLimit e, (no_label Again e, tt))
-      go (Named n) e =
+      go : (l : Option Name) → (line_read bytes).label ≡ l → Tells (label_verdict k p bytes l) label_checks
+      go None e = (no_label OverLimit e, (no_label Again e, tt))
+      go (Some n) e =
           let w = spelled bytes n in
           let over = or_decides (ltb longest_label (length w)) (leb most_labels (length (names p))) (lt_decides longest_label (length w))
           (le_decides most_labels (length (names p))) in
@@ -89,9 +87,9 @@ module _ (M k : ℕ) (p : Place) (bytes : List ℕ) where
       ∷ check (12 on k) (OfAct bytes (λ l a. ClaimedTwice p a))
       ∷ []
 
-  module _ {l : LabelIn} {r : Reading} {s : Statement} (x : Says bytes l r) (e : judged r ≡ Passes s) where
+  module _ {l : Option Name} {r : Reading} {s : Statement} (x : Says bytes l r) (e : judged r ≡ Ok s) where
     -- what is tested of the act of a line's reading is so of the line, as there is no other
-    of_act : (P : LabelIn → Act → Type 0) {b : Bool} → Decides b (P l (does s)) → Decides b (OfAct bytes P)
+    of_act : (P : Option Name → Act → Type 0) {b : Bool} → Decides b (P l (does s)) → Decides b (OfAct bytes P)
     of_act P d = (λ h. d.0 (here h), λ f. (l, r, s, x, e, d.1 f))
       where
         here : OfAct bytes P → P l (does s)
@@ -100,7 +98,7 @@ module _ (M k : ℕ) (p : Place) (bytes : List ℕ) where
             let j = ap judged o.1 in
             let f = h.4 in
             let q : h.2 ≡ s = cc in
-            subst (λ (m : LabelIn). P m (does s)) o.0 (subst (λ (t : Statement). P h.0 (does t)) q h.5)
+            subst (λ (m : Option Name). P m (does s)) o.0 (subst (λ (t : Statement). P h.0 (does t)) q h.5)
 
     act-tells : Tells (act_verdict M k (labelled p bytes l) (does s)) act_checks
     unfolding act_verdict
@@ -115,12 +113,12 @@ module _ (M k : ℕ) (p : Place) (bytes : List ℕ) where
       → Tells (act_verdict M k (labelled p bytes (line_read bytes).label) (does_read (line_read bytes).statement)) act_checks
   act-behind h = go (line_read bytes).statement refl h
     where
-      go : (y : StatementRead) → (line_read bytes).statement ≡ y → own_verdict k y ≡ passes
+      go : (y : Result Statement Failure) → (line_read bytes).statement ≡ y → own_verdict k y ≡ passes
           → Tells (act_verdict M k (labelled p bytes (line_read bytes).label) (does_read y)) act_checks
-      go (Passes s) e h =
-          let q = (Lines.says-exactly bytes).0 (ap (λ (y : StatementRead). record { label = (line_read bytes).label; statement = y }) e) in
+      go (Ok s) e h =
+          let q = (Lines.says-exactly bytes).0 (ap (λ (y : Result Statement Failure). record { label = (line_read bytes).label; statement = y }) e) in
           act-tells q.1 q.2
-      go (Fails f) e h = never (cc)
+      go (Err f) e h = never (cc)
 
   -- ---- the whole line
 

@@ -7,15 +7,15 @@ use native.Mathlib.Omega.{arith}
 use lib.Dec.{eqb}
 use lib.ListN.{get_or}
 use borrow.Author.Tests.{eqb-true, eqb-false}
-use Rattle.values.specs.declared.LabelIn.{LabelIn}
+use Rattle.std.proofs.Common.{Option, Result, Ok}
+use Rattle.statements.specs.declared.Failure.{Failure}
+use Rattle.values.specs.declared.Name.{Name}
 use Rattle.statements.specs.Statements.{Reading, Says}
 use Rattle.statements.specs.FirstFailing.{Pass}
 use Rattle.statements.specs.Checks.{checks}
 use Rattle.statements.specs.Judging.{judged}
 use Rattle.statements.specs.Reading.{line_read}
 use Rattle.statements.specs.declared.Statement.{Statement}
-use Rattle.statements.specs.declared.StatementRead.{StatementRead}
-use Rattle.statements.specs.declared.StatementRead.TheVariants.{Passes}
 use Rattle.statements.proofs.Top as Lines
 use Rattle.codes.specs.Marks.{free}
 use Rattle.sources.specs.Placing.{does, Place}
@@ -31,15 +31,15 @@ module _ (M k : ℕ) (p : Place) (bytes : List ℕ) where
       (t.0, (t.1.0, (t.1.1.0, (u.0, (u.1.0, (u.1.1.0, (u.1.1.1.0, (u.1.1.1.1.0, tt))))))))
 
   -- a line that passes has a reading that does
-  pub passing-says : Pass (line_checks M k p bytes) → (l : LabelIn) × (r : Reading) × (s : Statement) × Says bytes l r × (judged r ≡ Passes s)
+  pub passing-says : Pass (line_checks M k p bytes) → (l : Option Name) × (r : Reading) × (s : Statement) × Says bytes l r × (judged r ≡ Ok s)
   passing-says h =
       let a = (Lines.passes-exactly bytes).1 (own-pass h) in
-      let e : line_read bytes ≡ record { label = (line_read bytes).label; statement = Passes a.0 } =
-      ap (λ (x : StatementRead). record { label = (line_read bytes).label; statement = x }) a.1 in
+      let e : line_read bytes ≡ record { label = (line_read bytes).label; statement = Ok a.0 } =
+      ap (λ (x : Result Statement Failure). record { label = (line_read bytes).label; statement = x }) a.1 in
       let b = (Lines.says-exactly bytes).0 e in
       ((line_read bytes).label, b.0, a.0, b.1, b.2)
 
-  module _ {l : LabelIn} {r : Reading} {s : Statement} (x : Says bytes l r) (e : judged r ≡ Passes s) (h : Pass (line_checks M k p bytes)) where
+  module _ {l : Option Name} {r : Reading} {s : Statement} (x : Says bytes l r) (e : judged r ≡ Ok s) (h : Pass (line_checks M k p bytes)) where
     not-past : PastEnd M p.at (does s) → ⊥
     unfolding Pass line_checks
     not-past q = h.1.1.1.1.1.1.1.1.1.1.1.1.0 (l, r, s, x, e, q)

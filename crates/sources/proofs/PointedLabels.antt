@@ -10,8 +10,10 @@ use lib.Dec.{eqb}
 use borrow.Author.Tests.{eq-eqb, ne_eqb}
 use Rattle.isa.specs.declared.Opcode.{Opcode}
 use Rattle.tokens.specs.Reading.{lines_of}
-use Rattle.values.specs.declared.LabelIn.{LabelIn}
-use Rattle.values.specs.declared.LabelIn.TheVariants.{Absent, Named}
+use Rattle.std.proofs.Common.{Option, Some, None, Result, Ok, Err}
+use Rattle.statements.specs.declared.Statement.{Statement}
+use Rattle.statements.specs.declared.Failure.{Failure}
+use Rattle.values.specs.declared.Name.{Name}
 use Rattle.operands.specs.declared.Given.{Given}
 use Rattle.statements.specs.FirstFailing.{First}
 use Rattle.statements.specs.Statements.{Reading, Says}
@@ -19,8 +21,6 @@ use Rattle.statements.specs.Judging.{judged, claim_of}
 use Rattle.statements.specs.Reading.{line_read}
 use Rattle.statements.specs.declared.LineRead.{LineRead}
 use Rattle.statements.specs.declared.Statement.TheVariants.{Nothing, Instruction, Org, Equ, Res, Data, End}
-use Rattle.statements.specs.declared.StatementRead.{StatementRead}
-use Rattle.statements.specs.declared.StatementRead.TheVariants.{Passes, Fails}
 use Rattle.statements.proofs.Top as Lines
 use Rattle.columns.specs.Columns.{name_column, line_after, line_numbered}
 use Rattle.columns.proofs.Top as OfColumns
@@ -101,30 +101,30 @@ module _ (source : List ℕ) (bs : List Bound) where
     first-here : eqb k before ≡ false
     first-here = ne_eqb k before (λ q. omega (arith, q, later))
 
-    module _ {op : Opcode} {a b : Given} (says : (line_read bytes).statement ≡ Passes (Instruction op a b)) where
+    module _ {op : Opcode} {a b : Given} (says : (line_read bytes).statement ≡ Ok (Instruction op a b)) where
       abbrev next : ℕ
       next = at + claim_of (Instruction op a b)
 
-      by_labels : (l m : LabelIn) → a.label ≡ l → b.label ≡ m
+      by_labels : (l m : Option Name) → a.label ≡ l → b.label ≡ m
           → Found before ((use_by k bytes (at + 1) next a.operand l ++ use_by k bytes (second_cell at a) next b.operand m) ++ us)
           ((columns_in bytes l ++ columns_in bytes m) ++ cs)
-      by_labels Absent Absent e f = none_here
-      by_labels (Named n) Absent e f = one before _ _ us cs (named false _ first-here (OfColumns.first-name bytes says e)) behind-here
-      by_labels Absent (Named n) e f = one before _ _ us cs (named false _ first-here (OfColumns.only-name bytes says false e f)) behind-here
-      by_labels (Named m) (Named n) e f =
+      by_labels None None e f = none_here
+      by_labels (Some n) None e f = one before _ _ us cs (named false _ first-here (OfColumns.first-name bytes says e)) behind-here
+      by_labels None (Some n) e f = one before _ _ us cs (named false _ first-here (OfColumns.only-name bytes says false e f)) behind-here
+      by_labels (Some m) (Some n) e f =
           one before _ _ (_ ∷ us) (_ ∷ cs) (named false _ first-here (OfColumns.first-name bytes says e))
           (one k _ _ us cs (named true _ (eq-eqb k k refl) (OfColumns.second-name bytes says e f)) behind-here)
 
-    by_statement : (s : StatementRead) → (line_read bytes).statement ≡ s → Found before (uses_read k bytes at s ++ us) (columns_read bytes s ++ cs)
+    by_statement : (s : Result Statement Failure) → (line_read bytes).statement ≡ s → Found before (uses_read k bytes at s ++ us) (columns_read bytes s ++ cs)
     unfolding uses_by
-    by_statement (Passes Nothing) e = none_here
-    by_statement (Passes (Instruction op a b)) e = by_labels e a.label b.label refl refl
-    by_statement (Passes (Org v)) e = none_here
-    by_statement (Passes (Equ v)) e = none_here
-    by_statement (Passes (Res v)) e = none_here
-    by_statement (Passes (Data n)) e = none_here
-    by_statement (Passes End) e = none_here
-    by_statement (Fails why) e = none_here
+    by_statement (Ok Nothing) e = none_here
+    by_statement (Ok (Instruction op a b)) e = by_labels e a.label b.label refl refl
+    by_statement (Ok (Org v)) e = none_here
+    by_statement (Ok (Equ v)) e = none_here
+    by_statement (Ok (Res v)) e = none_here
+    by_statement (Ok (Data n)) e = none_here
+    by_statement (Ok End) e = none_here
+    by_statement (Err why) e = none_here
 
   -- ---- line by line
 
@@ -150,7 +150,7 @@ module _ (source : List ℕ) (bs : List Bound) where
     unfolding line_after
     onward j = let e : k + 1 + j ≡ k + suc j = omega arith in ap (line_numbered source) e ∙ there (suc j)
 
-  judged_so : (bytes : List ℕ) {l : LabelIn} {r : Reading} → Says bytes l r → (line_read bytes).statement ≡ judged r
+  judged_so : (bytes : List ℕ) {l : Option Name} {r : Reading} → Says bytes l r → (line_read bytes).statement ≡ judged r
   judged_so bytes s = ap (λ (a : LineRead). a.statement) (Lines.read-judged bytes s)
 
   located : {ls : List (List ℕ)} {xs : List Said} (k : ℕ) → ((j : ℕ) → line_numbered source (k + j) ≡ line_after ls j) → UpToEnd ls xs

@@ -8,7 +8,8 @@ use lib.ListN.{length}
 use Rattle.tokens.specs.declared.Token.{Token}
 use Rattle.tokens.specs.Reading.{lines_of}
 use Rattle.names.specs.declared.Word.{Word}
-use Rattle.values.specs.declared.LabelIn.{LabelIn}
+use Rattle.std.proofs.Common.{Option, Ok}
+use Rattle.values.specs.declared.Name.{Name}
 use Rattle.statements.specs.Statements.{Reading, nothing, Says}
 use Rattle.statements.specs.FirstFailing.{Check, Pass, First}
 use Rattle.statements.specs.Checks.{checks, failures}
@@ -16,7 +17,6 @@ use Rattle.statements.specs.Judging.{number_of, judged}
 use Rattle.statements.specs.Reading.{line_read}
 use Rattle.statements.specs.declared.Statement.{Statement}
 use Rattle.statements.specs.declared.Statement.TheVariants.{Nothing}
-use Rattle.statements.specs.declared.StatementRead.TheVariants.{Passes}
 use Rattle.statements.proofs.Top as Lines
 use Rattle.statements.proofs.Lines.{outcome}
 use Rattle.statements.proofs.FirstFails.{pass-none, answered}
@@ -75,25 +75,25 @@ module _ (M k : ℕ) (p : Place) (bytes : List ℕ) where
       go (refused f e g) = absurd (pass-none (checks bytes) (number_of f) h ((Lines.refused-exactly bytes (number_of f)).0 (f, e, refl)))
 
   -- a line without a statement is idle
-  says_something : {l : LabelIn} {r : Reading} {s : Statement} → Says bytes l r → judged r ≡ Passes s → (does s ≡ idle → ⊥)
+  says_something : {l : Option Name} {r : Reading} {s : Statement} → Says bytes l r → judged r ≡ Ok s → (does s ≡ idle → ⊥)
       → (w : Token) × (x : Word) × (ts : List Token) × Points.Statement bytes w x ts
   unfolding judged does
   says_something {l} {r} {s} says e busy = OfColumns.statement_of bytes says (λ q. busy (still q))
     where
       still : r ≡ nothing → does s ≡ idle
       still q =
-          let j : Passes Nothing ≡ Passes s = ap judged (sym q) ∙ e in
+          let j : Ok Nothing ≡ Ok s = ap judged (sym q) ∙ e in
           let z : s ≡ Nothing = cc in
           ap does z
 
-  of_act : (f : ℕ) (P : LabelIn → Act → Type 0) → (f ≡ 6) ⊎ ((f ≡ 11) ⊎ (f ≡ 12)) → ((l : LabelIn) → P l idle → ⊥) → Pass (checks bytes)
+  of_act : (f : ℕ) (P : Option Name → Act → Type 0) → (f ≡ 6) ⊎ ((f ≡ 11) ⊎ (f ≡ 12)) → ((l : Option Name) → P l idle → ⊥) → Pass (checks bytes)
       → OfAct bytes P
       → Pointing f
   of_act f P e busy h (l, r, s, says, j, x) =
       let w = says_something says j (λ q. busy l (subst (P l) q x)) in
       OfColumns.statement_points bytes e (own-pass h) w.3
 
-  no_label_out : (l : LabelIn) → LabelOut (labelled p bytes l) idle → ⊥
+  no_label_out : (l : Option Name) → LabelOut (labelled p bytes l) idle → ⊥
   no_label_out l (e, h, m) = never (cc)
 
   none-claimed : (n : ℕ) → n < idle.claims → ⊥

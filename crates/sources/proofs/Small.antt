@@ -17,8 +17,14 @@ use borrow.Author.Tests.{ltb-true}
 use Rattle.codes.specs.Limits.{most_cells, deepest}
 use Rattle.codes.specs.Marks.{free, reserved_mark}
 use Rattle.numerals.specs.Numbers.{value_of, in_range, kept_of}
-use Rattle.numerals.specs.declared.Kept.{Kept}
-use Rattle.numerals.specs.declared.Kept.TheVariants as N
+use Rattle.std.proofs.Common.{Option, Some, None, Result, Ok, Err}
+use Rattle.numerals.specs.declared.Read.{Read}
+use Rattle.operands.specs.declared.Operands.{Operands}
+use Rattle.values.specs.declared.Name.{Name}
+use Rattle.statements.specs.declared.Failure.{Failure}
+use Rattle.expressions.specs.declared.Fault.TheVariants.{OutOfRange, ByZero}
+use Rattle.operands.specs.declared.OperandsFault.{OperandsFault}
+use Rattle.operands.specs.declared.OperandsFault.TheVariants.{OutOfRange}
 use Rattle.numerals.specs.declared.Numeral.{Numeral}
 use Rattle.numerals.specs.declared.Radix.{Radix}
 use Rattle.numerals.specs.declared.Radix.TheVariants.{Decimal, Hexadecimal}
@@ -31,18 +37,14 @@ use Rattle.isa.proofs.Words.{parts}
 use Rattle.tokens.specs.Reading.{tokens_from}
 use Rattle.names.specs.Names.{same}
 use Rattle.values.specs.Ranges.{displacement_in, displacement_of}
-use Rattle.values.specs.declared.LabelIn.{LabelIn}
-use Rattle.values.specs.declared.LabelIn.TheVariants as L
 use Rattle.values.specs.declared.Value.{Value}
 use Rattle.values.specs.declared.Value.TheVariants as Values
 use Rattle.expressions.specs.Trees.{Tree, depth}
 use Rattle.expressions.specs.Worths.{worth_of}
-use Rattle.expressions.specs.declared.Worth.{Worth}
-use Rattle.expressions.specs.declared.Worth.TheVariants as E
+use Rattle.expressions.specs.Worths.{Worth}
 use Rattle.operands.specs.Checks.{operand_with, operand_at, cell_of, word_of, label_in, given}
 use Rattle.operands.specs.Settling.{settled_by, settled_operand, settled_instruction}
 use Rattle.operands.specs.declared.Given.{Given}
-use Rattle.operands.specs.declared.InstructionRead.{InstructionRead}
 use Rattle.operands.specs.declared.Written.{Written}
 use Rattle.operands.specs.declared.Written.TheVariants as W
 use Rattle.operands.proofs.Settled.{reworded_as}
@@ -57,8 +59,6 @@ use Rattle.statements.specs.Statements.{Reading, res, Says}
 use Rattle.statements.specs.declared.Failure.TheVariants as F
 use Rattle.statements.specs.declared.Statement.{Statement}
 use Rattle.statements.specs.declared.Statement.TheVariants as S
-use Rattle.statements.specs.declared.StatementRead.{StatementRead}
-use Rattle.statements.specs.declared.StatementRead.TheVariants.{Passes, Fails}
 use Rattle.statements.proofs.Labelling.{never}
 use Rattle.statements.proofs.Passing.{instruction-from}
 use Rattle.statements.proofs.Places.{items-from}
@@ -79,34 +79,34 @@ use Rattle.sources.proofs.Stores.{zero-there}
 
 -- ---- an operand's word
 
-kept_small : (n : Numeral) (x : ℕ) → kept_of n ≡ N.Cell x → x < 65536
+kept_small : (n : Numeral) (x : ℕ) → kept_of n ≡ Some x → x < 65536
 unfolding kept_of
 kept_small n x e = go (in_range (value_of n)) refl e
   where
-    go : (b : Bool) → in_range (value_of n) ≡ b → cond b (N.Cell (of_z w16 (value_of n))) N.OutOfRange ≡ N.Cell x → x < 65536
+    go : (b : Bool) → in_range (value_of n) ≡ b → cond b (Some (of_z w16 (value_of n))) None ≡ Some x → x < 65536
     go true f q = let z : of_z w16 (value_of n) ≡ x = cc in subst (λ (y : ℕ). y < 65536) z (number_small (value_of n) f)
     go false f q = never (cc)
 
-displaced-small : (n : Numeral) (x : ℕ) → displacement_of n ≡ N.Cell x → x < 65536
+displaced-small : (n : Numeral) (x : ℕ) → displacement_of n ≡ Some x → x < 65536
 unfolding displacement_of
 displaced-small n x e = go n.radix e
   where
-    within : (b : Bool) → cond b (kept_of n) N.OutOfRange ≡ N.Cell x → x < 65536
+    within : (b : Bool) → cond b (kept_of n) None ≡ Some x → x < 65536
     within true q = kept_small n x q
     within false q = never (cc)
 
-    go : (r : Radix) → displacement_in r n ≡ N.Cell x → x < 65536
+    go : (r : Radix) → displacement_in r n ≡ Some x → x < 65536
     go Decimal q = within (le_z (value_of n) (pos 32767)) q
     go Hexadecimal q = kept_small n x q
 
-value-small : (keeps : Numeral → Kept) → ((n : Numeral) (x : ℕ) → keeps n ≡ N.Cell x → x < 65536) → (v : Value) (x : ℕ)
-    → cell_of keeps v ≡ N.Cell x
+value-small : (keeps : Numeral → Option ℕ) → ((n : Numeral) (x : ℕ) → keeps n ≡ Some x → x < 65536) → (v : Value) (x : ℕ)
+    → cell_of keeps v ≡ Some x
     → x < 65536
 value-small keeps f (Values.Number n) x e = f n x e
 value-small keeps f (Values.Label name) x e = let z : ◌≡◌ {A = ℕ} 0 x = cc in omega arith
 
 -- a register that is there has a code below 16
-word_small : (o : Written) {x : ℕ} (w : ℕ) → word_of o ≡ N.Cell x → register_there (settled_operand (given o x) w) ≡ true → x < 65536
+word_small : (o : Written) {x : ℕ} (w : ℕ) → word_of o ≡ Some x → register_there (settled_operand (given o x) w) ≡ true → x < 65536
 unfolding word_of label_in
 word_small W.Absent {x} w e t = let z : ◌≡◌ {A = ℕ} 0 x = cc in omega arith
 word_small (W.Immediate v) {x} w e t = value-small kept_of kept_small v x e
@@ -129,11 +129,11 @@ with-small (W.IndexedY v) x h = cons-small [] h none-small
 with-small (W.IndexedSp v) x h = cons-small [] h none-small
 with-small (W.Relative v) x h = cons-small [] h none-small
 
-settled-small : (l : LabelIn) (o : Written) (x w : ℕ) → x < 65536 → w < 65536 → Small (operand_words (settled_by l (operand_with o x) w))
-settled-small L.Absent o x w h g = with-small o x h
-settled-small (L.Named n) o x w h g = subst (λ (p : Operand). Small (operand_words p)) (sym (reworded_as o x w)) (with-small o w g)
+settled-small : (l : Option Name) (o : Written) (x w : ℕ) → x < 65536 → w < 65536 → Small (operand_words (settled_by l (operand_with o x) w))
+settled-small None o x w h g = with-small o x h
+settled-small (Some n) o x w h g = subst (λ (p : Operand). Small (operand_words p)) (sym (reworded_as o x w)) (with-small o w g)
 
-operand_small : (g : Given) (o : Written) (x w : ℕ) → g ≡ given o x → word_of o ≡ N.Cell x → w < 65536 → register_there (settled_operand g w) ≡ true
+operand_small : (g : Given) (o : Written) (x w : ℕ) → g ≡ given o x → word_of o ≡ Some x → w < 65536 → register_there (settled_operand g w) ≡ true
     → Small (operand_words (settled_operand g w))
 operand_small g o x w e k h t =
     subst (λ (d : Given). register_there (settled_operand d w) ≡ true → Small (operand_words (settled_operand d w))) (sym e)
@@ -141,7 +141,7 @@ operand_small g o x w e k h t =
 
 -- ---- an instruction
 
-module _ (bytes : List ℕ) {op : Opcode} {a b : Given} (e : (line_read bytes).statement ≡ Passes (S.Instruction op a b)) (v w : ℕ) where
+module _ (bytes : List ℕ) {op : Opcode} {a b : Given} (e : (line_read bytes).statement ≡ Ok (S.Instruction op a b)) (v w : ℕ) where
   -- what is read is allowed, whatever its labels stand for
   pub settled-allowed : allowed (settled_instruction op a b v w) ≡ true
   settled-allowed =
@@ -198,18 +198,18 @@ counted-small plainly unknown h = omega arith
 counted-small (from next) (known v) h = omega arith
 counted-small (from next) unknown h = omega arith
 
-label_small : (bs : List Bound) → ValuesSmall bs → (bytes : List ℕ) (next : ℕ) (l : LabelIn) (o : Operand) → word_by bs bytes next l o < 65536
-label_small bs h bytes next L.Absent o = omega arith
-label_small bs h bytes next (L.Named n) o =
+label_small : (bs : List Bound) → ValuesSmall bs → (bytes : List ℕ) (next : ℕ) (l : Option Name) (o : Operand) → word_by bs bytes next l o < 65536
+label_small bs h bytes next None o = omega arith
+label_small bs h bytes next (Some n) o =
     counted-small (counted_for o next) (Uses.value_of bs (spelled bytes n)) (λ x e. found-small bs h (spelled bytes n) x e)
 
 -- ---- what a line gives
 
-given-small : (bs : List Bound) → ValuesSmall bs → (bytes : List ℕ) {l : LabelIn} {r : Reading} {s : Statement} → Says bytes l r
-    → (line_read bytes).statement ≡ Passes s → PassesAs r s → (next : ℕ) → Small (given_by bs bytes next r)
+given-small : (bs : List Bound) → ValuesSmall bs → (bytes : List ℕ) {l : Option Name} {r : Reading} {s : Statement} → Says bytes l r
+    → (line_read bytes).statement ≡ Ok s → PassesAs r s → (next : ℕ) → Small (given_by bs bytes next r)
 given-small bs h bytes x e as_nothing next = none-small
 given-small bs h bytes x e (as_instruction {op} {os} {a} {b} f) next =
-    subst (λ (i : InstructionRead). Small (code_read bs bytes next op i)) (sym f)
+    subst (λ (i : Result Operands OperandsFault). Small (code_read bs bytes next op i)) (sym f)
     (words_small bytes e (word_in bs bytes next a) (word_in bs bytes next b) (label_small bs h bytes next a.label a.operand)
     (label_small bs h bytes next b.label b.operand))
 given-small bs h bytes x e as_org next = none-small
@@ -234,25 +234,25 @@ reserved-given bs bytes next as_end e i = refl
 
 -- ---- what a line binds
 
-equ-small : (t : Tree) (v : ℕ) → tree_result least_signed S.Equ t ≡ Passes (S.Equ v) → v < 65536
+equ-small : (t : Tree) (v : ℕ) → tree_result least_signed S.Equ t ≡ Ok (S.Equ v) → v < 65536
 unfolding tree_result result_of
 equ-small t v h = by_depth (leb (depth t) deepest) h
   where
-    by_result : (z : ℤ) (b : Bool) → result_in least_signed z ≡ b → cond b (Passes (S.Equ (of_z w16 z))) (Fails F.ResultOut) ≡ Passes (S.Equ v) → v < 65536
+    by_result : (z : ℤ) (b : Bool) → result_in least_signed z ≡ b → cond b (Ok (S.Equ (of_z w16 z))) (Err F.ResultOut) ≡ Ok (S.Equ v) → v < 65536
     by_result z true f q = let y : of_z w16 z ≡ v = cc in subst (λ (x : ℕ). x < 65536) y (number_small z f)
     by_result z false f q = never (cc)
 
-    by_worth : (w : Worth) → worth_result least_signed S.Equ w ≡ Passes (S.Equ v) → v < 65536
-    by_worth (E.Is z) q = by_result z (result_in least_signed z) refl q
-    by_worth E.OutOfRange q = never (cc)
-    by_worth E.ByZero q = never (cc)
+    by_worth : (w : Worth) → worth_result least_signed S.Equ w ≡ Ok (S.Equ v) → v < 65536
+    by_worth (Ok z) q = by_result z (result_in least_signed z) refl q
+    by_worth (Err OutOfRange) q = never (cc)
+    by_worth (Err ByZero) q = never (cc)
 
-    by_depth : (b : Bool) → cond b (worth_result least_signed S.Equ (worth_of t)) (Fails F.TooDeep) ≡ Passes (S.Equ v) → v < 65536
+    by_depth : (b : Bool) → cond b (worth_result least_signed S.Equ (worth_of t)) (Err F.TooDeep) ≡ Ok (S.Equ v) → v < 65536
     by_depth true q = by_worth (worth_of t) q
     by_depth false q = never (cc)
 
 -- a number that labels get is EQU's
-number-given : {r : Reading} {s : Statement} → judged r ≡ Passes s → PassesAs r s → (v : ℕ) → (does s).gives ≡ Number v → v < 65536
+number-given : {r : Reading} {s : Statement} → judged r ≡ Ok s → PassesAs r s → (v : ℕ) → (does s).gives ≡ Number v → v < 65536
 unfolding does judged
 number-given e as_nothing v q = never (cc)
 number-given e (as_instruction f) v q = never (cc)
@@ -265,7 +265,7 @@ number-given e as_end v q = never (cc)
 -- a line that passes
 record Passing (M k : ℕ) (p : Place) (x : Said) : Type 0 where
   statement : Statement
-  comes_to : judged x.says ≡ Passes statement
+  comes_to : judged x.says ≡ Ok statement
   label-in : LabelOut (labelled p x.bytes x.label) (does statement) → ⊥
 
 passing : (M k : ℕ) (p : Place) (x : Said) → Says x.bytes x.label x.says → Pass (line_checks M k p x.bytes) → Passing M k p x
@@ -273,7 +273,7 @@ unfolding Pass line_checks
 passing M k p x h c =
     let q = passing-says M k p x.bytes c in
     let o = statements.one-reading x.bytes q.3 h in
-    let e : judged x.says ≡ Passes q.2 = ap judged (sym o.1) ∙ q.4 in
+    let e : judged x.says ≡ Ok q.2 = ap judged (sym o.1) ∙ q.4 in
     record {
       statement = q.2;
       comes_to = e;
@@ -335,7 +335,7 @@ blocks-small bs v M k p (x ∷ xs) s h b (Memᴰ.head e) =
     (record {
       cells = given-small bs v x.bytes s.0 q r _;
       marking = λ l. f.marking (omega (arith, f.given-long, l));
-      reserving = λ k. reserved-given bs x.bytes _ r (ap (λ (j : StatementRead). (does_read j).mark) (sym t.comes_to) ∙ k);
+      reserving = λ k. reserved-given bs x.bytes _ r (ap (λ (j : Result Statement Failure). (does_read j).mark) (sym t.comes_to) ∙ k);
     })
 blocks-small bs v M k p (x ∷ xs) s h b (Memᴰ.tail m) = blocks-small bs v M (k + 1) (after p (judged_line x)) xs s.1 h.1 b m
 

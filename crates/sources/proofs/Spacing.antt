@@ -24,7 +24,9 @@ use Rattle.tokens.specs.declared.Token.{Token}
 use Rattle.tokens.proofs.Spacing.{Alike, Over}
 use Rattle.tokens.proofs.Respacing.{NoStray, last_kind, apart, AllBlank, Loose, line-itself, comment-added, blanks-first, blanks_widened, blanks-between}
 use Rattle.names.specs.declared.Word.{Word}
-use Rattle.values.specs.declared.LabelIn.{LabelIn}
+use Rattle.std.proofs.Common.{Option, Result, Ok}
+use Rattle.statements.specs.declared.Failure.{Failure}
+use Rattle.values.specs.declared.Name.{Name}
 use Rattle.values.proofs.Spacing.{AlikeLabel, absent, named, AlikeList, none, some}
 use Rattle.isa.specs.declared.Operand.{Operand}
 use Rattle.operands.specs.declared.Given.{Given}
@@ -35,8 +37,6 @@ use Rattle.statements.specs.Cells.{cells_in}
 use Rattle.statements.specs.Reading.{line_read}
 use Rattle.statements.specs.declared.Statement.{Statement}
 use Rattle.statements.specs.declared.Statement.TheVariants as S
-use Rattle.statements.specs.declared.StatementRead.{StatementRead}
-use Rattle.statements.specs.declared.StatementRead.TheVariants.{Passes}
 use Rattle.statements.proofs.Spacing.{placeless, AlikeStatement, instruction, other, fails, ReadAlike, signless, alike_read, signless-read, end_read}
 use Rattle.statements.proofs.Top.{read-judged}
 use Rattle.codes.specs.Limits.{longest_source}
@@ -47,31 +47,31 @@ use Rattle.sources.specs.Inner.Assembling.{read_line, ends_it, up_to_end, loan_v
 -- ---- what is the same of two lines that read alike
 
 module _ (b b' : List ℕ) where
-  label_in_same : {l l' : LabelIn} → AlikeLabel b b' l l' → label_in b l ≡ label_in b' l'
+  label_in_same : {l l' : Option Name} → AlikeLabel b b' l l' → label_in b l ≡ label_in b' l'
   label_in_same absent = refl
   label_in_same (named e) = ap (λ (w : List ℕ). w ∷ []) e
 
-  label_verdict_same : (k : ℕ) (p : Place) {l l' : LabelIn} → AlikeLabel b b' l l' → label_verdict k p b l ≡ label_verdict k p b' l'
+  label_verdict_same : (k : ℕ) (p : Place) {l l' : Option Name} → AlikeLabel b b' l l' → label_verdict k p b l ≡ label_verdict k p b' l'
   label_verdict_same k p absent = refl
   label_verdict_same k p (named e) = rw e
 
-  does-same : {r r' : StatementRead} → AlikeStatement b b' r r' → does_read r ≡ does_read r'
+  does-same : {r r' : Result Statement Failure} → AlikeStatement b b' r r' → does_read r ≡ does_read r'
   unfolding does
   does-same (instruction h g) = refl
   does-same (other s t) = refl
   does-same (fails why) = refl
 
-  own_same : (k : ℕ) {r r' : StatementRead} → AlikeStatement b b' r r' → own_verdict k r ≡ own_verdict k r'
+  own_same : (k : ℕ) {r r' : Result Statement Failure} → AlikeStatement b b' r r' → own_verdict k r ≡ own_verdict k r'
   own_same k (instruction h g) = refl
   own_same k (other s t) = refl
   own_same k (fails why) = refl
 
-  pub ends_same : {r r' : StatementRead} → AlikeStatement b b' r r' → ends_it r ≡ ends_it r'
+  pub ends_same : {r r' : Result Statement Failure} → AlikeStatement b b' r r' → ends_it r ≡ ends_it r'
   ends_same (instruction h g) = refl
   ends_same (other s t) = refl
   ends_same (fails why) = refl
 
-  raw_by_same : (s : Statement) → T (placeless s) → cells_in b ≡ cells_in b' → raw_read b (Passes s) ≡ raw_read b' (Passes s)
+  raw_by_same : (s : Statement) → T (placeless s) → cells_in b ≡ cells_in b' → raw_read b (Ok s) ≡ raw_read b' (Ok s)
   raw_by_same S.Nothing t e = refl
   raw_by_same (S.Instruction op x y) t e = absurd t
   raw_by_same (S.Org v) t e = refl
@@ -80,7 +80,7 @@ module _ (b b' : List ℕ) where
   raw_by_same (S.Data n) t e = e
   raw_by_same S.End t e = refl
 
-  raw_same : {r r' : StatementRead} → AlikeStatement b b' r r' → cells_in b ≡ cells_in b' → raw_read b r ≡ raw_read b' r'
+  raw_same : {r r' : Result Statement Failure} → AlikeStatement b b' r r' → cells_in b ≡ cells_in b' → raw_read b r ≡ raw_read b' r'
   raw_same (instruction {op} h g) e = rw (h.operand, g.operand)
   raw_same (other s t) e = raw_by_same s t e
   raw_same (fails why) e = refl
@@ -88,12 +88,12 @@ module _ (b b' : List ℕ) where
   use_same : (k cell next : ℕ) {g g' : Given} → AlikeGiven b b' g g' → use_of k b cell next g ≡ use_of k b' cell next g'
   use_same k cell next {g} {g'} h = go g.operand g'.operand h.operand h.label
     where
-      go : (o o' : Operand) → o ≡ o' → {l l' : LabelIn} → AlikeLabel b b' l l'
+      go : (o o' : Operand) → o ≡ o' → {l l' : Option Name} → AlikeLabel b b' l l'
           → use_by k b cell next o l ≡ use_by k b' cell next o' l'
       go o o' e absent = refl
       go o o' e (named w) = rw (e, w)
 
-  uses_by_same : (k at : ℕ) (s : Statement) → T (placeless s) → uses_read k b at (Passes s) ≡ uses_read k b' at (Passes s)
+  uses_by_same : (k at : ℕ) (s : Statement) → T (placeless s) → uses_read k b at (Ok s) ≡ uses_read k b' at (Ok s)
   unfolding uses_by
   uses_by_same k at S.Nothing t = refl
   uses_by_same k at (S.Instruction op x y) t = absurd t
@@ -103,7 +103,7 @@ module _ (b b' : List ℕ) where
   uses_by_same k at (S.Data n) t = refl
   uses_by_same k at S.End t = refl
 
-  uses-same : (k at : ℕ) {r r' : StatementRead} → AlikeStatement b b' r r' → uses_read k b at r ≡ uses_read k b' at r'
+  uses-same : (k at : ℕ) {r r' : Result Statement Failure} → AlikeStatement b b' r r' → uses_read k b at r ≡ uses_read k b' at r'
   unfolding uses_by
   uses-same k at (instruction h g) = rw (use_same k (at + 1) _ h, h.operand, use_same k _ _ g)
   uses-same k at (other s t) = uses_by_same k at s t
@@ -156,14 +156,14 @@ pub data SameTokens : List ℕ → List ℕ → Type 0 where
 pub data SameLines : List (List ℕ) → List (List ℕ) → Type 0 where
   over : SameLines [] []
   line : {b b' : List ℕ} {bs bs' : List (List ℕ)} → SameTokens b b' → SameLines bs bs' → SameLines (b ∷ bs) (b' ∷ bs')
-  ends : {b b' : List ℕ} {bs bs' : List (List ℕ)} {l l' : LabelIn} → Says b l end → Says b' l' end → AlikeLabel b b' l l'
+  ends : {b b' : List ℕ} {bs bs' : List (List ℕ)} {l l' : Option Name} → Says b l end → Says b' l' end → AlikeLabel b b' l l'
       → SameLines (b ∷ bs) (b' ∷ bs')
 
 pub read_alike : {b b' : List ℕ} → SameTokens b b' → ReadAlike b b'
 read_alike (tokens a) = alike_read a
 read_alike (signless-tokens a w t) = signless-read a w t
 
-pub says-ends : {b : List ℕ} {l : LabelIn} → Says b l end → ends_it (line_read b).statement ≡ true
+pub says-ends : {b : List ℕ} {l : Option Name} → Says b l end → ends_it (line_read b).statement ≡ true
 unfolding judged
 says-ends {b} e = rw (read-judged b e)
 

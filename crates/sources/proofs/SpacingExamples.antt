@@ -3,7 +3,7 @@ use mathlib.Core.List.{[], ◌∷◌}
 use mathlib.Core.Path.{refl}
 use Rattle.isa.specs.declared.Opcode.TheVariants as Op
 use Rattle.isa.specs.declared.Operand.TheVariants as O
-use Rattle.values.specs.declared.LabelIn.TheVariants.{Absent}
+use Rattle.std.proofs.Common.{None}
 use Rattle.operands.specs.declared.Given.{Given}
 use Rattle.statements.specs.declared.Statement.{Statement}
 use Rattle.statements.specs.declared.Statement.TheVariants.{Instruction, Org, Data}
@@ -11,7 +11,7 @@ use Rattle.statements.proofs.Computing.{computed_line}
 use Rattle.statements.proofs.Examples.{Means, Each, Refuses, Labelled}
 
 abbrev none : Given
-none = record { operand = O.Absent; label = Absent }
+none = record { operand = O.Absent; label = None }
 
 abbrev halt : Statement
 halt = Instruction Op.HALT none none

@@ -7,7 +7,8 @@ use mathlib.Core.Logic.{◌⊎◌, inl, inr}
 use mathlib.Core.Path.{◌≡◌, refl, ap, ap₂, subst, ◌∙◌}
 use native.Mathlib.Omega.{arith}
 use lib.ListN.{length}
-use Rattle.values.specs.declared.LabelIn.{LabelIn}
+use Rattle.std.proofs.Common.{Option}
+use Rattle.values.specs.declared.Name.{Name}
 use Rattle.statements.specs.Statements.{Reading, end, Says}
 use Rattle.statements.specs.FirstFailing.{Pass, First}
 use Rattle.statements.specs.Judging.{judged}
@@ -26,14 +27,14 @@ use Rattle.sources.proofs.Ends.{end-ends, others_go_on, end_or_not}
 -- ---- a line with a reading
 
 -- it is the line that `read_line` answers
-pub read-line : (bytes : List ℕ) {l : LabelIn} {r : Reading} → Says bytes l r → read_line bytes ≡ judged_line (said bytes l r)
+pub read-line : (bytes : List ℕ) {l : Option Name} {r : Reading} → Says bytes l r → read_line bytes ≡ judged_line (said bytes l r)
 read-line bytes x = ap (λ (a : LineRead). record { bytes = bytes; read = a }) (Lines.read-judged bytes x)
 
-says-ends : (bytes : List ℕ) {l : LabelIn} {r : Reading} → Says bytes l r → ends_it (line_read bytes).statement ≡ ends_it (judged r)
+says-ends : (bytes : List ℕ) {l : Option Name} {r : Reading} → Says bytes l r → ends_it (line_read bytes).statement ≡ ends_it (judged r)
 says-ends bytes x = ap (λ (a : LineRead). ends_it a.statement) (Lines.read-judged bytes x)
 
 -- the lines behind it are read, unless it says END
-pub cut : (bytes : List ℕ) (rest : List (List ℕ)) {b : Bool} {l : LabelIn} {r : Reading} → Says bytes l r → ends_it (judged r) ≡ b
+pub cut : (bytes : List ℕ) (rest : List (List ℕ)) {b : Bool} {l : Option Name} {r : Reading} → Says bytes l r → ends_it (judged r) ≡ b
     → up_to_end (bytes ∷ rest) ≡ bytes ∷ cond b [] (up_to_end rest)
 unfolding up_to_end
 cut bytes rest {b} x e = let f : ends_it (line_read bytes).statement ≡ b = says-ends bytes x ∙ e in rw f
@@ -45,7 +46,7 @@ module _ (M : ℕ) where
   line-passes : (k : ℕ) (p : Place) (bytes : List ℕ) → Pass (line_checks M k p bytes) → at_line k p bytes ≡ passes
   line-passes k p bytes h = tells-pass (at_line k p bytes) (line_checks M k p bytes) (line-tells M k p bytes) h
 
-  step : (k : ℕ) (p : Place) (bytes : List ℕ) (rest : List (List ℕ)) {b : Bool} {l : LabelIn} {r : Reading} → Says bytes l r
+  step : (k : ℕ) (p : Place) (bytes : List ℕ) (rest : List (List ℕ)) {b : Bool} {l : Option Name} {r : Reading} → Says bytes l r
       → ends_it (judged r) ≡ b
       → walk_lines M k p (up_to_end (bytes ∷ rest))
       ≡ and_then (at_line k p bytes) (walk_lines M (k + 1) (after p (judged_line (said bytes l r))) (cond b [] (up_to_end rest)))
@@ -103,7 +104,7 @@ module _ (M : ℕ) where
   walked [] k p = all_pass [] over tt
   walked (b ∷ ls) k p = go (at_line k p b) (line-tells M k p b) (walked ls)
     where
-      on : {l : LabelIn} {r : Reading} → Says b l r → (r ≡ end → ⊥) → Pass (line_checks M k p b)
+      on : {l : Option Name} {r : Reading} → Says b l r → (r ≡ end → ⊥) → Pass (line_checks M k p b)
           → Walked (k + 1) (after p (judged_line (said b l r))) ls
           → Walked k p (b ∷ ls)
       on {l} {r} s not_end h (all_pass xs u t) = all_pass (said b l r ∷ xs) (more s not_end u) (h, t)
@@ -113,7 +114,7 @@ module _ (M : ℕ) where
           one-fails (said b l r ∷ xs) bytes rest why (further s not_end u) (h, t)
           (subst (λ (i : ℕ). First (line_checks M i (place_after q (map judged_line xs)) bytes) why) m f)
 
-      read : {l : LabelIn} {r : Reading} → (r ≡ end) ⊎ (r ≡ end → ⊥) → Says b l r → Pass (line_checks M k p b)
+      read : {l : Option Name} {r : Reading} → (r ≡ end) ⊎ (r ≡ end → ⊥) → Says b l r → Pass (line_checks M k p b)
           → ((i : ℕ) (q : Place) → Walked i q ls)
           → Walked k p (b ∷ ls)
       read {l} {r} (inl e) s h w = all_pass (said b l end ∷ []) (ends (subst (λ (x : Reading). Says b l x) e s)) (h, tt)

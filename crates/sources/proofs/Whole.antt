@@ -5,7 +5,8 @@ use mathlib.Core.Path.{◌≡◌, refl, sym, ap, ap₂, subst, ◌∙◌}
 use lib.ListN.{length, length-map}
 use Rattle.tokens.specs.Reading.{lines_of}
 use Rattle.tokens.proofs.Top.{source_lines, one_list}
-use Rattle.values.specs.declared.LabelIn.{LabelIn}
+use Rattle.std.proofs.Common.{Option}
+use Rattle.values.specs.declared.Name.{Name}
 use Rattle.statements.specs.Statements.{Reading}
 use Rattle.statements.specs.FirstFailing.{Pass}
 use Rattle.statements.proofs.Top as Lines
@@ -23,8 +24,8 @@ use Rattle.sources.proofs.Walk.{read-line, cut, walk-passes, walk-fails, Walked,
 
 -- ---- no source has two readings
 
-same_line : (bytes : List ℕ) {l l' : LabelIn} {r r' : Reading} → (l ≡ l') × (r ≡ r') → said bytes l r ≡ said bytes l' r'
-same_line bytes e = ap₂ (λ (l : LabelIn) (r : Reading). said bytes l r) e.0 e.1
+same_line : (bytes : List ℕ) {l l' : Option Name} {r r' : Reading} → (l ≡ l') × (r ≡ r') → said bytes l r ≡ said bytes l' r'
+same_line bytes e = ap₂ (λ (l : Option Name) (r : Reading). said bytes l r) e.0 e.1
 
 one_up_to_end : {ls : List (List ℕ)} {xs ys : List Said} → UpToEnd ls xs → UpToEnd ls ys → xs ≡ ys
 one_up_to_end over over = refl

@@ -13,11 +13,12 @@ use Rattle.tokens.proofs.Respacing.{is_stray, NoStray}
 use Rattle.names.specs.Names.{word_of}
 use Rattle.names.specs.declared.Word.{Word}
 use Rattle.names.specs.declared.Word.TheVariants as W
-use Rattle.values.specs.Walks.{Step, to, emit, halt, Result, reads, wrong, stepped}
+use Rattle.values.specs.Walks.{Step, to, emit, halt, RowRead, reads, wrong, stepped}
 use Rattle.values.specs.Walks as Walks
 use Rattle.values.proofs.Walks.{un_cons}
-use Rattle.expressions.specs.declared.ExpressionRead.{ExpressionRead}
-use Rattle.expressions.specs.declared.ExpressionRead.TheVariants as X
+use Rattle.std.proofs.Common.{Result, Ok, Err}
+use Rattle.expressions.specs.declared.Malformed.{Malformed}
+use Rattle.expressions.specs.declared.Malformed.TheVariants.{TooDeep, WrongForm}
 use Rattle.expressions.specs.Reading.{expression_read}
 use Rattle.expressions.proofs.Spacing.{expression-whole}
 use Rattle.operands.specs.Operands.{word_at}
@@ -33,7 +34,6 @@ use Rattle.statements.specs.declared.Statement.{Statement}
 use Rattle.statements.specs.declared.Statement.TheVariants as S
 use Rattle.statements.specs.declared.Failure.TheVariants.{WrongForm}
 use Rattle.values.specs.declared.Name.{Name}
-use Rattle.statements.specs.declared.StatementRead.TheVariants.{Passes, Fails}
 use Rattle.statements.proofs.Labelling.{never, Labels, label_is, none_is, labels, label_after}
 use Rattle.statements.specs.Statements.{Label, label}
 
@@ -48,7 +48,7 @@ not-stray K.Text n = tt
 not-stray (K.Mark b) n = tt
 
 -- a walk that halts at a stray token and reads has met none
-module _ {S A : Type 0} (begin : S) (step : S → Token → Step S A) (finish : S → Result A)
+module _ {S A : Type 0} (begin : S) (step : S → Token → Step S A) (finish : S → RowRead A)
     (halts : (st : S) (t : Token) → t.kind ≡ K.Stray → step st t ≡ halt) where
   walk-whole : (ts : List Token) (st : S) (xs : List A) → Walks.walk begin step finish st ts ≡ reads xs → NoStray ts
   walk-whole [] st xs e = tt
@@ -92,34 +92,34 @@ items-whole line ts {is} e = walk-whole I.item (I.step line) I.finish (item-halt
 
 -- ---- statements
 
-instruction-whole : (line : List ℕ) (op : Opcode) (ts : List Token) {s : Statement} → instruction_result op (instruction_read line op ts) ≡ Passes s
+instruction-whole : (line : List ℕ) (op : Opcode) (ts : List Token) {s : Statement} → instruction_result op (instruction_read line op ts) ≡ Ok s
     → NoStray ts
 unfolding instruction_read
 instruction-whole line op ts {s} e = go (O.operands_of line ts) refl e
   where
-    go : (r : O.Result) → O.operands_of line ts ≡ r → instruction_result op (judged_form op r) ≡ Passes s → NoStray ts
+    go : (r : O.Result) → O.operands_of line ts ≡ r → instruction_result op (judged_form op r) ≡ Ok s → NoStray ts
     go (reads os) q e = operands-whole line ts q
     go wrong q e = never (cc e)
 
 of_expression_whole : (least : ℤ) (makes : ℕ → Statement) (ts : List Token) {s : Statement}
-    → expression_result least makes (expression_read ts) ≡ Passes s
+    → expression_result least makes (expression_read ts) ≡ Ok s
     → NoStray ts
 of_expression_whole least makes ts {s} e = go (expression_read ts) refl e
   where
-    go : (r : ExpressionRead) → expression_read ts ≡ r → expression_result least makes r ≡ Passes s → NoStray ts
-    go (X.Read w) q e = expression-whole ts q
-    go X.TooDeep q e = never (cc e)
-    go X.WrongForm q e = never (cc e)
+    go : (r : Result Worth Malformed) → expression_read ts ≡ r → expression_result least makes r ≡ Ok s → NoStray ts
+    go (Ok w) q e = expression-whole ts q
+    go (Err TooDeep) q e = never (cc e)
+    go (Err WrongForm) q e = never (cc e)
 
-data_whole : (line : List ℕ) (ts : List Token) {s : Statement} → items_result (I.items_read line ts) ≡ Passes s → NoStray ts
+data_whole : (line : List ℕ) (ts : List Token) {s : Statement} → items_result (I.items_read line ts) ≡ Ok s → NoStray ts
 unfolding I.items_read
 data_whole line ts {s} e = go (I.walk line I.item ts) refl e
   where
-    go : (r : I.Result) → I.walk line I.item ts ≡ r → items_result (I.judged r) ≡ Passes s → NoStray ts
+    go : (r : I.Result) → I.walk line I.item ts ≡ r → items_result (I.judged r) ≡ Ok s → NoStray ts
     go (reads is) q e = items-whole line ts q
     go wrong q e = never (cc e)
 
-by_word_whole : (line : List ℕ) (x : Word) (ts : List Token) {s : Statement} → by_word line x ts ≡ Passes s → (s ≡ S.End → ⊥) → NoStray ts
+by_word_whole : (line : List ℕ) (x : Word) (ts : List Token) {s : Statement} → by_word line x ts ≡ Ok s → (s ≡ S.End → ⊥) → NoStray ts
 by_word_whole line (W.Instructs op) ts e n = instruction-whole line op ts e
 by_word_whole line W.Org ts e n = of_expression_whole _ _ ts e
 by_word_whole line W.Equ ts e n = of_expression_whole _ _ ts e
@@ -128,12 +128,12 @@ by_word_whole line W.Data ts e n = data_whole line ts e
 by_word_whole line W.End ts e n = absurd (n (cc e))
 by_word_whole line W.Unknown ts e n = never (cc e)
 
-statement-whole : (line : List ℕ) (ts : List Token) {s : Statement} → statement_read line ts ≡ Passes s → (s ≡ S.End → ⊥) → NoStray ts
+statement-whole : (line : List ℕ) (ts : List Token) {s : Statement} → statement_read line ts ≡ Ok s → (s ≡ S.End → ⊥) → NoStray ts
 unfolding statement_read
 statement-whole line [] e n = tt
 statement-whole line (w ∷ ts) {s} e n = go w.kind refl e
   where
-    go : (k : Kind) → w.kind ≡ k → cond (is_word k) (by_word line (word_of (word_at line w)) ts) (Fails WrongForm) ≡ Passes s
+    go : (k : Kind) → w.kind ≡ k → cond (is_word k) (by_word line (word_of (word_at line w)) ts) (Err WrongForm) ≡ Ok s
         → T (not (is_stray w.kind)) × NoStray ts
     go K.End q e = never (cc e)
     go K.Stray q e = never (cc e)
@@ -154,6 +154,6 @@ after-whole ts h = go (labels ts)
     go (none_is n e f) = subst NoStray f h
 
 -- a line that passes its own checks has whole tokens, unless it says END
-pub line-whole : (line : List ℕ) {s : Statement} → (line_read line).statement ≡ Passes s → (s ≡ S.End → ⊥) → NoStray (tokens_from line 0)
+pub line-whole : (line : List ℕ) {s : Statement} → (line_read line).statement ≡ Ok s → (s ≡ S.End → ⊥) → NoStray (tokens_from line 0)
 unfolding line_read
 line-whole line e n = after-whole (tokens_from line 0) (statement-whole line (after_label (tokens_from line 0)) e n)

@@ -5,13 +5,14 @@ use mathlib.Core.List.{List, [], ◌∷◌, Memᴰ}
 use Rattle.isa.specs.Encoding.{words_of}
 use Rattle.isa.specs.declared.Opcode.{Opcode}
 use Rattle.isa.specs.declared.Operand.{Operand}
-use Rattle.values.specs.declared.LabelIn.{LabelIn}
-use Rattle.values.specs.declared.LabelIn.TheVariants.{Absent, Named}
+use Rattle.std.specs.Prelude.{Option, Some, None, Result, Ok, Err}
+use Rattle.operands.specs.declared.Operands.{Operands}
+use Rattle.values.specs.declared.Name.{Name}
+use Rattle.operands.specs.declared.OperandsFault.{OperandsFault}
+use Rattle.operands.specs.declared.OperandsFault.TheVariants.{WrongForm, WrongCount, WrongKind, OutOfRange}
 use Rattle.operands.specs.Checks as Operands
 use Rattle.operands.specs.Settling.{settled_instruction}
 use Rattle.operands.specs.declared.Given.{Given}
-use Rattle.operands.specs.declared.InstructionRead.{InstructionRead}
-use Rattle.operands.specs.declared.InstructionRead.TheVariants as I
 use Rattle.items.specs.Items.{cells_of}
 use Rattle.statements.specs.Statements.{Reading, nothing, instruction, org, equ, res, cells, end}
 use Rattle.statements.specs.Judging.{judged}
@@ -26,9 +27,9 @@ use Rattle.sources.specs.Order.{Passing}
 -- by the labels' values, in a line's bytes, with the address after the instruction
 module _ (bs : List Bound) (bytes : List ℕ) (next : ℕ) where
   -- the word in the place of the label that an operand names
-  abbrev pub word_by : LabelIn → Operand → ℕ
-  word_by Absent o = 0
-  word_by (Named n) o = counted_word (counted_for o next) (value_of bs (spelled bytes n))
+  abbrev pub word_by : Option Name → Operand → ℕ
+  word_by None o = 0
+  word_by (Some n) o = counted_word (counted_for o next) (value_of bs (spelled bytes n))
 
   abbrev pub word_in : Given → ℕ
   word_in g = word_by g.label g.operand
@@ -37,12 +38,12 @@ module _ (bs : List Bound) (bytes : List ℕ) (next : ℕ) where
   abbrev pub code_of : Opcode → Given → Given → List ℕ
   code_of op a b = words_of (settled_instruction op a b (word_in a) (word_in b))
 
-  abbrev pub code_read : Opcode → InstructionRead → List ℕ
-  code_read op (I.Read a b) = code_of op a b
-  code_read op I.WrongForm = []
-  code_read op I.WrongCount = []
-  code_read op (I.WrongKind place) = []
-  code_read op I.OutOfRange = []
+  abbrev pub code_read : Opcode → Result Operands OperandsFault → List ℕ
+  code_read op (Ok r) = code_of op r.first r.second
+  code_read op (Err WrongForm) = []
+  code_read op (Err WrongCount) = []
+  code_read op (Err (WrongKind place)) = []
+  code_read op (Err OutOfRange) = []
 
   -- ---- what each line gives: an instruction its words, DATA its items' cells; RES the cells that it claims, "holding 0" (02, K2)
 

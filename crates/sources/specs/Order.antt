@@ -2,14 +2,13 @@
 use Rattle.std.specs.Prelude.{ℕ, ◌+◌, ◌≤◌, ◌<◌, ◌⊎◌, ◌≡◌, length, get_or}
 use mathlib.Core.List.{List, [], ◌∷◌, ◌++◌, map, Memᴰ}
 use Rattle.tokens.specs.Lines.{Lines}
-use Rattle.values.specs.declared.LabelIn.{LabelIn}
+use Rattle.std.specs.Prelude.{Option, Ok}
 use Rattle.values.specs.declared.Name.{Name}
 use Rattle.statements.specs.Statements.{Reading, Says, Labelled, UnknownWord, NoReading}
 use Rattle.statements.specs.FirstFailing.{Check, check, Pass, First}
 use Rattle.statements.specs.Checks.{OfReading, WrongCount, WrongKind, TooDeep, NumberOut, ZeroDivisor, ResultOut}
 use Rattle.statements.specs.Judging.{judged}
 use Rattle.statements.specs.declared.Statement.{Statement}
-use Rattle.statements.specs.declared.StatementRead.TheVariants.{Passes}
 use Rattle.codes.specs.Limits.{most_cells, longest_source, most_labels, longest_label}
 use Rattle.codes.specs.Marks.{free}
 use Rattle.sources.specs.Sources.{spelled, Said, SourceText, Before}
@@ -64,8 +63,8 @@ module _ (bytes : List ℕ) where
   OfLabel P = (n : Name) × Labelled bytes n × P (spelled bytes n)
 
   -- the line has a reading that passes its own checks, and of whose label and act this holds
-  abbrev pub OfAct : (LabelIn → Act → Type 0) → Type 0
-  OfAct P = (l : LabelIn) × (r : Reading) × (s : Statement) × Says bytes l r × (judged r ≡ Passes s) × P l (does s)
+  abbrev pub OfAct : ((Option Name) → Act → Type 0) → Type 0
+  OfAct P = (l : Option Name) × (r : Reading) × (s : Statement) × Says bytes l r × (judged r ≡ Ok s) × P l (does s)
 
 module _ (M k : ℕ) (p : Place) (bytes : List ℕ) where
   -- "label 10, 9; word 4; form 3; 5; 8; 6 or 7 in order of evaluation (left, right, operation); then the statement's result and label

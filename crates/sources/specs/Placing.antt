@@ -1,14 +1,13 @@
 -- Addresses, labels and cells, line by line (01, "Rules of writing": "Addresses start at 0. A label waits for the next statement ..").
 use Rattle.std.specs.Prelude.{ℕ, ◌+◌, List, [], ◌∷◌, ◌++◌, map, replicate}
 use Rattle.std.proofs.lemmas.List.Edits.{sets}
-use Rattle.values.specs.declared.LabelIn.{LabelIn}
-use Rattle.values.specs.declared.LabelIn.TheVariants.{Absent, Named}
+use Rattle.std.specs.Prelude.{Option, Some, None, Result, Ok, Err}
+use Rattle.statements.specs.declared.Failure.{Failure}
+use Rattle.values.specs.declared.Name.{Name}
 use Rattle.statements.specs.Judging.{judged, claim_of}
 use Rattle.statements.specs.declared.LineRead.{LineRead}
 use Rattle.statements.specs.declared.Statement.{Statement}
 use Rattle.statements.specs.declared.Statement.TheVariants.{Nothing, Instruction, Org, Equ, Res, Data, End}
-use Rattle.statements.specs.declared.StatementRead.{StatementRead}
-use Rattle.statements.specs.declared.StatementRead.TheVariants.{Passes, Fails}
 use Rattle.codes.specs.Marks.{free, code_mark, data_mark, reserved_mark}
 use Rattle.sources.specs.Sources.{Said, spelled}
 use Rattle.sources.specs.declared.Act.{Act}
@@ -42,9 +41,9 @@ does (Data n) = claiming (Data n) data_mark
 does End = act Start (On 0) 0 free
 
 -- a line that fails does nothing
-abbrev pub does_read : StatementRead → Act
-does_read (Passes s) = does s
-does_read (Fails why) = idle
+abbrev pub does_read : Result Statement Failure → Act
+does_read (Ok s) = does s
+does_read (Err why) = idle
 
 -- ---- the place
 
@@ -69,12 +68,12 @@ unfoldable pub names : Place → List (List ℕ)
 names p = map (λ b. b.name) p.bound ++ p.waiting
 
 -- "A label waits for the next statement"
-abbrev pub label_in : List ℕ → LabelIn → List (List ℕ)
-label_in bytes Absent = []
-label_in bytes (Named n) = spelled bytes n ∷ []
+abbrev pub label_in : List ℕ → Option Name → List (List ℕ)
+label_in bytes None = []
+label_in bytes (Some n) = spelled bytes n ∷ []
 
 -- the place with a line's own label, which waits
-abbrev pub labelled : Place → List ℕ → LabelIn → Place
+abbrev pub labelled : Place → List ℕ → Option Name → Place
 labelled p bytes l = record { at = p.at; bound = p.bound; waiting = p.waiting ++ label_in bytes l; marks = p.marks }
 
 -- labels with one value

@@ -2,13 +2,12 @@
 -- starts"), without a reader.
 use Rattle.std.specs.Prelude.{ℕ, ◌+◌, List, [], ◌∷◌, ◌++◌, map, ◌≡◌, length}
 use Rattle.tokens.specs.Lines.{Lines}
-use Rattle.values.specs.declared.LabelIn.{LabelIn}
-use Rattle.values.specs.declared.LabelIn.TheVariants.{Absent, Named}
+use Rattle.std.specs.Prelude.{Option, Some, None, Result, Ok, Err}
+use Rattle.statements.specs.declared.Failure.{Failure}
+use Rattle.values.specs.declared.Name.{Name}
 use Rattle.statements.specs.FirstFailing.{Check, check, Pass, First}
 use Rattle.statements.specs.declared.Statement.{Statement}
 use Rattle.statements.specs.declared.Statement.TheVariants.{Nothing, Instruction, Org, Equ, Res, Data, End}
-use Rattle.statements.specs.declared.StatementRead.{StatementRead}
-use Rattle.statements.specs.declared.StatementRead.TheVariants.{Passes, Fails}
 use Rattle.columns.specs.Points.{PointsIn}
 use Rattle.columns.specs.Columns.{mark_before}
 use Rattle.sources.specs.Sources.{Said, SourceText, Before}
@@ -23,9 +22,9 @@ pub record Columns : Type 0 where
   pub label_at : ℕ
   pub operand_at : ℕ
 
-abbrev pub columns_in : List ℕ → LabelIn → List Columns
-columns_in bytes Absent = []
-columns_in bytes (Named n) = record { label_at = n.start + 1; operand_at = mark_before bytes n.start + 1 } ∷ []
+abbrev pub columns_in : List ℕ → Option Name → List Columns
+columns_in bytes None = []
+columns_in bytes (Some n) = record { label_at = n.start + 1; operand_at = mark_before bytes n.start + 1 } ∷ []
 
 -- those of a line's operands, then of lines: one for each label of `uses_of`, in its order
 abbrev pub columns_by : List ℕ → Statement → List Columns
@@ -37,9 +36,9 @@ columns_by bytes (Res v) = []
 columns_by bytes (Data n) = []
 columns_by bytes End = []
 
-abbrev pub columns_read : List ℕ → StatementRead → List Columns
-columns_read bytes (Passes s) = columns_by bytes s
-columns_read bytes (Fails why) = []
+abbrev pub columns_read : List ℕ → Result Statement Failure → List Columns
+columns_read bytes (Ok s) = columns_by bytes s
+columns_read bytes (Err why) = []
 
 unfoldable pub columns_of : List Judged → List Columns
 columns_of [] = []

@@ -5,14 +5,14 @@ use Rattle.isa.specs.Operands.{operand_words}
 use Rattle.isa.specs.declared.Operand.{Operand}
 use Rattle.isa.specs.declared.Operand.TheVariants as O
 use Rattle.names.specs.Names.{same}
-use Rattle.values.specs.declared.LabelIn.{LabelIn}
-use Rattle.values.specs.declared.LabelIn.TheVariants.{Absent, Named}
+use Rattle.std.specs.Prelude.{Option, Some, None, Result, Ok, Err}
+use Rattle.statements.specs.declared.Failure.{Failure}
+use Rattle.values.specs.declared.Name.{Name}
+use Rattle.values.specs.declared.Value.{Value}
 use Rattle.operands.specs.declared.Given.{Given}
 use Rattle.statements.specs.Judging.{claim_of}
 use Rattle.statements.specs.declared.Statement.{Statement}
 use Rattle.statements.specs.declared.Statement.TheVariants.{Nothing, Instruction, Org, Equ, Res, Data, End}
-use Rattle.statements.specs.declared.StatementRead.{StatementRead}
-use Rattle.statements.specs.declared.StatementRead.TheVariants.{Passes, Fails}
 use Rattle.sources.specs.Sources.{spelled}
 use Rattle.sources.specs.Placing.{Bound, Judged, next_from}
 
@@ -53,9 +53,9 @@ pub record Use : Type 0 where
   pub counted : Counted
 
 -- of an operand on the k-th line, with the cell of its word and the address after the instruction
-abbrev pub use_by : ℕ → List ℕ → ℕ → ℕ → Operand → LabelIn → List Use
-use_by k bytes cell next o Absent = []
-use_by k bytes cell next o (Named n) = record { line = k; name = spelled bytes n; cell = cell; counted = counted_for o next } ∷ []
+abbrev pub use_by : ℕ → List ℕ → ℕ → ℕ → Operand → Option Name → List Use
+use_by k bytes cell next o None = []
+use_by k bytes cell next o (Some n) = record { line = k; name = spelled bytes n; cell = cell; counted = counted_for o next } ∷ []
 
 abbrev pub use_of : ℕ → List ℕ → ℕ → ℕ → Given → List Use
 use_of k bytes cell next g = use_by k bytes cell next g.operand g.label
@@ -76,9 +76,9 @@ uses_by k bytes at (Res v) = []
 uses_by k bytes at (Data n) = []
 uses_by k bytes at End = []
 
-abbrev pub uses_read : ℕ → List ℕ → ℕ → StatementRead → List Use
-uses_read k bytes at (Passes s) = uses_by k bytes at s
-uses_read k bytes at (Fails why) = []
+abbrev pub uses_read : ℕ → List ℕ → ℕ → Result Statement Failure → List Use
+uses_read k bytes at (Ok s) = uses_by k bytes at s
+uses_read k bytes at (Err why) = []
 
 -- of lines, the first of them the k-th and at an address
 unfoldable pub uses_of : ℕ → ℕ → List Judged → List Use

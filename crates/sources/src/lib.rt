@@ -3,7 +3,7 @@
 #![tactic(auto)]
 
 // A line's number, counted from 1; 0 where no line is at fault. Never a cell's address (isa::Address).
-#[derive(Clone, Copy)]
+#[derive(Clone, Copy, Debug, PartialEq, Eq)]
 pub struct Line(pub usize);
 
 // What the labels that wait get from a statement.

@@ -16,21 +16,21 @@ use Rattle.names.specs.declared.Word.{Word}
 use Rattle.tokens.proofs.Heads.{row_of}
 use Rattle.tokens.proofs.Top.{row_goes_on}
 use Rattle.tokens.proofs.Colons.{colon_within, colon-token, no_colon_token}
-use Rattle.values.specs.declared.LabelIn.TheVariants.{Named}
+use Rattle.std.proofs.Common.{Some, Result, Ok, Err}
+use Rattle.statements.specs.declared.Statement.{Statement}
+use Rattle.statements.specs.declared.Failure.{Failure}
 use Rattle.operands.specs.Operands.{word_at}
 use Rattle.statements.specs.Reading.{is_word, is_colon, labelled, label_read, after_label, by_word, statement_read}
 use Rattle.statements.specs.Inner.Parts.{colon_at, begun_by, no_label, LabelDone}
 use Rattle.statements.specs.declared.Labelled.{Labelled}
 use Rattle.statements.specs.declared.Failure.TheVariants.{WrongForm}
 use Rattle.statements.specs.declared.Statement.TheVariants.{Nothing}
-use Rattle.statements.specs.declared.StatementRead.{StatementRead}
-use Rattle.statements.specs.declared.StatementRead.TheVariants.{Passes, Fails}
 use Rattle.statements.proofs.Labelling.{never, word-kind, colon_kind}
 
 -- ---- the statement's word
 
 -- what the code says by the word that it found
-pub said_by : (line : List ℕ) (at : ℕ) {x y : Word} {st : StatementRead} → st ≡ by_word line y (tokens_from line at) → x ≡ y
+pub said_by : (line : List ℕ) (at : ℕ) {x y : Word} {st : Result Statement Failure} → st ≡ by_word line y (tokens_from line at) → x ≡ y
     → st ≡ by_word line x (tokens_from line at)
 said_by line at e f = e ∙ sym (ap (λ (z : Word). by_word line z (tokens_from line at)) f)
 
@@ -39,20 +39,20 @@ module _ (line : List ℕ) (w : Token) where
   pub row_by : {k : Kind} → w.kind ≡ k → begun_by line w ≡ after_kind k w (tokens_from line)
   row_by e = ap (λ (k : Kind). after_kind k w (tokens_from line)) e
 
-  pub ended : w.kind ≡ K.End → Passes Nothing ≡ statement_read line (begun_by line w)
+  pub ended : w.kind ≡ K.End → Ok Nothing ≡ statement_read line (begun_by line w)
   unfolding statement_read
   ended e = sym (ap (statement_read line) (row_by e))
 
   -- a row of no word first
-  no_word_read : (ts : List Token) → is_word w.kind ≡ false → statement_read line (w ∷ ts) ≡ Fails WrongForm
+  no_word_read : (ts : List Token) → is_word w.kind ≡ false → statement_read line (w ∷ ts) ≡ Err WrongForm
   unfolding statement_read
   no_word_read ts f = rw f
 
-  pub no-word : (k : Kind) → w.kind ≡ k → is_word k ≡ false → (k ≡ K.End → ⊥) → Fails WrongForm ≡ statement_read line (begun_by line w)
+  pub no-word : (k : Kind) → w.kind ≡ k → is_word k ≡ false → (k ≡ K.End → ⊥) → Err WrongForm ≡ statement_read line (begun_by line w)
   no-word k e f n = sym (ap (statement_read line) (row_by e) ∙ go k e f n)
     where
       go : (j : Kind) → w.kind ≡ j → is_word j ≡ false → (j ≡ K.End → ⊥)
-          → statement_read line (after_kind j w (tokens_from line)) ≡ Fails WrongForm
+          → statement_read line (after_kind j w (tokens_from line)) ≡ Err WrongForm
       go K.End e f n = absurd (n refl)
       go K.Stray e f n = no_word_read [] (ap is_word e ∙ f)
       go K.Word e f n = never (cc)
@@ -60,7 +60,7 @@ module _ (line : List ℕ) (w : Token) where
       go K.Text e f n = no_word_read (tokens_from line w.next.at) (ap is_word e ∙ f)
       go (K.Mark b) e f n = no_word_read (tokens_from line w.next.at) (ap is_word e ∙ f)
 
-  pub by_its_word : {x : Word} {st : StatementRead} → w.kind ≡ K.Word → x ≡ word_of (word_at line w) → st ≡ by_word line x (tokens_from line w.next.at)
+  pub by_its_word : {x : Word} {st : Result Statement Failure} → w.kind ≡ K.Word → x ≡ word_of (word_at line w) → st ≡ by_word line x (tokens_from line w.next.at)
       → st ≡ statement_read line (begun_by line w)
   unfolding statement_read
   by_its_word {x} e f g = g ∙ sym (ap (statement_read line) (row_by e) ∙ rw (e, f))
@@ -136,7 +136,7 @@ module _ (line : List ℕ) where
           go false h = rw h
 
       pub is_label : colon_at line w.next.at ≡ true → {v : Token} → v ≡ token_at line (w.next.at + 1)
-          → LabelDone line (record { label = Named (record { start = w.start; end = w.next.at }); word = v })
+          → LabelDone line (record { label = Some (record { start = w.start; end = w.next.at }); word = v })
       unfolding label_read after_label
       is_label g u =
           let d : c ≡ token (K.Mark (code ":")) w.next.at true (w.next.at + 1) =

@@ -21,7 +21,9 @@ use Rattle.expressions.specs.Trees.{Tree, depth, Expression}
 use Rattle.expressions.specs.Worths.{worth_of}
 use Rattle.expressions.specs.Reading.{expression_read}
 use Rattle.expressions.specs.Reading as Expressions
-use Rattle.expressions.specs.declared.ExpressionRead.TheVariants as E
+use Rattle.std.proofs.Common.{Ok, Err}
+use Rattle.items.specs.declared.ItemsFault.TheVariants.{WrongForm, OutOfRange}
+use Rattle.expressions.specs.declared.Malformed.TheVariants.{TooDeep, WrongForm}
 use Rattle.expressions.proofs.Exactly.{Found as TreeFound, tree_is, none_is, found as tree-found}
 use Rattle.expressions.proofs.Top as Trees
 use Rattle.operands.specs.Operands.{word_at, OperandField}
@@ -32,7 +34,6 @@ use Rattle.operands.specs.declared.Written.{Written}
 use Rattle.operands.proofs.Top.{reads-exactly}
 use Rattle.items.specs.Items.{Item, Items, cells_of, all_in_range}
 use Rattle.items.specs.Reading as Listed
-use Rattle.items.specs.declared.ItemsRead.TheVariants as I
 use Rattle.items.proofs.Top.{items-exactly}
 use Rattle.statements.specs.Statements.{Reading, nothing, instruction, org, equ, res, cells, end, StatementWord, Body, empty, opcode, origin, equals, reserve, items, ends}
 use Rattle.statements.specs.Checks.{least_unsigned, least_signed}
@@ -41,7 +42,6 @@ use Rattle.statements.specs.Reading.{is_word, expression_result, items_result, b
 use Rattle.statements.specs.declared.Failure.TheVariants.{UnknownWord, WrongForm, TooDeep, OutOfRange}
 use Rattle.statements.specs.declared.Statement.{Statement}
 use Rattle.statements.specs.declared.Statement.TheVariants.{Org, Equ, Res, Data}
-use Rattle.statements.specs.declared.StatementRead.TheVariants.{Passes, Fails}
 use Rattle.statements.proofs.Labelling.{never}
 
 module _ (line : List ℕ) where
@@ -52,8 +52,8 @@ module _ (line : List ℕ) where
   -- what the tokens say, and what the reader answers
   pub data Found (ts : List Token) : Type 0 where
     says : (r : Reading) → Body line ts r → ((r' : Reading) → Body line ts r' → r ≡ r') → (UnknownHere ts → ⊥) → statement_read line ts ≡ judged r → Found ts
-    unknown : UnknownHere ts → ((r : Reading) → Body line ts r → ⊥) → statement_read line ts ≡ Fails UnknownWord → Found ts
-    wrong : (UnknownHere ts → ⊥) → ((r : Reading) → Body line ts r → ⊥) → statement_read line ts ≡ Fails WrongForm → Found ts
+    unknown : UnknownHere ts → ((r : Reading) → Body line ts r → ⊥) → statement_read line ts ≡ Err UnknownWord → Found ts
+    wrong : (UnknownHere ts → ⊥) → ((r : Reading) → Body line ts r → ⊥) → statement_read line ts ≡ Err WrongForm → Found ts
 
   -- what a reading is by the statement's word
   abbrev ReadBy : Word → List Token → Reading → Type 0
@@ -94,11 +94,11 @@ module _ (least : ℤ) (makes : ℕ → Statement) where
   unfolding expression_read tree_result
   tree-result {ts} {e} s = ap (λ r. expression_result least makes (Expressions.judged r)) ((Trees.tree_exactly ts).1 s) ∙ go (leb (depth e) deepest)
     where
-      go : (b : Bool) → expression_result least makes (cond b (E.Read (worth_of e)) E.TooDeep) ≡ cond b (worth_result least makes (worth_of e)) (Fails TooDeep)
+      go : (b : Bool) → expression_result least makes (cond b (Ok (worth_of e)) (Err TooDeep)) ≡ cond b (worth_result least makes (worth_of e)) (Err TooDeep)
       go true = refl
       go false = refl
 
-  no_tree_result : {ts : List Token} → ((e : Tree) → Expression ts e → ⊥) → expression_result least makes (expression_read ts) ≡ Fails WrongForm
+  no_tree_result : {ts : List Token} → ((e : Tree) → Expression ts e → ⊥) → expression_result least makes (expression_read ts) ≡ Err WrongForm
   no_tree_result {ts} n = ap (expression_result least makes) ((Trees.wrong-exactly ts).1 n)
 
 operands-result : (line : List ℕ) (op : Opcode) (ts : List Token) {o : Walk.Result} → operands_of line ts ≡ o
@@ -115,7 +115,7 @@ cells-result : (is : List Item) → items_result (Listed.judged (Listed.reads is
 unfolding judged
 cells-result is = go (all_in_range is)
   where
-    go : (b : Bool) → items_result (cond b (I.Cells (length (cells_of is))) I.OutOfRange) ≡ cond b (Passes (Data (length (cells_of is)))) (Fails OutOfRange)
+    go : (b : Bool) → items_result (cond b (Ok (length (cells_of is))) (Err OutOfRange)) ≡ cond b (Ok (Data (length (cells_of is)))) (Err OutOfRange)
     go true = refl
     go false = refl
 

@@ -12,14 +12,14 @@ use Rattle.tokens.proofs.Top.{line_row, one-row, row_goes_on}
 use Rattle.names.specs.Names.{word_of}
 use Rattle.names.specs.declared.Word.{Word}
 use Rattle.names.specs.declared.Word.TheVariants as W
-use Rattle.values.specs.declared.LabelIn.{LabelIn}
-use Rattle.values.specs.declared.LabelIn.TheVariants.{Absent, Named}
+use Rattle.std.proofs.Common.{Option, Some, None, Result, Ok, Err}
+use Rattle.values.specs.declared.Name.{Name}
+use Rattle.items.specs.declared.ItemsFault.{ItemsFault}
+use Rattle.items.specs.declared.ItemsFault.TheVariants.{WrongForm, OutOfRange}
 use Rattle.operands.specs.Operands.{word_at}
 use Rattle.items.specs.Items.{Item, Items, cells_of, all_in_range}
 use Rattle.items.specs.Reading.{items_read}
 use Rattle.items.specs.Writing.{cells_from}
-use Rattle.items.specs.declared.ItemsRead.{ItemsRead}
-use Rattle.items.specs.declared.ItemsRead.TheVariants as I
 use Rattle.items.proofs.Readings.{complete}
 use Rattle.items.proofs.Top as Items
 use Rattle.statements.specs.Statements.{cells, Body, items, LineText, labelled, unlabelled, Says}
@@ -68,7 +68,7 @@ module _ (line : List ℕ) where
   unfolding body_cells cells_from
   body-cells (items s f) q = rw (s.word, s.means, complete line f, q)
 
-  text-cells : {ts : List Token} {l : LabelIn} {is : List Item} → LineText line ts l (cells is) → all_in_range is ≡ true
+  text-cells : {ts : List Token} {l : Option Name} {is : List Item} → LineText line ts l (cells is) → all_in_range is ≡ true
       → body_cells line (after_label ts) ≡ cells_of is
   text-cells (labelled a b) q = ap (body_cells line) (label_after a) ∙ body-cells b q
   text-cells {ts} {is = is} (unlabelled none b) q = go (labels ts)
@@ -77,7 +77,7 @@ module _ (line : List ℕ) where
       go (label_is n us a) = absurd (none n us a)
       go (none_is _ _ g) = ap (body_cells line) g ∙ body-cells b q
 
-  pub cells-exactly : {l : LabelIn} {is : List Item} → Says line l (cells is) → all_in_range is ≡ true → cells_in line ≡ cells_of is
+  pub cells-exactly : {l : Option Name} {is : List Item} → Says line l (cells is) → all_in_range is ≡ true → cells_in line ≡ cells_of is
   unfolding cells_in
   cells-exactly x q = ap (λ (ts : List Token). body_cells line (after_label ts)) (one-row (line_row line) x.row) ∙ text-cells x.text q
 
@@ -96,10 +96,10 @@ module _ (line : List ℕ) where
   none_from : (at : ℕ) → ((is : List Item) → Items line (tokens_from line at) is → all_in_range is ≡ true → ⊥) → cells_from line (tokens_from line at) ≡ []
   none_from at n = go (items_read line (tokens_from line at)) refl
     where
-      go : (r : ItemsRead) → items_read line (tokens_from line at) ≡ r → cells_from line (tokens_from line at) ≡ []
-      go (I.Cells k) e = let h = (Items.cells-exactly line at).0 e in absurd (n h.0 h.1 h.2)
-      go I.WrongForm e = Items.refused_writes_none line at (inl e)
-      go I.OutOfRange e = Items.refused_writes_none line at (inr e)
+      go : (r : Result ℕ ItemsFault) → items_read line (tokens_from line at) ≡ r → cells_from line (tokens_from line at) ≡ []
+      go (Ok k) e = let h = (Items.cells-exactly line at).0 e in absurd (n h.0 h.1 h.2)
+      go (Err WrongForm) e = Items.refused_writes_none line at (inl e)
+      go (Err OutOfRange) e = Items.refused_writes_none line at (inr e)
 
   none_in : (at : ℕ) → ((is : List Item) → Body line (tokens_from line at) (cells is) → all_in_range is ≡ true → ⊥) → body_cells line (tokens_from line at) ≡ []
   none_in at n = by_kind (is_word w.kind) refl
@@ -122,7 +122,7 @@ module _ (line : List ℕ) where
       by_kind true f = by-word f (is_data (word_of (word_at line w))) refl
       by_kind false f = row ∙ no_word_cells line w f
 
-  pub no_cells : ((l : LabelIn) (is : List Item) → Says line l (cells is) → all_in_range is ≡ true → ⊥) → cells_in line ≡ []
+  pub no_cells : ((l : Option Name) (is : List Item) → Says line l (cells is) → all_in_range is ≡ true → ⊥) → cells_in line ≡ []
   unfolding cells_in
   no_cells n = go (labels (tokens_from line 0))
     where
@@ -132,7 +132,7 @@ module _ (line : List ℕ) where
           let e : after_label (tokens_from line 0) ≡ tokens_from line h.0 = label_after a ∙ h.1 in
           ap (body_cells line) e
           ∙ none_in h.0
-          (λ is b q. n (Named m) is (record { tokens = tokens_from line 0; row = line_row line; text = labelled a (subst (λ (vs : List Token). Body line vs (cells is)) (sym h.1) b) }) q)
+          (λ is b q. n (Some m) is (record { tokens = tokens_from line 0; row = line_row line; text = labelled a (subst (λ (vs : List Token). Body line vs (cells is)) (sym h.1) b) }) q)
       go (none_is none f g) =
           ap (body_cells line) g
-          ∙ none_in 0 (λ is b q. n Absent is (record { tokens = tokens_from line 0; row = line_row line; text = unlabelled none b }) q)
+          ∙ none_in 0 (λ is b q. n None is (record { tokens = tokens_from line 0; row = line_row line; text = unlabelled none b }) q)

@@ -9,24 +9,23 @@ use Rattle.numerals.specs.Bytes.{bytes}
 use Rattle.isa.specs.declared.Opcode.TheVariants as Op
 use Rattle.isa.specs.declared.Operand.{Operand}
 use Rattle.isa.specs.declared.Operand.TheVariants as O
-use Rattle.values.specs.declared.LabelIn.{LabelIn}
-use Rattle.values.specs.declared.LabelIn.TheVariants.{Absent, Named}
+use Rattle.std.proofs.Common.{Option, Some, None, Result, Ok, Err}
+use Rattle.statements.specs.declared.Failure.{Failure}
+use Rattle.values.specs.declared.Name.{Name}
 use Rattle.operands.specs.declared.Given.{Given}
 use Rattle.statements.specs.Judging.{refusal_of, claim_of}
 use Rattle.statements.specs.Reading.{line_read}
 use Rattle.statements.specs.declared.Statement.{Statement}
 use Rattle.statements.specs.declared.Statement.TheVariants.{Nothing, Instruction, Org, Equ, Res, Data, End}
-use Rattle.statements.specs.declared.StatementRead.{StatementRead}
-use Rattle.statements.specs.declared.StatementRead.TheVariants.{Passes, Fails}
 use Rattle.statements.proofs.Computing.{computed_line}
 
 -- a line of these bytes passes its own checks
-abbrev Line : List ℕ → LabelIn → Statement → Type 0
-Line s l st = line_read s ≡ record { label = l; statement = Passes st }
+abbrev Line : List ℕ → Option Name → Statement → Type 0
+Line s l st = line_read s ≡ record { label = l; statement = Ok st }
 
 -- a line without a label says this
 abbrev pub Means : String → Statement → Type 0
-Means text st = Line (bytes text) Absent st
+Means text st = Line (bytes text) None st
 
 -- each of these lines says this
 abbrev pub Each : Statement → List String → Type 0
@@ -35,7 +34,7 @@ Each st (text ∷ texts) = Means text st × Each st texts
 
 -- a line of these bytes, without a label, is refused with this number
 abbrev pub Refused : ℕ → List ℕ → Type 0
-Refused n s = ((line_read s).label ≡ Absent) × (refusal_of (line_read s).statement ≡ n)
+Refused n s = ((line_read s).label ≡ None) × (refusal_of (line_read s).statement ≡ n)
 
 -- so is each of these lines
 abbrev pub Refuses : ℕ → List String → Type 0
@@ -43,8 +42,8 @@ Refuses n [] = Unit {0}
 Refuses n (text ∷ texts) = Refused n (bytes text) × Refuses n texts
 
 -- a line's first bytes, so many, are its label
-abbrev label_of : ℕ → LabelIn
-label_of n = Named (record { start = 0; end = n })
+abbrev label_of : ℕ → Option Name
+label_of n = Some (record { start = 0; end = n })
 
 -- a line says this behind a label, or is refused with this number all the same
 abbrev pub Labelled : ℕ → String → Statement → Type 0
@@ -54,9 +53,9 @@ abbrev pub RefusedBehind : ℕ → String → ℕ → Type 0
 RefusedBehind n text number = ((line_read (bytes text)).label ≡ label_of n) × (refusal_of (line_read (bytes text)).statement ≡ number)
 
 -- each of these lines claims so many cells
-abbrev claimed : StatementRead → ℕ
-claimed (Passes st) = claim_of st
-claimed (Fails f) = 0
+abbrev claimed : Result Statement Failure → ℕ
+claimed (Ok st) = claim_of st
+claimed (Err f) = 0
 
 abbrev pub Claims : ℕ → List String → Type 0
 Claims n [] = Unit {0}
@@ -67,7 +66,7 @@ abbrev deep_org : ℕ → String → List ℕ
 deep_org n text = bytes "ORG" ++ (replicate n 40 ++ (bytes text ++ replicate n 41))
 
 abbrev plain : Operand → Given
-plain o = record { operand = o; label = Absent }
+plain o = record { operand = o; label = None }
 
 abbrev nop : Statement
 nop = Instruction Op.NOP (plain O.Absent) (plain O.Absent)
@@ -85,12 +84,12 @@ pub record Examples : Type 0 where
   pub label_then_end : Labelled 1 "x: END: junk" End
   pub no_blank_owed : Labelled 1 "x:NOP" nop
   -- blanks may stand before it
-  pub label_after_blanks : Line (bytes " \tx: NOP") (Named (record { start = 2; end = 3 })) nop
+  pub label_after_blanks : Line (bytes " \tx: NOP") (Some (record { start = 2; end = 3 })) nop
   pub no-word : Refuses 3 (": NOP" ∷ "5" ∷ "\"a\"" ∷ ".A" ∷ [])
   -- "END is a word like any other"
   pub end_as_label : Labelled 3 "END:" Nothing
-  pub end_as_operand : Means "BR /END" (Instruction Op.BR (record { operand = O.Memory 0; label = Named (record { start = 4; end = 7 }) }) (plain O.Absent))
-  pub end_ignores : Line (bytes "END, \"" ++ (1 ∷ [])) Absent End
+  pub end_as_operand : Means "BR /END" (Instruction Op.BR (record { operand = O.Memory 0; label = Some (record { start = 4; end = 7 }) }) (plain O.Absent))
+  pub end_ignores : Line (bytes "END, \"" ++ (1 ∷ [])) None End
   pub any_case : Means "eNd" End
   -- a stray byte is form, and the word comes before it
   pub stray_after_a_word : Refused 3 (bytes "NOP" ++ (128 ∷ []))
@@ -122,7 +121,7 @@ pub record Examples : Type 0 where
   pub wrong-count : Refuses 15 ("MOVE .A,.A,.A" ∷ "NOP .A" ∷ "HALT /70000" ∷ "INC" ∷ "BR $1,$2" ∷ [])
   pub wrong-kind : Refuses 16 ("INC $3" ∷ "INC $40000" ∷ "BR #3[.SP]" ∷ "BZ .R3" ∷ "MOVE #1,#2" ∷ [])
   -- form, then depth, then values
-  pub deepest-origin : Line (deep_org 32 "5") Absent (Org 5)
+  pub deepest-origin : Line (deep_org 32 "5") None (Org 5)
   pub too_deep : Refused 8 (deep_org 33 "1/0")
   pub form-first : Refused 3 (deep_org 33 "x")
   -- "RES must claim its cells" (02, K2); `RES 0` has none

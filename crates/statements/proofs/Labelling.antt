@@ -12,7 +12,7 @@ use Rattle.tokens.specs.declared.Kind.{Kind}
 use Rattle.tokens.specs.declared.Kind.TheVariants as K
 use Rattle.tokens.specs.declared.Token.{Token}
 use Rattle.values.specs.Values.{name_at}
-use Rattle.values.specs.declared.LabelIn.TheVariants.{Absent, Named}
+use Rattle.std.proofs.Common.{Some, None}
 use Rattle.values.specs.declared.Name.{Name}
 use Rattle.tokens.proofs.Heads.{row-head}
 use Rattle.statements.specs.Statements.{Label, label}
@@ -50,13 +50,13 @@ both false false e = never (cc)
 module _ (ts : List Token) where
   pub data Labels : Type 0 where
     label_is : (n : Name) (us : List Token) → Label ts n us → Labels
-    none_is : ((n : Name) (us : List Token) → Label ts n us → ⊥) → label_read ts ≡ Absent → after_label ts ≡ ts → Labels
+    none_is : ((n : Name) (us : List Token) → Label ts n us → ⊥) → label_read ts ≡ None → after_label ts ≡ ts → Labels
 
 -- a label is read as what it is
 pub label_tested : {ts us : List Token} {n : Name} → Label ts n us → labelled ts ≡ true
 label_tested (label {w} {c} {ts} k m d) = rw (k, m, d)
 
-pub label-read : {ts us : List Token} {n : Name} → Label ts n us → label_read ts ≡ Named n
+pub label-read : {ts us : List Token} {n : Name} → Label ts n us → label_read ts ≡ Some n
 unfolding label_read
 label-read (label {w} {c} {ts} k m d) = rw (k, m, d)
 

@@ -11,7 +11,7 @@ use Rattle.tokens.specs.declared.Kind.{Kind}
 use Rattle.tokens.specs.declared.Token.{Token}
 use Rattle.tokens.proofs.Places.{EndsAt}
 use Rattle.tokens.proofs.Top.{line_row, one-row, row_ordered}
-use Rattle.values.specs.declared.LabelIn.{LabelIn}
+use Rattle.std.proofs.Common.{Option}
 use Rattle.values.specs.declared.Name.{Name}
 use Rattle.operands.specs.Operands.{OperandField}
 use Rattle.operands.specs.declared.Written.{Written}
@@ -36,17 +36,17 @@ label-within line h = within line h.row h.label
 module _ (line : List ℕ) where
   -- what holds of a body from some place of the line on holds of the line
   module _ {r : Reading} {X : Type 0} (body : (at : ℕ) (us : List Token) → tokens_from line at ≡ us → Body line us r → X) where
-    from-text : {ts : List Token} {l : LabelIn} → tokens_from line 0 ≡ ts → LineText line ts l r → X
+    from-text : {ts : List Token} {l : Option Name} → tokens_from line 0 ≡ ts → LineText line ts l r → X
     from-text e (labelled {us = us} {n = n} a b) =
         let h = behind-label line 0 (subst (λ (ts : List Token). Label ts n us) (sym e) a) in
         body h.0 us (sym h.1) b
     from-text {ts} e (unlabelled none b) = body 0 ts e b
 
-    from-says : {l : LabelIn} → Says line l r → X
+    from-says : {l : Option Name} → Says line l r → X
     from-says x = from-text (one-row (line_row line) x.row) x.text
 
   -- the place right behind the word
-  pub items-from : {l : LabelIn} {is : List Item} → Says line l (cells is) → (at : ℕ) × Items line (tokens_from line at) is
+  pub items-from : {l : Option Name} {is : List Item} → Says line l (cells is) → (at : ℕ) × Items line (tokens_from line at) is
   items-from {is = is} x = from-says go x
     where
       go : (at : ℕ) (us : List Token) → tokens_from line at ≡ us → Body line us (cells is) → (from : ℕ) × Items line (tokens_from line from) is
@@ -54,7 +54,7 @@ module _ (line : List ℕ) where
           let k = s.word in
           (w.next.at, subst (λ (vs : List Token). Items line vs is) (goes_on_lem line at e (λ z. never (cc))) f)
 
-  pub operands-from : {l : LabelIn} {op : Opcode} {os : List Written} → Says line l (instruction op os)
+  pub operands-from : {l : Option Name} {op : Opcode} {os : List Written} → Says line l (instruction op os)
       → (at : ℕ) × OperandField line (tokens_from line at) os
   operands-from {op = op} {os} x = from-says go x
     where
@@ -65,7 +65,7 @@ module _ (line : List ℕ) where
           (w.next.at, subst (λ (vs : List Token). OperandField line vs os) (goes_on_lem line at e (λ z. never (cc))) f)
 
   -- DATA's cells are no more than the line's bytes
-  pub few-cells : {l : LabelIn} {is : List Item} → Says line l (cells is) → length (cells_of is) ≤ length line
+  pub few-cells : {l : Option Name} {is : List Item} → Says line l (cells is) → length (cells_of is) ≤ length line
   few-cells x =
       let h = items-from x in
       omega (arith, Items.few-cells line h.0 ((items-exactly line h.0).1 h.1))

@@ -8,19 +8,18 @@ use lib.IntN.{ℤ, pos, negsuc, ◌+ℤ◌}
 use lib.Signed.{mag, lt_z, le_z}
 use mir.Syntax.{w16}
 use mir.Val.{of_z}
-use Rattle.expressions.specs.declared.ExpressionRead.{ExpressionRead}
-use Rattle.expressions.specs.declared.ExpressionRead.TheVariants as E
-use Rattle.expressions.specs.declared.Worth.{Worth}
-use Rattle.expressions.specs.declared.Worth.TheVariants as W
+use Rattle.std.proofs.Common.{Result, Ok, Err}
+use Rattle.statements.specs.declared.Failure.{Failure}
+use Rattle.expressions.specs.declared.Fault.TheVariants.{OutOfRange, ByZero}
+use Rattle.expressions.specs.declared.Malformed.{Malformed}
+use Rattle.expressions.specs.declared.Malformed.TheVariants.{TooDeep, WrongForm}
+use Rattle.expressions.specs.Worths.{Worth}
 use Rattle.statements.specs.Checks.{result_in}
 use Rattle.statements.specs.Judging.{result_of, worth_result}
 use Rattle.statements.specs.Reading.{expression_result}
 use Rattle.statements.specs.Inner.Parts.{cell_in, worth_outcome, outcome_of, said}
 use Rattle.statements.specs.declared.Failure.TheVariants.{ResultOut}
-use Rattle.statements.specs.declared.Outcome.{Outcome}
-use Rattle.statements.specs.declared.Outcome.TheVariants.{Value, Fails}
 use Rattle.statements.specs.declared.Statement.{Statement}
-use Rattle.statements.specs.declared.StatementRead.TheVariants as S
 use Rattle.statements.proofs.Labelling.{never}
 
 -- ---- the two tests
@@ -38,15 +37,15 @@ before-not (negsuc a) (pos b) e = never (cc)
 before-not (negsuc a) (negsuc b) e = le-leb a b (ltb-false b a e)
 
 module _ (least z : ℤ) where
-  pub below : lt_z z least ≡ true → cell_in least z ≡ Fails ResultOut
+  pub below : lt_z z least ≡ true → cell_in least z ≡ Err ResultOut
   unfolding cell_in
   below e = rw (before_is z least e)
 
-  pub above : lt_z z least ≡ false → lt_z (pos 65535) z ≡ true → cell_in least z ≡ Fails ResultOut
+  pub above : lt_z z least ≡ false → lt_z (pos 65535) z ≡ true → cell_in least z ≡ Err ResultOut
   unfolding cell_in
   above e f = rw (before-not z least e, before_is (pos 65535) z f)
 
-  pub inside : lt_z z least ≡ false → lt_z (pos 65535) z ≡ false → cell_in least z ≡ Value (of_z w16 z)
+  pub inside : lt_z z least ≡ false → lt_z (pos 65535) z ≡ false → cell_in least z ≡ Ok (of_z w16 z)
   unfolding cell_in
   inside e f = rw (before-not z least e, before-not (pos 65535) z f)
 
@@ -77,20 +76,20 @@ module _ (least : ℤ) (makes : ℕ → Statement) where
   unfolding cell_in result_of
   cell-said z = go (result_in least z)
     where
-      go : (b : Bool) → said makes (cond b (Value (of_z w16 z)) (Fails ResultOut)) ≡ cond b (S.Passes (makes (of_z w16 z))) (S.Fails ResultOut)
+      go : (b : Bool) → said makes (cond b (Ok (of_z w16 z)) (Err ResultOut)) ≡ cond b (Ok (makes (of_z w16 z))) (Err ResultOut)
       go true = refl
       go false = refl
 
   worth-said : (w : Worth) → said makes (worth_outcome least w) ≡ worth_result least makes w
-  worth-said (W.Is z) = cell-said z
-  worth-said W.OutOfRange = refl
-  worth-said W.ByZero = refl
+  worth-said (Ok z) = cell-said z
+  worth-said (Err OutOfRange) = refl
+  worth-said (Err ByZero) = refl
 
-  outcome-said : (r : ExpressionRead) → said makes (outcome_of least r) ≡ expression_result least makes r
-  outcome-said (E.Read w) = worth-said w
-  outcome-said E.TooDeep = refl
-  outcome-said E.WrongForm = refl
+  outcome-said : (r : Result Worth Malformed) → said makes (outcome_of least r) ≡ expression_result least makes r
+  outcome-said (Ok w) = worth-said w
+  outcome-said (Err TooDeep) = refl
+  outcome-said (Err WrongForm) = refl
 
   -- what the code hands back, by the outcome that it found
-  pub says-outcome : {o p : Outcome} {r r' : ExpressionRead} → r ≡ r' → o ≡ outcome_of least r → o ≡ p → said makes p ≡ expression_result least makes r'
+  pub says-outcome : {o p : Result ℕ Failure} {r r' : Result Worth Malformed} → r ≡ r' → o ≡ outcome_of least r → o ≡ p → said makes p ≡ expression_result least makes r'
   says-outcome {r = r} e f g = ap (said makes) (sym g ∙ f) ∙ outcome-said r ∙ ap (expression_result least makes) e

@@ -22,22 +22,23 @@ use Rattle.names.specs.Names.{word_of}
 use Rattle.names.specs.declared.Word.{Word}
 use Rattle.names.specs.declared.Word.TheVariants as W
 use Rattle.values.specs.Values.{name_at}
-use Rattle.values.specs.declared.LabelIn.{LabelIn}
-use Rattle.values.specs.declared.LabelIn.TheVariants.{Absent, Named}
+use Rattle.std.proofs.Common.{Option, Some, None, Result, Ok, Err}
+use Rattle.operands.specs.declared.Operands.{Operands}
+use Rattle.expressions.specs.declared.Fault.TheVariants.{OutOfRange, ByZero}
+use Rattle.items.specs.declared.ItemsFault.{ItemsFault}
+use Rattle.items.specs.declared.ItemsFault.TheVariants.{WrongForm, OutOfRange}
+use Rattle.expressions.specs.declared.Malformed.{Malformed}
+use Rattle.expressions.specs.declared.Malformed.TheVariants.{TooDeep, WrongForm}
+use Rattle.operands.specs.declared.OperandsFault.{OperandsFault}
+use Rattle.operands.specs.declared.OperandsFault.TheVariants.{WrongForm, OutOfRange}
 use Rattle.values.specs.declared.Name.{Name}
 use Rattle.values.proofs.Spacing.{SameName, AlikeLabel, absent, named}
 use Rattle.expressions.specs.Reading.{expression_read}
-use Rattle.expressions.specs.declared.ExpressionRead.{ExpressionRead}
-use Rattle.expressions.specs.declared.ExpressionRead.TheVariants as E
-use Rattle.expressions.specs.declared.Worth.TheVariants as V'
 use Rattle.expressions.proofs.Spacing.{SameKinds, alike-kinds, expression-same}
 use Rattle.operands.specs.Operands.{word_at}
 use Rattle.operands.specs.declared.Given.{Given}
-use Rattle.operands.specs.declared.InstructionRead.{InstructionRead}
 use Rattle.operands.proofs.Spacing.{AlikeGiven, AlikeRead, read, wrong-form, wrong-count, wrong-kind, out_of_range, instruction-alike}
 use Rattle.items.specs.Reading.{items_read}
-use Rattle.items.specs.declared.ItemsRead.{ItemsRead}
-use Rattle.items.specs.declared.ItemsRead.TheVariants as I
 use Rattle.items.proofs.Spacing.{items-same, cells_same}
 use Rattle.statements.specs.Statements.{StatementWord, WordIn, behind, first, Says, HasWord}
 use Rattle.statements.specs.Statements as R
@@ -49,8 +50,6 @@ use Rattle.statements.specs.declared.Failure.{Failure}
 use Rattle.statements.specs.declared.Failure.TheVariants.{ResultOut}
 use Rattle.statements.specs.declared.Statement.{Statement}
 use Rattle.statements.specs.declared.Statement.TheVariants as S
-use Rattle.statements.specs.declared.StatementRead.{StatementRead}
-use Rattle.statements.specs.declared.StatementRead.TheVariants.{Passes, Fails}
 use Rattle.statements.proofs.Labelling.{never, Labels, label_is, none_is, labels, label_after}
 use Rattle.statements.proofs.Lines.{read-judged, one-reading}
 use Rattle.statements.proofs.CellsGiven.{no_cells}
@@ -67,11 +66,11 @@ placeless S.End = true
 
 module _ (line line' : List ℕ) where
   -- the same statement, with labels of the same bytes, or the same failure
-  pub data AlikeStatement : StatementRead → StatementRead → Type 0 where
+  pub data AlikeStatement : Result Statement Failure → Result Statement Failure → Type 0 where
     instruction : {op : Opcode} {a a' b b' : Given} → AlikeGiven line line' a a' → AlikeGiven line line' b b'
-        → AlikeStatement (Passes (S.Instruction op a b)) (Passes (S.Instruction op a' b'))
-    other : (s : Statement) → T (placeless s) → AlikeStatement (Passes s) (Passes s)
-    fails : (why : Failure) → AlikeStatement (Fails why) (Fails why)
+        → AlikeStatement (Ok (S.Instruction op a b)) (Ok (S.Instruction op a' b'))
+    other : (s : Statement) → T (placeless s) → AlikeStatement (Ok s) (Ok s)
+    fails : (why : Failure) → AlikeStatement (Err why) (Err why)
 
 -- two lines that read alike
 pub record ReadAlike (line line' : List ℕ) : Type 0 where
@@ -85,7 +84,7 @@ true-false e = false≢true (sym e)
 module _ (line line' : List ℕ) where
   -- ---- statements by their words
 
-  instruction-says : (op : Opcode) {r r' : InstructionRead} → AlikeRead line line' r r'
+  instruction-says : (op : Opcode) {r r' : Result Operands OperandsFault} → AlikeRead line line' r r'
       → AlikeStatement line line' (instruction_result op r) (instruction_result op r')
   instruction-says op (read h g) = instruction h g
   instruction-says op wrong-form = fails _
@@ -94,24 +93,24 @@ module _ (line line' : List ℕ) where
   instruction-says op out_of_range = fails _
 
   passing : (y : Bool) (s : Statement) (why : Failure) → T (placeless s)
-      → AlikeStatement line line' (cond y (Passes s) (Fails why)) (cond y (Passes s) (Fails why))
+      → AlikeStatement line line' (cond y (Ok s) (Err why)) (cond y (Ok s) (Err why))
   passing true s why t = other s t
   passing false s why t = fails why
 
   -- a statement that has an expression's value
-  expression-says : (least : ℤ) (makes : ℕ → Statement) → ((v : ℕ) → T (placeless (makes v))) → (r : ExpressionRead)
+  expression-says : (least : ℤ) (makes : ℕ → Statement) → ((v : ℕ) → T (placeless (makes v))) → (r : Result Worth Malformed)
       → AlikeStatement line line' (expression_result least makes r) (expression_result least makes r)
   unfolding result_of
-  expression-says least makes p (E.Read (V'.Is z)) = passing (result_in least z) (makes (of_z w16 z)) ResultOut (p (of_z w16 z))
-  expression-says least makes p (E.Read V'.OutOfRange) = fails _
-  expression-says least makes p (E.Read V'.ByZero) = fails _
-  expression-says least makes p E.TooDeep = fails _
-  expression-says least makes p E.WrongForm = fails _
+  expression-says least makes p (Ok (Ok z)) = passing (result_in least z) (makes (of_z w16 z)) ResultOut (p (of_z w16 z))
+  expression-says least makes p (Ok (Err OutOfRange)) = fails _
+  expression-says least makes p (Ok (Err ByZero)) = fails _
+  expression-says least makes p (Err TooDeep) = fails _
+  expression-says least makes p (Err WrongForm) = fails _
 
-  items_say : (r : ItemsRead) → AlikeStatement line line' (items_result r) (items_result r)
-  items_say (I.Cells n) = other (S.Data n) tt
-  items_say I.WrongForm = fails _
-  items_say I.OutOfRange = fails _
+  items_say : (r : Result ℕ ItemsFault) → AlikeStatement line line' (items_result r) (items_result r)
+  items_say (Ok n) = other (S.Data n) tt
+  items_say (Err WrongForm) = fails _
+  items_say (Err OutOfRange) = fails _
 
   -- ORG, EQU and RES look at their tokens' kinds alone
   of_expression : {ts ts' : List Token} → SameKinds ts ts' → (least : ℤ) (makes : ℕ → Statement) → ((v : ℕ) → T (placeless (makes v)))
@@ -177,7 +176,7 @@ module _ (line line' : List ℕ) where
     rest : AlikeRow line line' signs before (after_label ts) (after_label ts')
 
   label_picked : (y y' : Bool) → y ≡ y' → (n n' : Name) → SameName line line' n n'
-      → AlikeLabel line line' (cond y (Named n) Absent) (cond y' (Named n') Absent)
+      → AlikeLabel line line' (cond y (Some n) None) (cond y' (Some n') None)
   label_picked true true e n n' h = named h
   label_picked true false e n n' h = absurd (true-false e)
   label_picked false true e n n' h = absurd (true-false (sym e))
@@ -310,7 +309,7 @@ signless-read {line} {line'} {x} a w t =
 -- ---- END
 
 -- "All bytes after END as a statement's word are ignored": two lines that say END read alike, whatever follows, if their labels do
-pub end_read : {line line' : List ℕ} {l l' : LabelIn} → Says line l R.end → Says line' l' R.end → AlikeLabel line line' l l' → ReadAlike line line'
+pub end_read : {line line' : List ℕ} {l l' : Option Name} → Says line l R.end → Says line' l' R.end → AlikeLabel line line' l l' → ReadAlike line line'
 unfolding judged
 end_read {line} {line'} {l} {l'} e e' h =
     let r = read-judged line e in

@@ -2,13 +2,13 @@
 -- source": "word 4; form 3; 5; 8; 6 or 7 in order of evaluation (left, right, operation); then the statement's result"; "15 comes before 16 in its old place", 5's: 02, K4).
 use Rattle.std.specs.Prelude.{ℕ, ◌<◌, Bool, true, false, ◌&&◌, List, [], ◌∷◌, ◌≡◌, ℤ, pos, negsuc}
 use Rattle.std.specs.Int.Signed.{le_z}
-use Rattle.numerals.specs.declared.Kept.TheVariants as N
-use Rattle.values.specs.declared.LabelIn.{LabelIn}
+use Rattle.std.specs.Prelude.{Option, None, Ok, Err}
+use Rattle.values.specs.declared.Name.{Name}
+use Rattle.expressions.specs.declared.Fault.TheVariants.{OutOfRange, ByZero}
 use Rattle.isa.specs.declared.Opcode.{Opcode}
 use Rattle.codes.specs.Limits.{deepest}
 use Rattle.expressions.specs.Trees.{Tree, depth}
 use Rattle.expressions.specs.Worths.{worth_of}
-use Rattle.expressions.specs.declared.Worth.TheVariants as E
 use Rattle.operands.specs.Checks.{right_count, kind_allowed, operand_at, word_of}
 use Rattle.operands.specs.declared.Written.{Written}
 use Rattle.items.specs.Items.{all_in_range}
@@ -69,27 +69,27 @@ TooDeep = OfExpression (λ least e. deepest < depth e)
 -- "number, expression .. out of range": an operand's number; an item's; an expression's number or operation, before any zero divisor
 abbrev pub NumberOut : Reading → Type 0
 NumberOut nothing = ⊥
-NumberOut (instruction op os) = (i : ℕ) × (word_of (operand_at os i) ≡ N.OutOfRange)
-NumberOut (org e) = worth_of e ≡ E.OutOfRange
-NumberOut (equ e) = worth_of e ≡ E.OutOfRange
-NumberOut (res e) = worth_of e ≡ E.OutOfRange
+NumberOut (instruction op os) = (i : ℕ) × (word_of (operand_at os i) ≡ None)
+NumberOut (org e) = worth_of e ≡ Err OutOfRange
+NumberOut (equ e) = worth_of e ≡ Err OutOfRange
+NumberOut (res e) = worth_of e ≡ Err OutOfRange
 NumberOut (cells is) = all_in_range is ≡ false
 NumberOut end = ⊥
 
 -- "expression divides by zero", before any number or operation is out of range
 abbrev pub ZeroDivisor : Reading → Type 0
-ZeroDivisor = OfExpression (λ least e. worth_of e ≡ E.ByZero)
+ZeroDivisor = OfExpression (λ least e. worth_of e ≡ Err ByZero)
 
 -- "then the statement's result"
 abbrev pub ResultOut : Reading → Type 0
-ResultOut = OfExpression (λ least e. (z : ℤ) × (worth_of e ≡ E.Is z) × (result_in least z ≡ false))
+ResultOut = OfExpression (λ least e. (z : ℤ) × (worth_of e ≡ Ok z) × (result_in least z ≡ false))
 
 -- ---- of a line
 
 module _ (line : List ℕ) where
   -- the line has a reading of which this holds
   abbrev pub OfReading : (Reading → Type 0) → Type 0
-  OfReading P = (l : LabelIn) × (r : Reading) × Says line l r × P r
+  OfReading P = (l : Option Name) × (r : Reading) × Says line l r × P r
 
   unfoldable pub checks : List (Check ℕ)
   checks =

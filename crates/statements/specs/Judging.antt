@@ -7,11 +7,13 @@ use Rattle.isa.specs.declared.Opcode.{Opcode}
 use Rattle.codes.specs.Limits.{deepest}
 use Rattle.expressions.specs.Trees.{Tree, depth}
 use Rattle.expressions.specs.Worths.{worth_of}
-use Rattle.expressions.specs.declared.Worth.{Worth}
-use Rattle.expressions.specs.declared.Worth.TheVariants as E
+use Rattle.expressions.specs.Worths.{Worth}
+use Rattle.std.specs.Prelude.{Result, Ok, Err}
+use Rattle.operands.specs.declared.Operands.{Operands}
+use Rattle.expressions.specs.declared.Fault.TheVariants.{OutOfRange, ByZero}
+use Rattle.operands.specs.declared.OperandsFault.{OperandsFault}
+use Rattle.operands.specs.declared.OperandsFault.TheVariants.{WrongForm, WrongCount, WrongKind, OutOfRange}
 use Rattle.operands.specs.Checks as Operands
-use Rattle.operands.specs.declared.InstructionRead.{InstructionRead}
-use Rattle.operands.specs.declared.InstructionRead.TheVariants as I
 use Rattle.items.specs.Items.{cells_of, all_in_range}
 use Rattle.statements.specs.Statements.{Reading, nothing, instruction, org, equ, res, cells, end}
 use Rattle.statements.specs.Checks.{least_unsigned, least_signed, result_in}
@@ -19,8 +21,6 @@ use Rattle.statements.specs.declared.Failure.{Failure}
 use Rattle.statements.specs.declared.Failure.TheVariants.{UnknownWord, WrongForm, WrongCount, WrongKind, TooDeep, OutOfRange, ByZero, ResultOut}
 use Rattle.statements.specs.declared.Statement.{Statement}
 use Rattle.statements.specs.declared.Statement.TheVariants.{Nothing, Instruction, Org, Equ, Res, Data, End}
-use Rattle.statements.specs.declared.StatementRead.{StatementRead}
-use Rattle.statements.specs.declared.StatementRead.TheVariants.{Passes, Fails}
 
 -- ---- the paper's numbers
 
@@ -35,42 +35,42 @@ number_of ByZero = 7
 number_of ResultOut = 6
 
 -- 0 where the line's own checks pass
-abbrev pub refusal_of : StatementRead → ℕ
-refusal_of (Passes s) = 0
-refusal_of (Fails f) = number_of f
+abbrev pub refusal_of : Result Statement Failure → ℕ
+refusal_of (Ok s) = 0
+refusal_of (Err f) = number_of f
 
 -- ---- an expression: 8, then 6 or 7, then the result, "kept modulo 65536"
 
-unfoldable pub result_of : ℤ → (ℕ → Statement) → ℤ → StatementRead
-result_of least says z = cond (result_in least z) (Passes (says (of_z w16 z))) (Fails ResultOut)
+unfoldable pub result_of : ℤ → (ℕ → Statement) → ℤ → Result Statement Failure
+result_of least says z = cond (result_in least z) (Ok (says (of_z w16 z))) (Err ResultOut)
 
-abbrev pub worth_result : ℤ → (ℕ → Statement) → Worth → StatementRead
-worth_result least says (E.Is z) = result_of least says z
-worth_result least says E.OutOfRange = Fails OutOfRange
-worth_result least says E.ByZero = Fails ByZero
+abbrev pub worth_result : ℤ → (ℕ → Statement) → Worth → Result Statement Failure
+worth_result least says (Ok z) = result_of least says z
+worth_result least says (Err OutOfRange) = Err OutOfRange
+worth_result least says (Err ByZero) = Err ByZero
 
-unfoldable pub tree_result : ℤ → (ℕ → Statement) → Tree → StatementRead
-tree_result least says e = cond (leb (depth e) deepest) (worth_result least says (worth_of e)) (Fails TooDeep)
+unfoldable pub tree_result : ℤ → (ℕ → Statement) → Tree → Result Statement Failure
+tree_result least says e = cond (leb (depth e) deepest) (worth_result least says (worth_of e)) (Err TooDeep)
 
 -- ---- an opcode's operands: 15, 16, then 6
 
-abbrev pub instruction_result : Opcode → InstructionRead → StatementRead
-instruction_result op (I.Read a b) = Passes (Instruction op a b)
-instruction_result op I.WrongForm = Fails WrongForm
-instruction_result op I.WrongCount = Fails WrongCount
-instruction_result op (I.WrongKind place) = Fails (WrongKind place)
-instruction_result op I.OutOfRange = Fails OutOfRange
+abbrev pub instruction_result : Opcode → Result Operands OperandsFault → Result Statement Failure
+instruction_result op (Ok r) = Ok (Instruction op r.first r.second)
+instruction_result op (Err WrongForm) = Err WrongForm
+instruction_result op (Err WrongCount) = Err WrongCount
+instruction_result op (Err (WrongKind place)) = Err (WrongKind place)
+instruction_result op (Err OutOfRange) = Err OutOfRange
 
 -- ---- what a reading comes to
 
-unfoldable pub judged : Reading → StatementRead
-judged nothing = Passes Nothing
+unfoldable pub judged : Reading → Result Statement Failure
+judged nothing = Ok Nothing
 judged (instruction op os) = instruction_result op (Operands.judged op os)
 judged (org e) = tree_result least_unsigned Org e
 judged (equ e) = tree_result least_signed Equ e
 judged (res e) = tree_result least_unsigned Res e
-judged (cells is) = cond (all_in_range is) (Passes (Data (length (cells_of is)))) (Fails OutOfRange)
-judged end = Passes End
+judged (cells is) = cond (all_in_range is) (Ok (Data (length (cells_of is)))) (Err OutOfRange)
+judged end = Ok End
 
 -- how many cells a statement claims: an instruction its words, DATA its items'; "RES must claim its cells" (02, K2)
 abbrev pub claim_of : Statement → ℕ

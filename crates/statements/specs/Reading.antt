@@ -9,24 +9,23 @@ use Rattle.names.specs.Names.{word_of}
 use Rattle.names.specs.declared.Word.{Word}
 use Rattle.names.specs.declared.Word.TheVariants as W
 use Rattle.values.specs.Values.{name_at}
-use Rattle.values.specs.declared.LabelIn.{LabelIn}
-use Rattle.values.specs.declared.LabelIn.TheVariants.{Absent, Named}
+use Rattle.std.specs.Prelude.{Option, Some, None, Result, Ok, Err}
+use Rattle.statements.specs.declared.Failure.{Failure}
+use Rattle.values.specs.declared.Name.{Name}
+use Rattle.items.specs.declared.ItemsFault.{ItemsFault}
+use Rattle.items.specs.declared.ItemsFault.TheVariants.{WrongForm, OutOfRange}
+use Rattle.expressions.specs.declared.Malformed.{Malformed}
+use Rattle.expressions.specs.declared.Malformed.TheVariants.{TooDeep, WrongForm}
 use Rattle.expressions.specs.Reading.{expression_read}
-use Rattle.expressions.specs.declared.ExpressionRead.{ExpressionRead}
-use Rattle.expressions.specs.declared.ExpressionRead.TheVariants as E
 use Rattle.operands.specs.Operands.{word_at}
 use Rattle.operands.specs.Checks.{instruction_read}
 use Rattle.items.specs.Reading.{items_read}
-use Rattle.items.specs.declared.ItemsRead.{ItemsRead}
-use Rattle.items.specs.declared.ItemsRead.TheVariants as I
 use Rattle.statements.specs.Checks.{least_unsigned, least_signed}
 use Rattle.statements.specs.Judging.{worth_result, instruction_result}
 use Rattle.statements.specs.declared.Failure.TheVariants.{UnknownWord, WrongForm, TooDeep, OutOfRange}
 use Rattle.statements.specs.declared.LineRead.{LineRead}
 use Rattle.statements.specs.declared.Statement.{Statement}
 use Rattle.statements.specs.declared.Statement.TheVariants.{Nothing, Org, Equ, Res, Data, End}
-use Rattle.statements.specs.declared.StatementRead.{StatementRead}
-use Rattle.statements.specs.declared.StatementRead.TheVariants.{Passes, Fails}
 
 abbrev pub is_word : Kind → Bool
 is_word K.End = false
@@ -52,12 +51,12 @@ labelled [] = false
 labelled (w ∷ []) = false
 labelled (w ∷ c ∷ ts) = is_word w.kind && (is_colon c.kind && c.directly)
 
-abbrev pub first_name : List Token → LabelIn
-first_name [] = Absent
-first_name (w ∷ ts) = Named (name_at w)
+abbrev pub first_name : List Token → Option Name
+first_name [] = None
+first_name (w ∷ ts) = Some (name_at w)
 
-unfoldable pub label_read : List Token → LabelIn
-label_read ts = cond (labelled ts) (first_name ts) Absent
+unfoldable pub label_read : List Token → Option Name
+label_read ts = cond (labelled ts) (first_name ts) None
 
 abbrev pub behind_two : List Token → List Token
 behind_two [] = []
@@ -69,30 +68,30 @@ after_label ts = cond (labelled ts) (behind_two ts) ts
 
 -- ---- the statement
 
-abbrev pub expression_result : ℤ → (ℕ → Statement) → ExpressionRead → StatementRead
-expression_result least says (E.Read w) = worth_result least says w
-expression_result least says E.TooDeep = Fails TooDeep
-expression_result least says E.WrongForm = Fails WrongForm
+abbrev pub expression_result : ℤ → (ℕ → Statement) → Result Worth Malformed → Result Statement Failure
+expression_result least says (Ok w) = worth_result least says w
+expression_result least says (Err TooDeep) = Err TooDeep
+expression_result least says (Err WrongForm) = Err WrongForm
 
-abbrev pub items_result : ItemsRead → StatementRead
-items_result (I.Cells n) = Passes (Data n)
-items_result I.WrongForm = Fails WrongForm
-items_result I.OutOfRange = Fails OutOfRange
+abbrev pub items_result : Result ℕ ItemsFault → Result Statement Failure
+items_result (Ok n) = Ok (Data n)
+items_result (Err WrongForm) = Err WrongForm
+items_result (Err OutOfRange) = Err OutOfRange
 
 module _ (line : List ℕ) where
-  abbrev pub by_word : Word → List Token → StatementRead
+  abbrev pub by_word : Word → List Token → Result Statement Failure
   by_word (W.Instructs op) ts = instruction_result op (instruction_read line op ts)
   by_word W.Org ts = expression_result least_unsigned Org (expression_read ts)
   by_word W.Equ ts = expression_result least_signed Equ (expression_read ts)
   by_word W.Res ts = expression_result least_unsigned Res (expression_read ts)
   by_word W.Data ts = items_result (items_read line ts)
-  by_word W.End ts = Passes End
-  by_word W.Unknown ts = Fails UnknownWord
+  by_word W.End ts = Ok End
+  by_word W.Unknown ts = Err UnknownWord
 
   -- "a token there that is no word is 3"
-  unfoldable pub statement_read : List Token → StatementRead
-  statement_read [] = Passes Nothing
-  statement_read (w ∷ ts) = cond (is_word w.kind) (by_word (word_of (word_at line w)) ts) (Fails WrongForm)
+  unfoldable pub statement_read : List Token → Result Statement Failure
+  statement_read [] = Ok Nothing
+  statement_read (w ∷ ts) = cond (is_word w.kind) (by_word (word_of (word_at line w)) ts) (Err WrongForm)
 
 unfoldable pub line_read : List ℕ → LineRead
 line_read line = record { label = label_read (tokens_from line 0); statement = statement_read line (after_label (tokens_from line 0)) }

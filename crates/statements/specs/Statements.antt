@@ -10,8 +10,7 @@ use Rattle.names.specs.declared.Word.{Word}
 use Rattle.names.specs.declared.Word.TheVariants as W
 use Rattle.tokens.specs.Marks.{IsMark}
 use Rattle.values.specs.Values.{name_at}
-use Rattle.values.specs.declared.LabelIn.{LabelIn}
-use Rattle.values.specs.declared.LabelIn.TheVariants.{Absent, Named}
+use Rattle.std.specs.Prelude.{Option, Some, None}
 use Rattle.values.specs.declared.Name.{Name}
 use Rattle.expressions.specs.Trees.{Tree, Expression}
 use Rattle.operands.specs.Operands.{word_at, OperandField}
@@ -51,9 +50,9 @@ module _ (line : List ℕ) where
     ends : {w : Token} {ts : List Token} → StatementWord w W.End → Body (w ∷ ts) end
 
   -- a line's tokens, its label and what it says
-  pub data LineText : List Token → LabelIn → Reading → Type 0 where
-    labelled : {ts us : List Token} {n : Name} {r : Reading} → Label ts n us → Body us r → LineText ts (Named n) r
-    unlabelled : {ts : List Token} {r : Reading} → ((n : Name) (us : List Token) → Label ts n us → ⊥) → Body ts r → LineText ts Absent r
+  pub data LineText : List Token → Option Name → Reading → Type 0 where
+    labelled : {ts us : List Token} {n : Name} {r : Reading} → Label ts n us → Body us r → LineText ts (Some n) r
+    unlabelled : {ts : List Token} {r : Reading} → ((n : Name) (us : List Token) → Label ts n us → ⊥) → Body ts r → LineText ts None r
 
   -- the statement's word among a line's tokens, behind its label or first
   pub data WordIn (x : Word) : List Token → Type 0 where
@@ -63,7 +62,7 @@ module _ (line : List ℕ) where
 -- ---- over a line's bytes
 
 -- the line has this label and says this: its bytes are a row of tokens that do
-pub record Says (line : List ℕ) (l : LabelIn) (r : Reading) : Type 0 where
+pub record Says (line : List ℕ) (l : Option Name) (r : Reading) : Type 0 where
   pub tokens : List Token
   pub row : RowOf line tokens
   pub text : LineText line tokens l r
@@ -87,4 +86,4 @@ UnknownWord line = HasWord line W.Unknown
 
 -- the line says nothing that the rules give
 abbrev pub NoReading : List ℕ → Type 0
-NoReading line = (l : LabelIn) (r : Reading) → Says line l r → ⊥
+NoReading line = (l : Option Name) (r : Reading) → Says line l r → ⊥

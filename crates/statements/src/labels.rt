@@ -7,7 +7,7 @@ use super::Labelled;
 use numerals::Cursor;
 use tokens::tokens::next_token;
 use tokens::{Kind, Token};
-use values::{LabelIn, Name};
+use values::Name;
 
 pub fn is_word(k: Kind) -> bool
     ensures { result ≡ is_word k }
@@ -34,7 +34,7 @@ fn unlabelled(w: Token) -> Labelled
     ensures { result ≡ no_label w }
 {
     Labelled {
-        label: LabelIn::Absent,
+        label: None,
         word: w,
     }
 }
@@ -54,8 +54,8 @@ pub fn label(s: &[u8]) -> Labelled
         return unlabelled(w);
     }
     Labelled {
-        label: LabelIn::Named(Name {
-            start: start,
+        label: Some(Name {
+            start,
             end: next.at,
         }),
         word: next_token(s, Cursor { at: next.at + 1 }),

@@ -2,10 +2,10 @@
 // is in specs/: Statements.antt and Checks.antt.
 #![tactic(auto)]
 
+use values::Name;
 use isa::Opcode;
 use operands::Given;
 use tokens::Token;
-use values::LabelIn;
 
 pub mod cells; // the cells that a line's DATA gives
 pub mod labels; // a line's label, and the token after it
@@ -39,30 +39,16 @@ pub enum Failure {
     ResultOut,
 }
 
-// What a line's statement comes to: it passes the line's own checks and says this, or this is the first of them that fails.
-#[derive(Clone, Copy)]
-pub enum StatementRead {
-    Passes(Statement),
-    Fails(Failure),
-}
-
 // A line's reading.
 #[derive(Clone, Copy)]
 pub struct LineRead {
-    pub label: LabelIn,
-    pub statement: StatementRead,
+    pub label: Option<Name>,
+    pub statement: Result<Statement, Failure>,
 }
 
 // A line's label, and the statement's first token.
 #[derive(Clone, Copy)]
 pub struct Labelled {
-    pub label: LabelIn,
+    pub label: Option<Name>,
     pub word: Token,
-}
-
-// An expression's result as a cell, or the check that fails.
-#[derive(Clone, Copy)]
-enum Outcome {
-    Value(u16),
-    Fails(Failure),
 }

@@ -6,14 +6,14 @@ ghost use Rattle.statements.specs.Inner.Parts.{begun_by};
 
 use super::labels::label;
 use super::results::{cells, equ, instructs, org, res};
-use super::{Failure, LineRead, Statement, StatementRead};
+use super::{Failure, LineRead, Statement};
 use names::Word;
 use names::lookup::statement_word;
 use numerals::Cursor;
 use tokens::{Kind, Token};
 
 // What a statement says, by what its word is; what follows END is not looked at.
-fn by_word(s: &[u8], word: Word, from: Cursor) -> StatementRead
+fn by_word(s: &[u8], word: Word, from: Cursor) -> Result<Statement, Failure>
     ensures { result ≡ by_word s.now word (tokens_from s.now from.at) }
 {
     match word {
@@ -22,25 +22,25 @@ fn by_word(s: &[u8], word: Word, from: Cursor) -> StatementRead
         Word::Equ => equ(s, from),
         Word::Res => res(s, from),
         Word::Data => cells(s, from),
-        Word::End => StatementRead::Passes(Statement::End),
-        Word::Unknown => StatementRead::Fails(Failure::UnknownWord),
+        Word::End => Ok(Statement::End),
+        Word::Unknown => Err(Failure::UnknownWord),
     }
 }
 
 // The statement that a token begins: its word is that token.
-fn statement(s: &[u8], w: Token) -> StatementRead
+fn statement(s: &[u8], w: Token) -> Result<Statement, Failure>
     ensures { result ≡ statement_read s.now (begun_by s.now w) }
 {
     let kind = w.kind;
     let start = w.start;
     let next = w.next;
     match kind {
-        Kind::End => StatementRead::Passes(Statement::Nothing),
-        Kind::Stray => StatementRead::Fails(Failure::WrongForm),
+        Kind::End => Ok(Statement::Nothing),
+        Kind::Stray => Err(Failure::WrongForm),
         Kind::Word => by_word(s, statement_word(s, start, next.at), next),
-        Kind::Number(_, _) => StatementRead::Fails(Failure::WrongForm),
-        Kind::Text => StatementRead::Fails(Failure::WrongForm),
-        Kind::Mark(_) => StatementRead::Fails(Failure::WrongForm),
+        Kind::Number(_, _) => Err(Failure::WrongForm),
+        Kind::Text => Err(Failure::WrongForm),
+        Kind::Mark(_) => Err(Failure::WrongForm),
     }
 }
 

@@ -11,96 +11,96 @@ ghost use Rattle.statements.specs.Reading.{expression_result, items_result};
 ghost use Rattle.statements.specs.Inner.Parts.{cell_in, outcome_of};
 ghost use Rattle.statements.specs.declared.Statement.TheVariants.{Org, Equ, Res};
 
-use super::{Failure, Outcome, Statement, StatementRead};
+use items::ItemsFault;
+use operands::{OperandsFault, Operands};
+use super::{Failure, Statement};
 use expressions::reading::expression;
-use expressions::{ExpressionRead, Worth};
+use expressions::{Worth, Fault, Malformed};
 use isa::Opcode;
-use items::ItemsRead;
 use items::reading::items;
 use numerals::Cursor;
-use operands::InstructionRead;
 use operands::instruction::instruction;
 
 // A result from the least one up to 65535, kept modulo 65536.
-fn in_range(least: i32, z: i32) -> Outcome
+fn in_range(least: i32, z: i32) -> Result<u16, Failure>
     requires { mag least < 65536 }
     ensures { result ≡ cell_in least z }
 {
     if z < least {
-        return Outcome::Fails(Failure::ResultOut);
+        return Err(Failure::ResultOut);
     }
     if 65535 < z {
-        return Outcome::Fails(Failure::ResultOut);
+        return Err(Failure::ResultOut);
     }
     if z < 0 {
-        return Outcome::Value((z + 65536) as u16);
+        return Ok((z + 65536) as u16);
     }
-    Outcome::Value(z as u16)
+    Ok(z as u16)
 }
 
 // Form 3, depth 8, and 6 or 7 of the expression come before the result's range.
-fn outcome(least: i32, read: ExpressionRead) -> Outcome
+fn outcome(least: i32, read: Result<Worth, Malformed>) -> Result<u16, Failure>
     requires { mag least < 65536 }
     ensures { result ≡ outcome_of least read }
 {
     match read {
-        ExpressionRead::Read(w) => match w {
-            Worth::Is(z) => in_range(least, z),
-            Worth::OutOfRange => Outcome::Fails(Failure::OutOfRange),
-            Worth::ByZero => Outcome::Fails(Failure::ByZero),
+        Ok(w) => match w {
+            Ok(z) => in_range(least, z),
+            Err(Fault::OutOfRange) => Err(Failure::OutOfRange),
+            Err(Fault::ByZero) => Err(Failure::ByZero),
         },
-        ExpressionRead::TooDeep => Outcome::Fails(Failure::TooDeep),
-        ExpressionRead::WrongForm => Outcome::Fails(Failure::WrongForm),
+        Err(Malformed::TooDeep) => Err(Failure::TooDeep),
+        Err(Malformed::WrongForm) => Err(Failure::WrongForm),
     }
 }
 
-pub(crate) fn org(s: &[u8], from: Cursor) -> StatementRead
+pub(crate) fn org(s: &[u8], from: Cursor) -> Result<Statement, Failure>
     ensures { result ≡ expression_result least_unsigned Org (expression_read (tokens_from s.now from.at)) }
 {
     match outcome(0, expression(s, from)) {
-        Outcome::Value(v) => StatementRead::Passes(Statement::Org(v)),
-        Outcome::Fails(why) => StatementRead::Fails(why),
+        Ok(v) => Ok(Statement::Org(v)),
+        Err(why) => Err(why),
     }
 }
 
-pub(crate) fn equ(s: &[u8], from: Cursor) -> StatementRead
+pub(crate) fn equ(s: &[u8], from: Cursor) -> Result<Statement, Failure>
     ensures { result ≡ expression_result least_signed Equ (expression_read (tokens_from s.now from.at)) }
 {
     match outcome(-32768, expression(s, from)) {
-        Outcome::Value(v) => StatementRead::Passes(Statement::Equ(v)),
-        Outcome::Fails(why) => StatementRead::Fails(why),
+        Ok(v) => Ok(Statement::Equ(v)),
+        Err(why) => Err(why),
     }
 }
 
-pub(crate) fn res(s: &[u8], from: Cursor) -> StatementRead
+pub(crate) fn res(s: &[u8], from: Cursor) -> Result<Statement, Failure>
     ensures { result ≡ expression_result least_unsigned Res (expression_read (tokens_from s.now from.at)) }
 {
     match outcome(0, expression(s, from)) {
-        Outcome::Value(v) => StatementRead::Passes(Statement::Res(v)),
-        Outcome::Fails(why) => StatementRead::Fails(why),
+        Ok(v) => Ok(Statement::Res(v)),
+        Err(why) => Err(why),
     }
 }
 
 // An opcode with the operands that follow it.
-pub(crate) fn instructs(s: &[u8], op: Opcode, from: Cursor) -> StatementRead
+pub(crate) fn instructs(s: &[u8], op: Opcode, from: Cursor) -> Result<Statement, Failure>
     ensures { result ≡ instruction_result op (instruction_read s.now op (tokens_from s.now from.at)) }
 {
     match instruction(s, op, from) {
-        InstructionRead::Read(a, b) => StatementRead::Passes(Statement::Instruction(op, a, b)),
-        InstructionRead::WrongForm => StatementRead::Fails(Failure::WrongForm),
-        InstructionRead::WrongCount => StatementRead::Fails(Failure::WrongCount),
-        InstructionRead::WrongKind(place) => StatementRead::Fails(Failure::WrongKind(place)),
-        InstructionRead::OutOfRange => StatementRead::Fails(Failure::OutOfRange),
+        Ok(Operands { first: a, second: b }) => Ok(Statement::Instruction(op, a, b)),
+        Err(OperandsFault::WrongForm) => Err(Failure::WrongForm),
+        Err(OperandsFault::WrongCount) => Err(Failure::WrongCount),
+        Err(OperandsFault::WrongKind(place)) => Err(Failure::WrongKind(place)),
+        Err(OperandsFault::OutOfRange) => Err(Failure::OutOfRange),
     }
 }
 
 // DATA with the items that follow it.
-pub(crate) fn cells(s: &[u8], from: Cursor) -> StatementRead
+pub(crate) fn cells(s: &[u8], from: Cursor) -> Result<Statement, Failure>
     ensures { result ≡ items_result (items_read s.now (tokens_from s.now from.at)) }
 {
     match items(s, from) {
-        ItemsRead::Cells(n) => StatementRead::Passes(Statement::Data(n)),
-        ItemsRead::WrongForm => StatementRead::Fails(Failure::WrongForm),
-        ItemsRead::OutOfRange => StatementRead::Fails(Failure::OutOfRange),
+        Ok(n) => Ok(Statement::Data(n)),
+        Err(ItemsFault::WrongForm) => Err(Failure::WrongForm),
+        Err(ItemsFault::OutOfRange) => Err(Failure::OutOfRange),
     }
 }

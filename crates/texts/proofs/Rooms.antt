@@ -14,7 +14,7 @@ use Rattle.numerals.proofs.Filling.{written-text, length-decimal}
 use Rattle.ports.specs.Overwriting.{overwrite}
 use Rattle.ports.specs.Input.{Passed, passed}
 use Rattle.ports.specs.Output.{text_put}
-use Rattle.ports.specs.declared.Moved.{Moved}
+use Rattle.std.proofs.Common.{Result}
 use Rattle.ports.proofs.Outcomes.{text-put}
 use Rattle.ports.proofs.Overwrites.{overwrite-none, overwrite-length, overwrite-more, overwrite-after}
 use Rattle.texts.specs.Lines.{text_of}
@@ -63,7 +63,7 @@ pub wrote_length : (xs : List ℕ) (at : ℕ) (ys : List ℕ) {after : List ℕ}
 wrote_length xs at ys h w = ap length w.1 ∙ overwrite-length xs at ys h
 
 -- a text that fits is written
-put-row : (xs : List ℕ) (at : ℕ) (ys : List ℕ) {after : List ℕ} {r : Moved} → at + length ys ≤ length xs → passed r after ≡ text_put xs at ys
+put-row : (xs : List ℕ) (at : ℕ) (ys : List ℕ) {after : List ℕ} {r : Result ℕ ℕ} → at + length ys ≤ length xs → passed r after ≡ text_put xs at ys
     → after ≡ overwrite xs at ys
 put-row xs at ys h e = ap (λ (p : Passed). p.row) (e ∙ text-put xs at ys (le-leb (at + length ys) (length xs) h))
 
@@ -89,7 +89,7 @@ module _ {w : Written} (body : List ℕ) (short : length body ≤ 11) (is : w �
   text-taken = rw text-places.0 (take_all (11 - w.start) body (omega (arith, text-start.1)))
 
   -- a text and this one behind it
-  wrote_behind : (xs : List ℕ) (at : ℕ) (text : List ℕ) {mid after : List ℕ} {r s : Moved} → at + length (text ++ body) ≤ length xs
+  wrote_behind : (xs : List ℕ) (at : ℕ) (text : List ℕ) {mid after : List ℕ} {r s : Result ℕ ℕ} → at + length (text ++ body) ≤ length xs
       → passed r mid ≡ text_put xs at text
       → passed s after ≡ text_put mid (at + length text) (take (11 - w.start) (drop w.start w.bytes))
       → Wrote xs at (text ++ body) after (at + length text + (11 - w.start))
@@ -112,7 +112,7 @@ module _ {w : Written} (n : ℕ) (is : w ≡ written (decimal n)) where
   places-start = text-start (decimal n) short-decimal is
 
   -- a text and a decimal behind it
-  pub wrote_field : (xs : List ℕ) (at : ℕ) (text : List ℕ) {mid after : List ℕ} {r s : Moved} → at + length (text ++ decimal n) ≤ length xs
+  pub wrote_field : (xs : List ℕ) (at : ℕ) (text : List ℕ) {mid after : List ℕ} {r s : Result ℕ ℕ} → at + length (text ++ decimal n) ≤ length xs
       → passed r mid ≡ text_put xs at text
       → passed s after ≡ text_put mid (at + length text) (take (11 - w.start) (drop w.start w.bytes))
       → Wrote xs at (text ++ decimal n) after (at + length text + (11 - w.start))
@@ -129,13 +129,13 @@ module _ {w : Written} (x : ℕ) (cell : x < 65536) (is : w ≡ written (signed_
   pub signed-start : (w.start ≤ 11) × (11 - w.start ≡ length (signed_decimal x))
   signed-start = text-start (signed_decimal x) short-signed is
 
-  pub wrote_signed : (xs : List ℕ) (at : ℕ) (text : List ℕ) {mid after : List ℕ} {r s : Moved} → at + length (text ++ signed_decimal x) ≤ length xs
+  pub wrote_signed : (xs : List ℕ) (at : ℕ) (text : List ℕ) {mid after : List ℕ} {r s : Result ℕ ℕ} → at + length (text ++ signed_decimal x) ≤ length xs
       → passed r mid ≡ text_put xs at text
       → passed s after ≡ text_put mid (at + length text) (take (11 - w.start) (drop w.start w.bytes))
       → Wrote xs at (text ++ signed_decimal x) after (at + length text + (11 - w.start))
   wrote_signed = wrote_behind (signed_decimal x) short-signed is
 
 -- a text alone
-pub wrote_text : (xs : List ℕ) (at : ℕ) (ys : List ℕ) {after : List ℕ} {r : Moved} → at + length ys ≤ length xs → passed r after ≡ text_put xs at ys
+pub wrote_text : (xs : List ℕ) (at : ℕ) (ys : List ℕ) {after : List ℕ} {r : Result ℕ ℕ} → at + length ys ≤ length xs → passed r after ≡ text_put xs at ys
     → Wrote xs at ys after (at + length ys)
 wrote_text xs at ys h e = (refl, put-row xs at ys h e)

@@ -10,7 +10,7 @@ pub fn piece(room: &mut [u8], at: usize, text: &[u8]) -> usize
     requires { at + length text.now ≤ length room.old }
     ensures { Wrote room.old at text.now room.new result }
 {
-    put_text(room, at, text);
+    let _ = put_text(room, at, text);
     at + text.len()
 }
 
@@ -19,12 +19,12 @@ pub fn field(room: &mut [u8], at: usize, text: &[u8], n: u32) -> usize
     requires { at + length (text.now ++ decimal n) ≤ length room.old }
     ensures { Wrote room.old at (text.now ++ decimal n) room.new result }
 {
-    put_text(room, at, text);
+    let _ = put_text(room, at, text);
     let written = numerals::writing::unsigned_decimal(n);
     let bytes = written.bytes;
     let start = written.start;
     let next = at + text.len();
-    put_text(room, next, &bytes[start..]);
+    let _ = put_text(room, next, &bytes[start..]);
     next + (11 - start)
 }
 
@@ -33,11 +33,11 @@ pub fn signed_field(room: &mut [u8], at: usize, text: &[u8], x: u16) -> usize
     requires { at + length (text.now ++ signed_decimal x) ≤ length room.old }
     ensures { Wrote room.old at (text.now ++ signed_decimal x) room.new result }
 {
-    put_text(room, at, text);
+    let _ = put_text(room, at, text);
     let written = numerals::writing::signed_decimal(x);
     let bytes = written.bytes;
     let start = written.start;
     let next = at + text.len();
-    put_text(room, next, &bytes[start..]);
+    let _ = put_text(room, next, &bytes[start..]);
     next + (11 - start)
 }

@@ -13,8 +13,9 @@ use lib.Seq.{drop-drop, drop-cons}
 use Rattle.numerals.specs.Bytes.{is_digit}
 use Rattle.numerals.specs.Numbers.{Unsigned, cut}
 use Rattle.numerals.specs.Reading.{run, unsigned_at}
-use Rattle.numerals.specs.declared.NumberRead.{NumberRead}
-use Rattle.numerals.specs.declared.NumberRead.TheVariants.{Found, Absent}
+use Rattle.std.proofs.Common.{Option, Some, None}
+use Rattle.numerals.specs.declared.Read.{Read}
+use Rattle.numerals.specs.declared.Numeral.{Numeral}
 use Rattle.numerals.specs.declared.Radix.{Radix}
 use Rattle.numerals.proofs.Numbers.{unsigned_sound, unsigned_complete}
 use Rattle.tokens.specs.Bytes.{is_blank, is_mark}
@@ -45,10 +46,10 @@ split : (s : List ℕ) (at : ℕ) → at < length s → drop at s ≡ get_or s a
 split s at l = drop-cons s at 0 l ∙ rw (add-one at)
 
 module _ (s : List ℕ) (at : ℕ) (d : Bool) where
-  number-means : (r : NumberRead) → at < length s → is_digit (get_or s at 0) ≡ true → unsigned_at s at ≡ r
+  number-means : (r : Option (Read Numeral)) → at < length s → is_digit (get_or s at 0) ≡ true → unsigned_at s at ≡ r
       → Means s (number_token r at d).kind at (number_token r at d).next.at
-  number-means (Found n c) l g e = let h = unsigned_sound s at e in (h.worth_is, h.magnitude_is, h.reads.1)
-  number-means Absent l g e = rw (split s at l) (number {b = get_or s at 0} (rw g tt) (λ k v rest u. none k v rest (rw (split s at l) u)))
+  number-means (Some r) l g e = let h = unsigned_sound s at e in (h.worth_is, h.magnitude_is, h.reads.1)
+  number-means None l g e = rw (split s at l) (number {b = get_or s at 0} (rw g tt) (λ k v rest u. none k v rest (rw (split s at l) u)))
     where
       none : (k : Radix) (v : ℕ) (rest : List ℕ) → Unsigned (drop at s) k v rest → ⊥
       none k v rest u = let z : ◌≡◌ {A = ℕ} 0 1 = cc (unsigned_complete s at u) in omega arith

@@ -9,22 +9,23 @@ use lib.Dec.{eqb}
 use lib.ListN.{length, get_or, drop}
 use borrow.Author.Tests.{ne_eqb}
 use Rattle.numerals.specs.Reading.{unsigned_at}
-use Rattle.numerals.specs.declared.NumberRead.{NumberRead}
-use Rattle.numerals.specs.declared.NumberRead.TheVariants.{Found, Absent}
+use Rattle.std.proofs.Common.{Option, Some, None}
+use Rattle.numerals.specs.Reading.{upto}
+use Rattle.numerals.specs.declared.Read.{Read}
+use Rattle.numerals.specs.declared.Numeral.{Numeral}
 use Rattle.tokens.specs.Bytes.{is_mark}
 use Rattle.tokens.specs.Marks.{mark_of}
 use Rattle.tokens.specs.Reading.{blanks, Closing, after, never, closing, number_token, string_token, token_here, token_at}
 use Rattle.tokens.specs.Commas.{follows_of}
 use Rattle.tokens.specs.declared.Follows.TheVariants.{Comma, Over, Neither}
-use Rattle.tokens.specs.declared.MarkRead.TheVariants as M
 use Rattle.tokens.specs.declared.Token.{Token}
 use Rattle.tokens.proofs.Classes.{high_no_blank, is_inside, is-mark, mark-alone}
 use Rattle.tokens.proofs.Here.{here_end, here-comment, here-mark, Outcome, past, number, word, string, comment, mark, stray, outcome}
 
 -- a number is no comma and not the line's end, found or broken
-number-neither : (r : NumberRead) (at : ℕ) (d : Bool) → follows_of (number_token r at d) ≡ Neither
-number-neither (Found n c) at d = refl
-number-neither Absent at d = refl
+number-neither : (r : Option (Read Numeral)) (at : ℕ) (d : Bool) → follows_of (number_token r at d) ≡ Neither
+number-neither (Some g) at d = refl
+number-neither None at d = refl
 
 -- nor is a string, closed or broken
 string-neither : (c : Closing) (at : ℕ) (d : Bool) → follows_of (string_token c at d) ≡ Neither
@@ -56,17 +57,17 @@ comma-here : (s : List ℕ) (at : ℕ) (d : Bool) → at < length s → get_or s
 comma-here s at d l e = ap follows_of (here-mark s at d l (rw e) (rw e) (rw e) (comma_is_mark (get_or s at 0) e)) ∙ rw e
 
 -- a number is no mark, found or broken
-number_no_mark : (r : NumberRead) (at : ℕ) (d : Bool) → mark_of (number_token r at d) ≡ M.Absent
-number_no_mark (Found n c) at d = refl
-number_no_mark Absent at d = refl
+number_no_mark : (r : Option (Read Numeral)) (at : ℕ) (d : Bool) → mark_of (number_token r at d) ≡ None
+number_no_mark (Some g) at d = refl
+number_no_mark None at d = refl
 
 -- nor is a string, closed or broken
-string_no_mark : (c : Closing) (at : ℕ) (d : Bool) → mark_of (string_token c at d) ≡ M.Absent
+string_no_mark : (c : Closing) (at : ℕ) (d : Bool) → mark_of (string_token c at d) ≡ None
 string_no_mark (after n) at d = refl
 string_no_mark never at d = refl
 
 -- a byte that is no mark begins none
-outcome_no_mark : {s : List ℕ} {at : ℕ} {d : Bool} {t : Token} → Outcome s at d t → is_mark (get_or s at 0) ≡ false → mark_of t ≡ M.Absent
+outcome_no_mark : {s : List ℕ} {at : ℕ} {d : Bool} {t : Token} → Outcome s at d t → is_mark (get_or s at 0) ≡ false → mark_of t ≡ None
 outcome_no_mark (past h) k = refl
 outcome_no_mark {s} {at} {d} (number h g) k = number_no_mark (unsigned_at s at) at d
 outcome_no_mark (word h g w) k = refl
@@ -77,7 +78,7 @@ outcome_no_mark (stray h n) k = refl
 
 -- a mark's byte is that mark, and is taken
 mark-here : (s : List ℕ) (at : ℕ) (d : Bool) → at < length s → is_mark (get_or s at 0) ≡ true
-    → mark_of (token_here s at d) ≡ M.Is (get_or s at 0) (record { at = at + 1 })
+    → mark_of (token_here s at d) ≡ Some (upto (get_or s at 0) (record { at = at + 1 }))
 mark-here s at d l m =
     let n = mark-alone (get_or s at 0) m in
     ap mark_of (here-mark s at d l n.word n.quote n.semicolon m)
@@ -105,11 +106,11 @@ module _ (s : List ℕ) (from at : ℕ) (e : at ≡ from + blanks (drop from s))
 
   -- ---- marks
 
-  pub mark-past : length s ≤ at → M.Absent ≡ mark_of (token_at s from)
+  pub mark-past : length s ≤ at → None ≡ mark_of (token_at s from)
   mark-past h = sym (ap mark_of (token-there ∙ here_end s at (eqb (blanks (drop from s)) 0) h))
 
-  pub mark_is : at < length s → is_mark (get_or s at 0) ≡ true → M.Is (get_or s at 0) (record { at = at + 1 }) ≡ mark_of (token_at s from)
+  pub mark_is : at < length s → is_mark (get_or s at 0) ≡ true → Some (upto (get_or s at 0) (record { at = at + 1 })) ≡ mark_of (token_at s from)
   mark_is l m = sym (ap mark_of token-there ∙ mark-here s at (eqb (blanks (drop from s)) 0) l m)
 
-  pub mark-none : is_mark (get_or s at 0) ≡ false → M.Absent ≡ mark_of (token_at s from)
+  pub mark-none : is_mark (get_or s at 0) ≡ false → None ≡ mark_of (token_at s from)
   mark-none m = sym (ap mark_of token-there ∙ outcome_no_mark (outcome s at (eqb (blanks (drop from s)) 0)) m)

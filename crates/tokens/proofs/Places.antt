@@ -8,8 +8,9 @@ use native.Mathlib.Omega.{arith}
 use lib.Dec.{eqb}
 use lib.ListN.{length, drop, length-drop}
 use Rattle.numerals.specs.Reading.{unsigned_at}
-use Rattle.numerals.specs.declared.NumberRead.{NumberRead}
-use Rattle.numerals.specs.declared.NumberRead.TheVariants.{Found, Absent}
+use Rattle.std.proofs.Common.{Option, Some, None}
+use Rattle.numerals.specs.declared.Read.{Read}
+use Rattle.numerals.specs.declared.Numeral.{Numeral}
 use Rattle.numerals.proofs.Numbers.{unsigned_sound}
 use Rattle.numerals.proofs.Runs.{run_le}
 use Rattle.tokens.specs.Reading.{blanks, Closing, after, never, closing, number_token, string_token, token_here, token_at, after_kind, tokens_within, tokens_from}
@@ -36,9 +37,9 @@ pub record Stands (n at : ℕ) (d : Bool) (t : Token) : Type 0 where
   pub follows : t.directly ≡ d
   pub ends : EndsAt t.kind n at t.next.at
 
-number-stands : (s : List ℕ) (at : ℕ) (d : Bool) (r : NumberRead) → unsigned_at s at ≡ r → Stands (length s) at d (number_token r at d)
-number-stands s at d (Found n c) e = let h = unsigned_sound s at e in record { starts = refl; follows = refl; ends = (h.moved, h.within) }
-number-stands s at d Absent e = record { starts = refl; follows = refl; ends = refl }
+number-stands : (s : List ℕ) (at : ℕ) (d : Bool) (r : Option (Read Numeral)) → unsigned_at s at ≡ r → Stands (length s) at d (number_token r at d)
+number-stands s at d (Some r) e = let h = unsigned_sound s at e in record { starts = refl; follows = refl; ends = (h.moved, h.within) }
+number-stands s at d None e = record { starts = refl; follows = refl; ends = refl }
 
 string-stands : (s : List ℕ) (at : ℕ) (d : Bool) (c : Closing) → at < length s → closing (drop (at + 1) s) ≡ c
     → Stands (length s) at d (string_token c at d)

@@ -14,8 +14,9 @@ use borrow.Author.Tests.{ne_eqb, ltb-false}
 use Rattle.numerals.specs.Bytes.{is_digit, is_word_byte, rank}
 use Rattle.numerals.specs.Numbers.{prefix, Unsigned, cut}
 use Rattle.numerals.specs.Reading.{run, radix_at, unsigned_at}
-use Rattle.numerals.specs.declared.NumberRead.{NumberRead}
-use Rattle.numerals.specs.declared.NumberRead.TheVariants.{Found, Absent}
+use Rattle.std.proofs.Common.{Option, Some, None}
+use Rattle.numerals.specs.declared.Read.{Read}
+use Rattle.numerals.specs.declared.Numeral.{Numeral}
 use Rattle.numerals.specs.declared.Radix.{Radix}
 use Rattle.numerals.specs.declared.Radix.TheVariants.{Decimal}
 use Rattle.numerals.proofs.Numbers.{unsigned_sound, unsigned_complete}
@@ -50,7 +51,7 @@ unfolding token_at
 row_directly s at = row_unfolds s at
 
 -- where no digit stands no number is found, whatever its radix: each prefix begins with a digit
-no_digit_absent : (s : List ℕ) (at : ℕ) → is_digit (get_or s at 0) ≡ false → unsigned_at s at ≡ Absent
+no_digit_absent : (s : List ℕ) (at : ℕ) → is_digit (get_or s at 0) ≡ false → unsigned_at s at ≡ None
 unfolding radix_at
 no_digit_absent s at e =
     let h : 10 ≤ rank (get_or s at 0) = ltb-false (rank (get_or s at 0)) 10 (sym (digit_ranks (get_or s at 0)) ∙ e) in
@@ -106,9 +107,9 @@ module _ (s : List ℕ) where
       let w : is_word_byte b ≡ true = rw g in
       (none_before at e (word_no_blank b w), here-number s at d (within at e) (rw (byte_is at e) g) ∙ go (unsigned_at s at) refl)
     where
-      go : (r : NumberRead) → unsigned_at s at ≡ r → number_token r at d ≡ token Stray at d at
-      go (Found m c) f = let u = unsigned_sound s at f in absurd (n m.radix u.worth_is (drop c.at s) (rw e at u.reads.1))
-      go Absent f = refl
+      go : (r : Option (Read Numeral)) → unsigned_at s at ≡ r → number_token r at d ≡ token Stray at d at
+      go (Some r) f = let u = unsigned_sound s at f in absurd (n r.value.radix u.worth_is (drop r.next.at s) (rw e at u.reads.1))
+      go None f = refl
   broken-here at d (R.string {s = l} n) e = (
     none_before at e (high_no_blank 34 (omega arith)),
     here-string s at d (within at e) (rw (byte_is at e)) (rw (byte_is at e)) ∙ rw (byte_of s at e).1 (go (closing l) refl),
@@ -150,7 +151,7 @@ module _ (s : List ℕ) where
       let m : length s - length rest ≡ at + n = omega (arith, within at f, length-drop at s, ap length e) in
       let o : drop (at + n) s ≡ rest = sym (drop-drop n at s) ∙ rw e (number-follows n u q) in
       begun at d (token (Number (cut v) k) at d (at + n)) (none_before at f (word_no_blank (get_or s at 0) (rw g)))
-      (here-number s at d (within at f) g ∙ ap (λ (x : NumberRead). number_token x at d) (unsigned_complete s at u')
+      (here-number s at d (within at f) g ∙ ap (λ (x : Option (Read Numeral)). number_token x at d) (unsigned_complete s at u')
       ∙ ap (λ (p : ℕ). token (Number (cut v) k) at d p) m)
       ∙ ap (λ (x : List Token). token (Number (cut v) k) at d (at + n) ∷ x) (row_directly s (at + n) ∙ row-complete r o)
   row-complete (R.string {at} {d} {s = l} {cs} {rest} {ts} n k q r) e =

@@ -3,8 +3,9 @@ use Rattle.std.specs.Prelude.{ℕ, cond, ◌≡◌, eqb}
 use Rattle.numerals.specs.declared.Cursor.{Cursor}
 use Rattle.tokens.specs.declared.Kind.{Kind}
 use Rattle.tokens.specs.declared.Kind.TheVariants.{End, Stray, Word, Number, Text, Mark}
-use Rattle.tokens.specs.declared.MarkRead.{MarkRead}
-use Rattle.tokens.specs.declared.MarkRead.TheVariants as M
+use Rattle.std.specs.Prelude.{Option, Some, None}
+use Rattle.numerals.specs.Reading.{upto}
+use Rattle.numerals.specs.declared.Read.{Read}
 use Rattle.tokens.specs.declared.Token.{Token}
 
 -- a token that is this single mark
@@ -25,8 +26,8 @@ abbrev pub only : {S : Type 0} → S → ℕ → S → ℕ → S
 only other x this b = cond (eqb b x) this other
 
 -- the mark that a token is, with the cursor after it; absent where the token is no mark
-abbrev pub mark_by : Kind → Cursor → MarkRead
-mark_by k next = on_mark M.Absent (λ b. M.Is b next) k
+abbrev pub mark_by : Kind → Cursor → Option (Read ℕ)
+mark_by k next = on_mark None (λ b. (Some (upto b next))) k
 
-abbrev pub mark_of : Token → MarkRead
+abbrev pub mark_of : Token → Option (Read ℕ)
 mark_of t = mark_by t.kind t.next

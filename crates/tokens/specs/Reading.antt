@@ -4,8 +4,9 @@ use Rattle.std.specs.Prelude.{ℕ, zero, suc, ◌+◌, ◌-◌, Bool, cond, List
 use Prim.Native.Char.{code}
 use Rattle.numerals.specs.Bytes.{LF, is_digit, is_word_byte, any_word_byte}
 use Rattle.numerals.specs.Reading.{run, unsigned_at}
-use Rattle.numerals.specs.declared.NumberRead.{NumberRead}
-use Rattle.numerals.specs.declared.NumberRead.TheVariants.{Found, Absent}
+use Rattle.std.specs.Prelude.{Option, Some, None}
+use Rattle.numerals.specs.declared.Read.{Read}
+use Rattle.numerals.specs.declared.Numeral.{Numeral}
 use Rattle.tokens.specs.Bytes.{is_blank, is_mark, is_quote, is_semicolon}
 use Rattle.tokens.specs.Strings.{backslash, is_plain}
 use Rattle.tokens.specs.Rows.{token}
@@ -68,9 +69,9 @@ abbrev pub string_token : Closing → ℕ → Bool → Token
 string_token (after n) at d = token Text at d (at + 1 + n)
 string_token never at d = token Stray at d at
 
-abbrev pub number_token : NumberRead → ℕ → Bool → Token
-number_token (Found n c) at d = token (Number n.magnitude n.radix) at d c.at
-number_token Absent at d = token Stray at d at
+abbrev pub number_token : Option (Read Numeral) → ℕ → Bool → Token
+number_token (Some r) at d = token (Number r.value.magnitude r.value.radix) at d r.next.at
+number_token None at d = token Stray at d at
 
 -- the token that begins at a place where no blank stands; `End` at the line's end and at a comment
 unfoldable pub token_here : List ℕ → ℕ → Bool → Token

@@ -37,13 +37,6 @@ pub enum Character {
     Broken,
 }
 
-// The single mark at a cursor, with the cursor after it, or none.
-#[derive(Clone, Copy)]
-pub enum MarkRead {
-    Is(u8, Cursor),
-    Absent,
-}
-
 // What follows an operand or an item of DATA: a comma, with the cursor after it, the line's end, or neither.
 #[derive(Clone, Copy)]
 pub enum Follows {

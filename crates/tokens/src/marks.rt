@@ -4,9 +4,8 @@ ghost use Rattle.tokens.specs.Bytes.{is_mark};
 ghost use Rattle.tokens.specs.Reading.{token_at};
 ghost use Rattle.tokens.specs.Marks.{mark_of};
 
-use super::MarkRead;
 use super::tokens::skip;
-use numerals::Cursor;
+use numerals::{Cursor, Read};
 use numerals::bytes::rank_of;
 
 pub fn is_mark(b: u8) -> bool
@@ -30,16 +29,16 @@ pub fn is_mark(b: u8) -> bool
     true
 }
 
-pub fn mark_at(s: &[u8], from: Cursor) -> MarkRead
+pub fn mark_at(s: &[u8], from: Cursor) -> Option<Read<u8>>
     ensures { result ≡ mark_of (token_at s.now from.at) }
 {
     let at = skip(s, from.at);
     if s.len() <= at {
-        return MarkRead::Absent;
+        return None;
     }
     let b = s[at];
     if is_mark(b) {
-        return MarkRead::Is(b, Cursor { at: at + 1 });
+        return Some(Read { value: b, next: Cursor { at: at + 1 } });
     }
-    MarkRead::Absent
+    None
 }

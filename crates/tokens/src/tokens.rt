@@ -8,7 +8,7 @@ ghost use Rattle.tokens.specs.Reading.{blanks, closing, number_token, string_tok
 use super::strings::character;
 use super::{Character, Kind, Token};
 use numerals::bytes::{rank_of, run_end};
-use numerals::{Cursor, NumberRead};
+use numerals::{Cursor, Read};
 
 pub fn is_blank(b: u8) -> bool
     ensures { result ≡ is_blank b }
@@ -53,11 +53,11 @@ fn number_token(s: &[u8], at: usize, directly: bool) -> Token
     ensures { result ≡ number_token (unsigned_at s.now at) at directly }
 {
     match (Cursor { at: at }).unsigned(s) {
-        NumberRead::Found(n, c) => {
+        Some(Read { value: n, next: c }) => {
             let radix = n.radix;
             spanning(Kind::Number(n.magnitude, radix), at, directly, c.at)
         }
-        NumberRead::Absent => spanning(Kind::Stray, at, directly, at),
+        None => spanning(Kind::Stray, at, directly, at),
     }
 }
 

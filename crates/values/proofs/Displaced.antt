@@ -9,8 +9,7 @@ use lib.IntN.{pos, neg_ℤ}
 use lib.Signed.{le_z}
 use borrow.Author.Tests.{le-leb, lt-leb, lt-ltb, le-ltb}
 use Rattle.numerals.specs.Numbers.{kept_of}
-use Rattle.numerals.specs.declared.Kept.{Kept}
-use Rattle.numerals.specs.declared.Kept.TheVariants.{Cell, OutOfRange}
+use Rattle.std.proofs.Common.{Option, Some, None}
 use Rattle.numerals.specs.declared.Numeral.{Numeral}
 use Rattle.numerals.specs.declared.Radix.{Radix}
 use Rattle.numerals.specs.declared.Radix.TheVariants.{Decimal, Hexadecimal}
@@ -24,8 +23,8 @@ below (suc m) = refl
 
 module _ (n : Numeral) where
   -- a decimal one, whatever its sign is read from
-  signed : Bool → Kept
-  signed b = cond (le_z (cond b (neg_ℤ (pos n.magnitude)) (pos n.magnitude)) (pos 32767)) (kept_of n) OutOfRange
+  signed : Bool → Option ℕ
+  signed b = cond (le_z (cond b (neg_ℤ (pos n.magnitude)) (pos n.magnitude)) (pos 32767)) (kept_of n) None
 
   decimal : n.radix ≡ Decimal → displacement_of n ≡ signed n.negative
   unfolding displacement_of signed
@@ -39,7 +38,7 @@ module _ (n : Numeral) where
   unfolding signed
   displaced-plus r e h = decimal r ∙ ap signed e ∙ rw (le-leb n.magnitude 32767 h)
 
-  pub displaced_high : n.radix ≡ Decimal → n.negative ≡ false → 32767 < n.magnitude → displacement_of n ≡ OutOfRange
+  pub displaced_high : n.radix ≡ Decimal → n.negative ≡ false → 32767 < n.magnitude → displacement_of n ≡ None
   unfolding signed
   displaced_high r e h = decimal r ∙ ap signed e ∙ rw (lt-leb n.magnitude 32767 h)
 
@@ -57,10 +56,10 @@ unfoldable pub signed_of : ℕ → Numeral
 signed_of d = cond (ltb d 32768) (numeral false Decimal d) (numeral true Decimal (65536 - d))
 
 -- it is kept as itself
-pub kept-number : (v : ℕ) → v < 65536 → kept_of (unsigned_of v) ≡ Cell v
-kept-number v h = let e : v % 65536 ≡ v = omega arith in kept-plus (unsigned_of v) refl (omega arith) ∙ ap Cell e
+pub kept-number : (v : ℕ) → v < 65536 → kept_of (unsigned_of v) ≡ Some v
+kept-number v h = let e : v % 65536 ≡ v = omega arith in kept-plus (unsigned_of v) refl (omega arith) ∙ ap Some e
 
-pub kept_displacement : (d : ℕ) → d < 65536 → displacement_of (signed_of d) ≡ Cell d
+pub kept_displacement : (d : ℕ) → d < 65536 → displacement_of (signed_of d) ≡ Some d
 unfolding signed_of
 kept_displacement d h =
     elim (dec_lt d 32768) [
@@ -69,5 +68,5 @@ kept_displacement d h =
           let m = 65536 - d in
           let n = numeral true Decimal m in
           let e : (65536 - m) % 65536 ≡ d = omega arith in
-          rw (le-ltb d 32768 (omega arith)) (displaced-minus n refl refl ∙ kept-minus n refl (omega arith) ∙ ap Cell e)
+          rw (le-ltb d 32768 (omega arith)) (displaced-minus n refl refl ∙ kept-minus n refl (omega arith) ∙ ap Some e)
     ]

@@ -18,8 +18,9 @@ use Rattle.values.specs.Values.{BelowZero, digits, plain, minus, name_at, ValueT
 use Rattle.values.specs.Reading.{minus_at, value_at}
 use Rattle.values.specs.declared.Value.{Value}
 use Rattle.values.specs.declared.Value.TheVariants as V'
-use Rattle.values.specs.declared.ValueRead.{ValueRead}
-use Rattle.values.specs.declared.ValueRead.TheVariants.{Found, Absent}
+use Rattle.std.proofs.Common.{Option, Some, None}
+use Rattle.numerals.specs.Reading.{upto}
+use Rattle.numerals.specs.declared.Read.{Read}
 use Rattle.tokens.proofs.Heads.{row_of, ends_of, row-head}
 use Rattle.values.proofs.Begins.{value_cases, digits_cases, digits-read}
 
@@ -33,20 +34,20 @@ pub record StandsAt (s : List ℕ) (at : ℕ) (v : Value) (c : Cursor) : Type 0 
 
 -- ---- what is found is there
 
-abbrev Told : List ℕ → ℕ → ValueRead → Type 0
-Told s at (Found v c) = StandsAt s at v c
-Told s at Absent = Unit
+abbrev Told : List ℕ → ℕ → Option (Read Value) → Type 0
+Told s at (Some r) = StandsAt s at r.value r.next
+Told s at None = Unit
 
 module _ (s : List ℕ) (at : ℕ) where
   minus-told : IsMark (code "-") (token_at s at) → Told s at (minus_at s (token_at s at).next.at)
   unfolding minus_at
-  minus-told m = digits_cases (token_at s from) below (λ h. subst (Told s at) (sym (h ValueRead found Absent)) tt)
+  minus-told m = digits_cases (token_at s from) below (λ h. subst (Told s at) (sym (h (Option (Read Value)) found None)) tt)
     where
       from : ℕ
       from = (token_at s at).next.at
 
-      found : Numeral → ValueRead
-      found n = Found (V'.Number n) (token_at s from).next
+      found : Numeral → Option (Read Value)
+      found n = Some (upto (V'.Number n) (token_at s from).next)
 
       stands : (n : Numeral) → BelowZero (token_at s from) n → StandsAt s at (V'.Number n) (token_at s from).next
       stands n (digits q r) =
@@ -59,21 +60,21 @@ module _ (s : List ℕ) (at : ℕ) where
           }
 
       below : (n : Numeral) → BelowZero (token_at s from) n → Told s at (minus_at s from)
-      below n b = subst (Told s at) (sym (digits-read found Absent b)) (stands n b)
+      below n b = subst (Told s at) (sym (digits-read found None b)) (stands n b)
 
   told : Told s at (value_at s at)
   unfolding value_at
   told =
       value_cases (token_at s at) (λ e. rw e (one (label e) (row_of s at e) (ends_of s at e)))
       (λ v k e. rw e (one (number (plain e)) (row_of s at e) (ends_of s at e))) (λ m. rw m (minus-told m))
-      (λ h. subst (Told s at) (sym (h ValueRead _ (λ (n : Numeral). Found (V'.Number n) (token_at s at).next) (minus_at s (token_at s at).next.at) Absent)) tt)
+      (λ h. subst (Told s at) (sym (h (Option (Read Value)) _ (λ (n : Numeral). (Some (upto (V'.Number n) (token_at s at).next))) (minus_at s (token_at s at).next.at) None)) tt)
     where
       one : {v : Value} → ValueText (token_at s at ∷ []) v → tokens_from s at ≡ token_at s at ∷ tokens_from s (token_at s at).next.at
           → ((token_at s at).start < (token_at s at).next.at) × ((token_at s at).next.at ≤ length s) → StandsAt s at v (token_at s at).next
       one u e h =
           record { tokens = token_at s at ∷ []; reads = u; row = e; moved = omega (arith, (token_placed s at).starts, h.0); within = h.1 }
 
-  pub value-stands : {v : Value} {c : Cursor} → value_at s at ≡ Found v c → StandsAt s at v c
+  pub value-stands : {v : Value} {c : Cursor} → value_at s at ≡ Some (upto v c) → StandsAt s at v c
   value-stands e = subst (Told s at) e told
 
 -- ---- what is there is found
@@ -81,7 +82,7 @@ module _ (s : List ℕ) (at : ℕ) where
 -- a value found at a place, with the row from its cursor on
 pub record FoundAt (s : List ℕ) (at : ℕ) (v : Value) (us : List Token) : Type 0 where
   pub cursor : Cursor
-  pub found : value_at s at ≡ Found v cursor
+  pub found : value_at s at ≡ Some (upto v cursor)
   pub follows : tokens_from s cursor.at ≡ us
 
 module _ (s : List ℕ) (at : ℕ) where

@@ -11,10 +11,9 @@ use Rattle.tokens.specs.declared.Kind.{Kind}
 use Rattle.tokens.specs.declared.Kind.TheVariants as K
 use Rattle.tokens.specs.declared.Token.{Token}
 use Rattle.tokens.proofs.Spacing.{AsDirectly, SameBytes, AlikeRow, over, next}
-use Rattle.values.specs.Walks.{Step, Result, cons, stepped, walk}
+use Rattle.values.specs.Walks.{Step, RowRead, cons, stepped, walk}
 use Rattle.values.specs.Walks as W
-use Rattle.values.specs.declared.LabelIn.{LabelIn}
-use Rattle.values.specs.declared.LabelIn.TheVariants.{Absent, Named}
+use Rattle.std.proofs.Common.{Option, Some, None}
 use Rattle.values.specs.declared.Name.{Name}
 use Rattle.values.specs.declared.Value.{Value}
 use Rattle.values.specs.declared.Value.TheVariants.{Number, Label}
@@ -30,9 +29,9 @@ module _ (line line' : List ℕ) where
     label : {n n' : Name} → SameName n n' → AlikeValue (Label n) (Label n')
 
   -- no label, or labels with the same bytes
-  pub data AlikeLabel : LabelIn → LabelIn → Type 0 where
-    absent : AlikeLabel Absent Absent
-    named : {n n' : Name} → SameName n n' → AlikeLabel (Named n) (Named n')
+  pub data AlikeLabel : Option Name → Option Name → Type 0 where
+    absent : AlikeLabel None None
+    named : {n n' : Name} → SameName n n' → AlikeLabel (Some n) (Some n')
 
 -- ---- walks
 
@@ -41,11 +40,11 @@ pub data AlikeList {A : Type 0} (Same : A → A → Type 0) : List A → List A 
   none : AlikeList Same [] []
   some : {a a' : A} {xs xs' : List A} → Same a a' → AlikeList Same xs xs' → AlikeList Same (a ∷ xs) (a' ∷ xs')
 
-pub data AlikeResult {A : Type 0} (Same : A → A → Type 0) : Result A → Result A → Type 0 where
+pub data AlikeResult {A : Type 0} (Same : A → A → Type 0) : RowRead A → RowRead A → Type 0 where
   reads : {xs xs' : List A} → AlikeList Same xs xs' → AlikeResult Same (W.reads xs) (W.reads xs')
   wrong : AlikeResult Same W.wrong W.wrong
 
-pub cons-alike : {A : Type 0} (Same : A → A → Type 0) (a a' : A) {r r' : Result A} → Same a a' → AlikeResult Same r r'
+pub cons-alike : {A : Type 0} (Same : A → A → Type 0) (a a' : A) {r r' : RowRead A} → Same a a' → AlikeResult Same r r'
     → AlikeResult Same (cons a r) (cons a' r')
 cons-alike Same a a' h (reads l) = reads (some h l)
 cons-alike Same a a' h wrong = wrong
@@ -55,7 +54,7 @@ pub list_same : {A : Type 0} {xs xs' : List A} → AlikeList (λ (a b : A). a �
 list_same none = refl
 list_same (some e l) = cc (e, list_same l)
 
-pub result-same : {A : Type 0} {r r' : Result A} → AlikeResult (λ (a b : A). a ≡ b) r r' → r ≡ r'
+pub result-same : {A : Type 0} {r r' : RowRead A} → AlikeResult (λ (a b : A). a ≡ b) r r' → r ≡ r'
 result-same (reads l) = ap W.reads (list_same l)
 result-same wrong = refl
 
@@ -78,7 +77,7 @@ module _ {S A : Type 0} (Near : S → S → Type 0) (Same : A → A → Type 0) 
   mark-alike (K.Mark b) h = h b
 
 -- Near says, after a token of a kind, which states are alike. Steps of tokens that are alike lead to alike states; so walks give alike lists.
-module _ {S A : Type 0} (line line' : List ℕ) (begin : S) (step step' : S → Token → Step S A) (finish : S → Result A)
+module _ {S A : Type 0} (line line' : List ℕ) (begin : S) (step step' : S → Token → Step S A) (finish : S → RowRead A)
     (Near : Kind → S → S → Type 0) (Same : A → A → Type 0) (begins : (k : Kind) → Near k begin begin)
     (ends : (k : Kind) (st st' : S) → Near k st st' → AlikeResult Same (finish st) (finish st'))
     (steps : (before k : Kind) (st st' : S) (at end at' end' : ℕ) (d d' : Bool) → AsDirectly true before k d d' → SameBytes line line' k at end at' end'

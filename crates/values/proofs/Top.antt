@@ -10,7 +10,8 @@ use Rattle.tokens.proofs.Places.{Within}
 use Rattle.values.specs.Values.{ValueText}
 use Rattle.values.specs.Reading.{value_at}
 use Rattle.values.specs.declared.Value.{Value}
-use Rattle.values.specs.declared.ValueRead.TheVariants.{Found, Absent}
+use Rattle.std.proofs.Common.{Some, None}
+use Rattle.numerals.specs.Reading.{upto}
 use Rattle.values.proofs.Finds as Finds
 use Rattle.values.proofs.Finds.{StandsAt, FoundAt}
 use Rattle.values.proofs.Within as Bounds
@@ -20,7 +21,7 @@ use Rattle.values.proofs.Examples.{Examples}
 
 -- What `value` finds is the rule's value: the row from the cursor on begins with tokens that are that value, the row from the cursor
 -- handed back follows, and this cursor lies further on, within the line.
-pub found_is_value : (s : List ℕ) (at : ℕ) {v : Value} {c : Cursor} → value_at s at ≡ Found v c → StandsAt s at v c
+pub found_is_value : (s : List ℕ) (at : ℕ) {v : Value} {c : Cursor} → value_at s at ≡ Some (upto v c) → StandsAt s at v c
 found_is_value = Finds.value-stands
 
 -- Where the row from a cursor on begins with tokens that are a value, `value` finds that value, with the cursor after it.
@@ -28,7 +29,7 @@ pub value_is_found : (s : List ℕ) (at : ℕ) {ts us : List Token} {v : Value} 
 value_is_found = Finds.value_found
 
 -- So it is absent only where no value stands.
-pub absent_is_none : (s : List ℕ) (at : ℕ) → value_at s at ≡ Absent → (ts us : List Token) {v : Value} → tokens_from s at ≡ ts ++ us
+pub absent_is_none : (s : List ℕ) (at : ℕ) → value_at s at ≡ None → (ts us : List Token) {v : Value} → tokens_from s at ≡ ts ++ us
     → ValueText ts v → ⊥
 absent_is_none s at e ts us r t = let z : ◌≡◌ {A = ℕ} 0 1 = cc (value_is_found s at r t).found in omega arith
 

@@ -15,25 +15,25 @@ use Rattle.tokens.specs.declared.Follows.TheVariants.{Comma, Over, Neither}
 use Rattle.tokens.specs.declared.Kind.{Kind}
 use Rattle.tokens.specs.declared.Kind.TheVariants as K
 use Rattle.tokens.specs.declared.Token.{Token}
-use Rattle.values.specs.Walks.{Step, to, emit, halt, Result, reads, wrong, cons, stepped, walk}
+use Rattle.values.specs.Walks.{Step, to, emit, halt, RowRead, reads, wrong, cons, stepped, walk}
 use Rattle.tokens.proofs.Heads.{row_of}
 
 module _ {A : Type 0} where
-  pub never : {xs : List A} → ◌≡◌ {A = Result A} wrong (reads xs) → ⊥
+  pub never : {xs : List A} → ◌≡◌ {A = RowRead A} wrong (reads xs) → ⊥
   never e = let z : ◌≡◌ {A = ℕ} 0 1 = cc in omega arith
 
-  pub un_cons : (a : A) (r : Result A) {xs : List A} → cons a r ≡ reads xs → (us : List A) × (r ≡ reads us) × (xs ≡ a ∷ us)
+  pub un_cons : (a : A) (r : RowRead A) {xs : List A} → cons a r ≡ reads xs → (us : List A) × (r ≡ reads us) × (xs ≡ a ∷ us)
   un_cons a (reads us) e = (us, refl, cc)
   un_cons a wrong e = absurd (never e)
 
 -- ---- a turn of the walk
 
-module _ {S A : Type 0} (begin : S) (step : S → Token → Step S A) (finish : S → Result A) (s : List ℕ) where
-  abbrev from : S → ℕ → Result A
+module _ {S A : Type 0} (begin : S) (step : S → Token → Step S A) (finish : S → RowRead A) (s : List ℕ) where
+  abbrev from : S → ℕ → RowRead A
   from st at = walk begin step finish st (tokens_from s at)
 
   -- what follows one that is finished
-  abbrev pub follows_on : A → Follows → Result A
+  abbrev pub follows_on : A → Follows → RowRead A
   follows_on a (Comma c) = cons a (from begin c.at)
   follows_on a Over = reads (a ∷ [])
   follows_on a Neither = wrong
@@ -114,7 +114,7 @@ Each Known [] = Unit
 Each Known (t ∷ ts) = Known t × Each Known ts
 
 -- Listed is the rule for the list. What has been passed stays passed at each step, and the end makes a list of it.
-module _ {S A : Type 0} (begin : S) (step : S → Token → Step S A) (finish : S → Result A) (Text : List Token → A → Type 0)
+module _ {S A : Type 0} (begin : S) (step : S → Token → Step S A) (finish : S → RowRead A) (Text : List Token → A → Type 0)
     (Listed : List Token → List A → Type 0)
     (more : (ts us : List Token) (a : A) (xs : List A) (c : Token) → Text ts a → IsMark (code ",") c → Listed us xs → Listed (ts ++ c ∷ us) (a ∷ xs))
     (Passed : S → List Token → Type 0) (none : Passed begin []) (Known : Token → Type 0)

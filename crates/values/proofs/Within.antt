@@ -6,8 +6,7 @@ use Rattle.tokens.specs.declared.Kind.{Kind}
 use Rattle.tokens.specs.declared.Token.{Token}
 use Rattle.tokens.proofs.Places.{EndsAt, Within}
 use Rattle.values.specs.Values.{ValueText, number, label}
-use Rattle.values.specs.declared.LabelIn.{LabelIn}
-use Rattle.values.specs.declared.LabelIn.TheVariants.{Absent, Named}
+use Rattle.std.proofs.Common.{Option, Some, None}
 use Rattle.values.specs.declared.Name.{Name}
 use Rattle.values.specs.declared.Value.{Value}
 use Rattle.values.specs.declared.Value.TheVariants.{Number, Label}
@@ -20,9 +19,9 @@ ValueWithin n (Number k) = Unit
 ValueWithin n (Label x) = NameWithin n x
 
 -- of a label that a line or an operand names, if it does
-abbrev pub LabelWithin : ℕ → LabelIn → Type 0
-LabelWithin n Absent = Unit
-LabelWithin n (Named x) = NameWithin n x
+abbrev pub LabelWithin : ℕ → Option Name → Type 0
+LabelWithin n None = Unit
+LabelWithin n (Some x) = NameWithin n x
 
 pub value-within : (n : ℕ) {ts : List Token} {v : Value} → ValueText ts v → Within n ts → ValueWithin n v
 value-within n (number t) h = tt

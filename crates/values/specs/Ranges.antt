@@ -3,15 +3,14 @@
 use Rattle.std.specs.Prelude.{cond, pos}
 use Rattle.std.specs.Int.Signed.{le_z}
 use Rattle.numerals.specs.Numbers.{value_of, kept_of}
-use Rattle.numerals.specs.declared.Kept.{Kept}
-use Rattle.numerals.specs.declared.Kept.TheVariants.{OutOfRange}
+use Rattle.std.specs.Prelude.{Option, None}
 use Rattle.numerals.specs.declared.Numeral.{Numeral}
 use Rattle.numerals.specs.declared.Radix.{Radix}
 use Rattle.numerals.specs.declared.Radix.TheVariants.{Decimal, Hexadecimal}
 
-abbrev pub displacement_in : Radix → Numeral → Kept
-displacement_in Decimal n = cond (le_z (value_of n) (pos 32767)) (kept_of n) OutOfRange
+abbrev pub displacement_in : Radix → Numeral → Option ℕ
+displacement_in Decimal n = cond (le_z (value_of n) (pos 32767)) (kept_of n) None
 displacement_in Hexadecimal n = kept_of n
 
-unfoldable pub displacement_of : Numeral → Kept
+unfoldable pub displacement_of : Numeral → Option ℕ
 displacement_of n = displacement_in n.radix n

@@ -9,8 +9,10 @@ use Rattle.tokens.specs.declared.Kind.{Kind}
 use Rattle.tokens.specs.declared.Kind.TheVariants as K
 use Rattle.values.specs.Values.{numeral, name_at}
 use Rattle.values.specs.declared.Value.TheVariants as V'
-use Rattle.values.specs.declared.ValueRead.{ValueRead}
-use Rattle.values.specs.declared.ValueRead.TheVariants.{Found, Absent}
+use Rattle.std.specs.Prelude.{Option, Some, None}
+use Rattle.numerals.specs.Reading.{upto}
+use Rattle.numerals.specs.declared.Read.{Read}
+use Rattle.values.specs.declared.Value.{Value}
 
 -- ---- what a token leads to, over any answer
 
@@ -35,10 +37,10 @@ digits_by number other (K.Mark b) directly = other
 
 -- ---- the value
 
-unfoldable pub minus_at : List ℕ → ℕ → ValueRead
-minus_at s at = digits_by (λ n. Found (V'.Number n) (token_at s at).next) Absent (token_at s at).kind (token_at s at).directly
+unfoldable pub minus_at : List ℕ → ℕ → Option (Read Value)
+minus_at s at = digits_by (λ n. (Some (upto (V'.Number n) (token_at s at).next))) None (token_at s at).kind (token_at s at).directly
 
-unfoldable pub value_at : List ℕ → ℕ → ValueRead
+unfoldable pub value_at : List ℕ → ℕ → Option (Read Value)
 value_at s at =
-    value_by (Found (V'.Label (name_at (token_at s at))) (token_at s at).next) (λ n. Found (V'.Number n) (token_at s at).next)
-    (minus_at s (token_at s at).next.at) Absent (token_at s at).kind
+    value_by (Some (upto (V'.Label (name_at (token_at s at))) (token_at s at).next)) (λ n. (Some (upto (V'.Number n) (token_at s at).next)))
+    (minus_at s (token_at s at).next.at) None (token_at s at).kind

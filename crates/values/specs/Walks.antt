@@ -9,21 +9,21 @@ pub data Step (S A : Type 0) : Type 0 where
   emit : A → Step S A  -- a comma ends one, and the next begins
   halt : Step S A
 
-pub data Result (A : Type 0) : Type 0 where
-  reads : List A → Result A
-  wrong : Result A
+pub data RowRead (A : Type 0) : Type 0 where
+  reads : List A → RowRead A
+  wrong : RowRead A
 
-abbrev pub cons : {A : Type 0} → A → Result A → Result A
+abbrev pub cons : {A : Type 0} → A → RowRead A → RowRead A
 cons a (reads xs) = reads (a ∷ xs)
 cons a wrong = wrong
 
 -- where a step leads, from the state that one begins in
-abbrev pub stepped : {S A : Type 0} → S → Step S A → (S → Result A) → Result A
+abbrev pub stepped : {S A : Type 0} → S → Step S A → (S → RowRead A) → RowRead A
 stepped begin (to st) r = r st
 stepped begin (emit a) r = cons a (r begin)
 stepped begin halt r = wrong
 
-module _ {S A : Type 0} (begin : S) (step : S → Token → Step S A) (finish : S → Result A) where
-  abbrev pub walk : S → List Token → Result A
+module _ {S A : Type 0} (begin : S) (step : S → Token → Step S A) (finish : S → RowRead A) where
+  abbrev pub walk : S → List Token → RowRead A
   walk st [] = finish st
   walk st (t ∷ ts) = stepped begin (step st t) (λ next. walk next ts)

@@ -20,17 +20,3 @@ pub enum Value {
     Number(Numeral),
     Label(Name),
 }
-
-// What stands at a cursor: a value with the cursor after it, or none.
-#[derive(Clone, Copy)]
-pub enum ValueRead {
-    Found(Value, Cursor),
-    Absent,
-}
-
-// The label that a line or an operand names, by its place, if it does.
-#[derive(Clone, Copy)]
-pub enum LabelIn {
-    Absent,
-    Named(Name),
-}

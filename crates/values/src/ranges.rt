@@ -3,9 +3,9 @@ ghost use Rattle.std.specs.Prelude.{◌≡◌};
 ghost use Rattle.values.specs.Ranges.{displacement_of};
 
 use numerals::reading::kept;
-use numerals::{Kept, Numeral, Radix};
+use numerals::{Numeral, Radix};
 
-pub fn displacement(n: Numeral) -> Kept
+pub fn displacement(n: Numeral) -> Option<u16>
     ensures { result ≡ displacement_of n }
 {
     let radix = n.radix;
@@ -15,7 +15,7 @@ pub fn displacement(n: Numeral) -> Kept
                 return kept(n);
             }
             if 32767 < n.magnitude {
-                return Kept::OutOfRange;
+                return None;
             }
             kept(n)
         }

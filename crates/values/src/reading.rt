@@ -2,13 +2,13 @@
 ghost use Rattle.std.specs.Prelude.{◌≡◌};
 ghost use Rattle.values.specs.Reading.{minus_at, value_at};
 
-use super::{Name, Value, ValueRead};
-use numerals::{Cursor, Numeral, Radix};
+use super::{Name, Value};
+use numerals::{Cursor, Numeral, Radix, Read};
 use tokens::Kind;
 use tokens::tokens::next_token;
 
 // The number whose `-` ends at a cursor: decimal digits follow directly.
-fn below_zero(s: &[u8], from: Cursor) -> ValueRead
+fn below_zero(s: &[u8], from: Cursor) -> Option<Read<Value>>
     ensures { result ≡ minus_at s.now from.at }
 {
     let t = next_token(s, from);
@@ -16,31 +16,28 @@ fn below_zero(s: &[u8], from: Cursor) -> ValueRead
     let directly = t.directly;
     let next = t.next;
     match kind {
-        Kind::End => ValueRead::Absent,
-        Kind::Stray => ValueRead::Absent,
-        Kind::Word => ValueRead::Absent,
+        Kind::End => None,
+        Kind::Stray => None,
+        Kind::Word => None,
         Kind::Number(v, radix) => match radix {
             Radix::Decimal => {
                 if directly {
-                    return ValueRead::Found(
-                        Value::Number(Numeral {
+                    return Some(Read { value: Value::Number(Numeral {
                             negative: true,
                             radix: Radix::Decimal,
                             magnitude: v,
-                        }),
-                        next,
-                    );
+                        }), next });
                 }
-                ValueRead::Absent
+                None
             }
-            Radix::Hexadecimal => ValueRead::Absent,
+            Radix::Hexadecimal => None,
         },
-        Kind::Text => ValueRead::Absent,
-        Kind::Mark(_) => ValueRead::Absent,
+        Kind::Text => None,
+        Kind::Mark(_) => None,
     }
 }
 
-pub fn value(s: &[u8], from: Cursor) -> ValueRead
+pub fn value(s: &[u8], from: Cursor) -> Option<Read<Value>>
     ensures { result ≡ value_at s.now from.at }
 {
     let t = next_token(s, from);
@@ -48,29 +45,23 @@ pub fn value(s: &[u8], from: Cursor) -> ValueRead
     let start = t.start;
     let next = t.next;
     match kind {
-        Kind::End => ValueRead::Absent,
-        Kind::Stray => ValueRead::Absent,
-        Kind::Word => ValueRead::Found(
-            Value::Label(Name {
-                start: start,
+        Kind::End => None,
+        Kind::Stray => None,
+        Kind::Word => Some(Read { value: Value::Label(Name {
+                start,
                 end: next.at,
-            }),
-            next,
-        ),
-        Kind::Number(v, radix) => ValueRead::Found(
-            Value::Number(Numeral {
+            }), next }),
+        Kind::Number(v, radix) => Some(Read { value: Value::Number(Numeral {
                 negative: false,
-                radix: radix,
+                radix,
                 magnitude: v,
-            }),
-            next,
-        ),
-        Kind::Text => ValueRead::Absent,
+            }), next }),
+        Kind::Text => None,
         Kind::Mark(b) => {
             if b == b'-' {
                 return below_zero(s, next);
             }
-            ValueRead::Absent
+            None
         }
     }
 }

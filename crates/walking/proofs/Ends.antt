@@ -20,22 +20,23 @@ use Rattle.placing.specs.declared.Counters.{Counters}
 use Rattle.placing.proofs.PlaceLaws.{binds_fine}
 use Rattle.walking.specs.Inner.Walking.{work_in, Says, Holds, Ends}
 use Rattle.walking.specs.declared.Lines.{Lines}
-use Rattle.walking.specs.declared.Lines.TheVariants as L
+use Rattle.std.proofs.Common.{Result, Ok, Err}
+use Rattle.walking.specs.declared.Stopped.{Stopped}
+use Rattle.walking.specs.declared.Stopped.TheVariants.{InLine, Late}
 use Rattle.walking.specs.declared.Walked.{Walked}
-use Rattle.walking.specs.declared.Walked.TheVariants as W
 
 bindings_of : (p : Place) → p.bound ++ bound_to p.at p.waiting ≡ bindings p
 unfolding bindings
 bindings_of p = refl
 
 -- a line fails
-pub refused-early : (v : Verdict) (w : Work) (n : ℕ) (of : Counters → ℕ → Work) {r : Lines} {f : ℕ} {l : Line} → r ≡ L.Refused f l → Says v w n of r
+pub refused-early : (v : Verdict) (w : Work) (n : ℕ) (of : Counters → ℕ → Work) {r : Result Lines Stopped} {f : ℕ} {l : Line} → r ≡ Err (InLine f l) → Says v w n of r
     → v ≡ refused (f on l.0)
 refused-early v w n of q h = subst (Says v w n of) q h
 
-module _ (s starts keys vs ms memory row aways : List ℕ) (v : Verdict) (w : Work) (n : ℕ) {r : Lines} {c : Counters} {named : ℕ} {l : Line}
-    (q : r ≡ L.Passes c named l) (h : Says v w n (work_in s starts keys vs ms memory row aways) r) where
-  told : Says v w n (work_in s starts keys vs ms memory row aways) (L.Passes c named l)
+module _ (s starts keys vs ms memory row aways : List ℕ) (v : Verdict) (w : Work) (n : ℕ) {r : Result Lines Stopped} {c : Counters} {named : ℕ} {l : Line}
+    (q : r ≡ Ok (record { counters = c; uses = named; last = l })) (h : Says v w n (work_in s starts keys vs ms memory row aways) r) where
+  told : Says v w n (work_in s starts keys vs ms memory row aways) (Ok (record { counters = c; uses = named; last = l }))
   told = subst (Says v w n (work_in s starts keys vs ms memory row aways)) q h
 
   pub still-fair : Fair c
@@ -90,9 +91,9 @@ module _ (s starts keys vs ms memory row aways : List ℕ) (v : Verdict) (w : Wo
       }
 
 -- what the walk answers, of the verdict on lines and end together
-module _ (v e : Verdict) (H : ℕ → ℕ → Type 0) {r : Walked} where
-  pub walk_refused : {f : ℕ} {l : Line} → r ≡ W.Refused f l → Ends v e H r → and_then v e ≡ refused (f on l.0)
+module _ (v e : Verdict) (H : ℕ → ℕ → Type 0) {r : Result Walked Stopped} where
+  pub walk_refused : {f : ℕ} {l : Line} → r ≡ Err (InLine f l) → Ends v e H r → and_then v e ≡ refused (f on l.0)
   walk_refused q h = ap (λ (x : Verdict). and_then x e) (subst (Ends v e H) q h)
 
-  pub walk-late : {l : Line} → r ≡ W.Late l → Ends v e H r → and_then v e ≡ refused (6 on l.0)
+  pub walk-late : {l : Line} → r ≡ Err (Late l) → Ends v e H r → and_then v e ≡ refused (6 on l.0)
   walk-late q h = let t = subst (Ends v e H) q h in ap₂ and_then t.0 t.1

@@ -9,8 +9,7 @@ use Rattle.codes.specs.Limits.{most_cells}
 use Rattle.isa.specs.Operands.{operand_words}
 use Rattle.isa.specs.declared.Operand.{Operand}
 use Rattle.isa.specs.declared.Operand.TheVariants as O
-use Rattle.values.specs.declared.LabelIn.{LabelIn}
-use Rattle.values.specs.declared.LabelIn.TheVariants.{Absent, Named}
+use Rattle.std.proofs.Common.{Option, Some, None}
 use Rattle.values.specs.declared.Name.{Name}
 use Rattle.operands.specs.declared.Given.{Given}
 use Rattle.statements.specs.declared.Statement.{Statement}
@@ -20,7 +19,7 @@ use Rattle.uses.specs.Inner.Held.{counted_by, use_held}
 use Rattle.walking.specs.Inner.Noting.{away_for, Placeable, noted_by, noted}
 
 -- what is asked of a label that is named
-pub placeable : (start cell next : ℕ) {l : LabelIn} {n : Name} → l ≡ Named n → Placeable start cell next l
+pub placeable : (start cell next : ℕ) {l : Option Name} {n : Name} → l ≡ Some n → Placeable start cell next l
     → (n.start ≤ n.end) × InCell (start + n.end) × (cell < next) × (next ≤ cell + 2) × (next ≤ most_cells)
 placeable start cell next e h = subst (Placeable start cell next) e h
 
@@ -40,18 +39,18 @@ counted_away (O.Relative d) cell next h =
 
 module _ (s : List ℕ) (start k cell next : ℕ) (g : Given) where
   -- no label: nothing is kept
-  pub noted-none : (us : List Use) → g.label ≡ Absent → us ≡ us ++ noted s start k cell next g
-  noted-none us e = sym (ap (λ (l : LabelIn). us ++ noted_by s start k cell next g.operand l) e ∙ append-nil us)
+  pub noted-none : (us : List Use) → g.label ≡ None → us ≡ us ++ noted s start k cell next g
+  noted-none us e = sym (ap (λ (l : Option Name). us ++ noted_by s start k cell next g.operand l) e ∙ append-nil us)
 
   -- a label: one more is kept
-  pub noted_one : (us : List Use) {vs : List Use} {n : Name} {far : ℕ} → g.label ≡ Named n → cell < next → far ≡ away_for g.operand (next - cell)
+  pub noted_one : (us : List Use) {vs : List Use} {n : Name} {far : ℕ} → g.label ≡ Some n → cell < next → far ≡ away_for g.operand (next - cell)
       → vs ≡ us ++ (use_held s (start + n.start) (n.end - n.start) cell k far ∷ [])
       → vs ≡ us ++ noted s start k cell next g
   noted_one us {n = n} e h f v =
       v
       ∙ ap (λ (c : Counted). us ++ (record { line = k; name = window s (start + n.start) (n.end - n.start); cell = cell; counted = c } ∷ []))
       (ap (counted_by cell) f ∙ counted_away g.operand cell next h)
-      ∙ ap (λ (l : LabelIn). us ++ noted_by s start k cell next g.operand l) (sym e)
+      ∙ ap (λ (l : Option Name). us ++ noted_by s start k cell next g.operand l) (sym e)
 
 -- an operand has one word at most
 pub few_words : (o : Operand) → length (operand_words o) ≤ 1

@@ -16,8 +16,7 @@ use Rattle.isa.specs.declared.Operand.{Operand}
 use Rattle.isa.specs.declared.Operand.TheVariants as O
 use Rattle.isa.proofs.Top as isa
 use Rattle.tokens.specs.Reading.{tokens_within, tokens_from}
-use Rattle.values.specs.declared.LabelIn.{LabelIn}
-use Rattle.values.specs.declared.LabelIn.TheVariants.{Absent, Named}
+use Rattle.std.proofs.Common.{Option, Some, None, Ok}
 use Rattle.values.specs.declared.Name.{Name}
 use Rattle.values.proofs.Within.{LabelWithin}
 use Rattle.operands.specs.Checks.{operand_at, label_in, given}
@@ -29,7 +28,6 @@ use Rattle.operands.proofs.Top as operands
 use Rattle.sources.specs.Uses.{Use, counted_for, use_by, second_cell, uses_by}
 use Rattle.statements.specs.Reading.{after_label, statement_read, line_read}
 use Rattle.statements.specs.declared.Statement.TheVariants.{Nothing, Instruction as Says}
-use Rattle.statements.specs.declared.StatementRead.TheVariants.{Passes}
 use Rattle.statements.proofs.Labelling.{never}
 use Rattle.statements.proofs.Passing.{instruction-from, words-claimed, operand_labels_within}
 use Rattle.labels.specs.Inner.Labels.{Part}
@@ -53,9 +51,9 @@ same_word (O.IndexedY d) = refl
 same_word (O.IndexedSp d) = refl
 same_word (O.Relative d) = refl
 
-stands : (l : LabelIn) (o : Operand) → settled_by l o (word_of o) ≡ o
-stands Absent o = refl
-stands (Named n) o = same_word o
+stands : (l : Option Name) (o : Operand) → settled_by l o (word_of o) ≡ o
+stands None o = refl
+stands (Some n) o = same_word o
 
 both_stand : (op : Opcode) (a b : Given) → settled_instruction op a b (word_of a.operand) (word_of b.operand) ≡ standing op a b
 both_stand op a b =
@@ -69,7 +67,7 @@ allowed_by i e = go (allowed i) (sym (isa.encoder i) ∙ e)
     go true q = refl
     go false q = absurd (omega (arith, q))
 
-module _ (line : List ℕ) {op : Opcode} {a b : Given} (e : (line_read line).statement ≡ Passes (Says op a b)) where
+module _ (line : List ℕ) {op : Opcode} {a b : Given} (e : (line_read line).statement ≡ Ok (Says op a b)) where
   -- the encoder takes it
   pub allowed-said : allowed (standing op a b) ≡ true
   allowed-said =
@@ -81,7 +79,7 @@ module _ (line : List ℕ) {op : Opcode} {a b : Given} (e : (line_read line).sta
 -- ---- an operand that names a label has one word
 
 abbrev LabelHas : Given → Type 0
-LabelHas g = (n : Name) → g.label ≡ Named n → length (operand_words g.operand) ≡ 1
+LabelHas g = (n : Name) → g.label ≡ Some n → length (operand_words g.operand) ≡ 1
 
 written_has : (o : Written) (x : ℕ) → LabelHas (given o x)
 unfolding label_in
@@ -95,16 +93,16 @@ written_has (W.IndexedY v) x n e = refl
 written_has (W.IndexedSp v) x n e = refl
 written_has (W.Relative v) x n e = refl
 
-empty-line : (line_read []).statement ≡ Passes Nothing
+empty-line : (line_read []).statement ≡ Ok Nothing
 unfolding line_read statement_read after_label tokens_from tokens_within
 empty-line = refl
 
 -- a line that says an instruction has a byte
-pub some_byte : (line : List ℕ) {op : Opcode} {a b : Given} → (line_read line).statement ≡ Passes (Says op a b) → 0 < length line
+pub some_byte : (line : List ℕ) {op : Opcode} {a b : Given} → (line_read line).statement ≡ Ok (Says op a b) → 0 < length line
 some_byte [] e = let z = empty-line in never (cc)
 some_byte (x ∷ xs) e = omega arith
 
-module _ (line : List ℕ) {op : Opcode} {a b : Given} (e : (line_read line).statement ≡ Passes (Says op a b)) where
+module _ (line : List ℕ) {op : Opcode} {a b : Given} (e : (line_read line).statement ≡ Ok (Says op a b)) where
   labels_have : LabelHas a × LabelHas b
   labels_have =
       let h = instruction-from line e in
@@ -128,9 +126,9 @@ module _ (line : List ℕ) {op : Opcode} {a b : Given} (e : (line_read line).sta
     pub first-placeable : Placeable start (at + 1) (at + n + 1) a.label
     first-placeable = go a.label refl (operand_labels_within line e).0
       where
-        go : (l : LabelIn) → a.label ≡ l → LabelWithin (length line) l → Placeable start (at + 1) (at + n + 1) l
-        go Absent q h = tt
-        go (Named x) q h =
+        go : (l : Option Name) → a.label ≡ l → LabelWithin (length line) l → Placeable start (at + 1) (at + n + 1) l
+        go None q h = tt
+        go (Some x) q h =
             let w = labels_have.0 x q in
             let c = words-counted in
             let f = few_words b.operand in (
@@ -144,9 +142,9 @@ module _ (line : List ℕ) {op : Opcode} {a b : Given} (e : (line_read line).sta
     pub second-placeable : Placeable start (second_cell at a) (at + n + 1) b.label
     second-placeable = go b.label refl (operand_labels_within line e).1
       where
-        go : (l : LabelIn) → b.label ≡ l → LabelWithin (length line) l → Placeable start (second_cell at a) (at + n + 1) l
-        go Absent q h = tt
-        go (Named x) q h =
+        go : (l : Option Name) → b.label ≡ l → LabelWithin (length line) l → Placeable start (second_cell at a) (at + n + 1) l
+        go None q h = tt
+        go (Some x) q h =
             let w = labels_have.1 x q in
             let c = words-counted in (
               omega (arith, h.0),
@@ -159,10 +157,10 @@ module _ (line : List ℕ) {op : Opcode} {a b : Given} (e : (line_read line).sta
   -- ---- the names as the line has them
 
   module _ (s : List ℕ) (start k : ℕ) (part : Part s start line) where
-    named-there : (o : Operand) (l : LabelIn) → LabelWithin (length line) l → (cell next : ℕ)
+    named-there : (o : Operand) (l : Option Name) → LabelWithin (length line) l → (cell next : ℕ)
         → noted_by s start k cell next o l ≡ use_by k line cell next o l
-    named-there o Absent h cell next = refl
-    named-there o (Named x) h cell next =
+    named-there o None h cell next = refl
+    named-there o (Some x) h cell next =
         ap (λ (w : List ℕ). record { line = k; name = w; cell = cell; counted = counted_for o next } ∷ [])
         (sym (part x.start (x.end - x.start) (omega (arith, h.0, h.1))) ∙ sym (spelled-window line x (omega (arith, h.0)) h.1))
 

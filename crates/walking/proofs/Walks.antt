@@ -11,7 +11,9 @@ use Rattle.tokens.specs.Reading.{line_length}
 use Rattle.tokens.proofs.Top.{line-within}
 use Rattle.statements.specs.Reading.{line_read}
 use Rattle.statements.specs.declared.LineRead.{LineRead}
-use Rattle.statements.specs.declared.StatementRead.{StatementRead}
+use Rattle.std.proofs.Common.{Result, Ok, Err}
+use Rattle.statements.specs.declared.Statement.{Statement}
+use Rattle.statements.specs.declared.Failure.{Failure}
 use Rattle.statements.proofs.Labelling.{never}
 use Rattle.sources.specs.Placing.{Place, does_read, start, labelled, Judged, after}
 use Rattle.sources.specs.Uses.{Use, uses_read}
@@ -25,8 +27,6 @@ use Rattle.labels.proofs.Laws.{window_part}
 use Rattle.uses.specs.Inner.Held.{uses_held, most_uses}
 use Rattle.placing.specs.Inner.State.{place_in, Fair, FairDid, Tells}
 use Rattle.placing.specs.declared.Counters.{Counters}
-use Rattle.placing.specs.declared.Did.{Did}
-use Rattle.placing.specs.declared.Did.TheVariants.{Go, No}
 use Rattle.placing.proofs.TestLaws.{not-past}
 use Rattle.walking.specs.Inner.Walking.{work_in}
 
@@ -47,7 +47,7 @@ pub line_part : (s : List ℕ) (from end : ℕ) → Part s from (take (end - fro
 line_part s from end a n h = window_part s from end a n (omega (arith, h, length-take (end - from) (drop from s)))
 
 -- the loop goes on further on
-pub further : (st : StatementRead) (from total next : ℕ) → from < next → from < total → from < cond (ends_it st) total next
+pub further : (st : Result Statement Failure) (from total next : ℕ) → from < next → from < total → from < cond (ends_it st) total next
 further st from total next h k = go (ends_it st)
   where
     go : (b : Bool) → from < cond b total next
@@ -55,7 +55,7 @@ further st from total next h k = go (ends_it st)
     go false = h
 
 -- behind END there is no turn
-uses-below : (st : StatementRead) (total next : ℕ) {uses to : ℕ} → to ≡ cond (ends_it st) total next → uses ≤ next → to < total → uses ≤ to
+uses-below : (st : Result Statement Failure) (total next : ℕ) {uses to : ℕ} → to ≡ cond (ends_it st) total next → uses ≤ next → to < total → uses ≤ to
 uses-below st total next {uses} {to} e h = go (ends_it st) e
   where
     go : (b : Bool) → to ≡ cond b total next → to < total → uses ≤ to
@@ -71,15 +71,15 @@ of_parts {q = q} {m = m} {n = n} {us = us} e f g =
     ∙ ap₂ (λ (x : List ℕ) (y : List Use). record { place = q; cells = x; uses = y }) f g
 
 -- the work after a line, by its parts
-pub worked_on : (k : ℕ) (w : Work) (line : List ℕ) {read : StatementRead} {p : Place} {m : List ℕ} {us : List Use} → (line_read line).statement ≡ read
+pub worked_on : (k : ℕ) (w : Work) (line : List ℕ) {read : Result Statement Failure} {p : Place} {m : List ℕ} {us : List Use} → (line_read line).statement ≡ read
     → p ≡ after w.place (read_line line)
     → m ≡ sets w.cells w.place.at (raw_read line read)
     → us ≡ w.uses ++ uses_read k line w.place.at read
     → ◌≡◌ {A = Work} (record { place = p; cells = m; uses = us }) (worked k w (read_line line))
 unfolding worked
 worked_on k w line e p m u =
-    of_parts p (m ∙ ap (λ (r : StatementRead). sets w.cells w.place.at (raw_read line r)) (sym e))
-    (u ∙ ap (λ (r : StatementRead). w.uses ++ uses_read k line w.place.at r) (sym e))
+    of_parts p (m ∙ ap (λ (r : Result Statement Failure). sets w.cells w.place.at (raw_read line r)) (sym e))
+    (u ∙ ap (λ (r : Result Statement Failure). w.uses ++ uses_read k line w.place.at r) (sym e))
 
 -- what is left of the walk: its verdict, its work and its number of lines
 pub record Same (M : ℕ) (k : ℕ) (w : Work) (ls : List (List ℕ)) (k' : ℕ) (w' : Work) (ls' : List (List ℕ)) : Type 0 where
@@ -114,7 +114,7 @@ module _ (M : ℕ) (s : List ℕ) (from k : ℕ) (w : Work) where
       (ap (λ (l : List ℕ). line_verdict M k w.place (read_line l)) (sym e) ∙ g)
 
   -- the line passes, and the loop goes on
-  pub walk-goes : (line : List ℕ) (w' : Work) {st : StatementRead} {end next : ℕ} → from < length s → line ≡ line_at s from
+  pub walk-goes : (line : List ℕ) (w' : Work) {st : Result Statement Failure} {end next : ℕ} → from < length s → line ≡ line_at s from
       → line_verdict M k w.place (read_line line) ≡ passes
       → w' ≡ worked k w (read_line line)
       → (line_read line).statement ≡ st
@@ -125,7 +125,7 @@ module _ (M : ℕ) (s : List ℕ) (from k : ℕ) (w : Work) where
   walk-goes line w' {st} {end} {next} h e g a r f n =
       let o : goes_on s from ≡ next =
       ap (λ (l : List ℕ). cond (ends_it (line_read l).statement) (length s) (from + line_length (drop from s) + 1)) (sym e)
-      ∙ ap (λ (x : StatementRead). cond (ends_it x) (length s) (from + line_length (drop from s) + 1)) r
+      ∙ ap (λ (x : Result Statement Failure). cond (ends_it x) (length s) (from + line_length (drop from s) + 1)) r
       ∙ ap (λ (m : ℕ). cond (ends_it st) (length s) (m + 1)) (sym f)
       ∙ sym n in
       let d : worked k w (read_line (line_at s from)) ≡ w' = ap (λ (l : List ℕ). worked k w (read_line l)) (sym e) ∙ sym a in
@@ -239,7 +239,7 @@ module _ (M : ℕ) (s starts keys values marks cells row aways : List ℕ) (long
     line = take (end - from) (drop from s)
 
     -- what `place_line` tells of the line
-    abbrev Told : (Counters → Place) → Did → Type 0
+    abbrev Told : (Counters → Place) → Result Counters ℕ → Type 0
     Told of r =
         Tells (number + 1) (line_verdict (length marks) (number + 1) now.place (read_line line)) (after now.place (read_line line)) of r
 
@@ -247,7 +247,7 @@ module _ (M : ℕ) (s starts keys values marks cells row aways : List ℕ) (long
     line-fits k = let g = end-within s from e h in omega (arith, line-long s from end (omega (arith, e)) g, g, k)
 
     -- the line fails
-    pub turn-stops : (of : Counters → Place) {r : Did} {f : ℕ} → r ≡ No f → Told of r → walk_lines M 1 (start M) (lines_from s 0) ≡ refused (f on (number + 1))
+    pub turn-stops : (of : Counters → Place) {r : Result Counters ℕ} {f : ℕ} → r ≡ Err f → Told of r → walk_lines M 1 (start M) (lines_from s 0) ≡ refused (f on (number + 1))
     unfolding start_work
     turn-stops of {f = f} q t =
         inv.left.verdict
@@ -255,7 +255,7 @@ module _ (M : ℕ) (s starts keys values marks cells row aways : List ℕ) (long
         (subst (λ (m : ℕ). line_verdict m (number + 1) now.place (read_line line) ≡ refused (f on (number + 1))) inv.marks-long (subst (Told of) q t))
 
     -- the line passes
-    module _ (of : Counters → Place) {r : Did} {d : Counters} (q : r ≡ Go d) (t : Told of r) where
+    module _ (of : Counters → Place) {r : Result Counters ℕ} {d : Counters} (q : r ≡ Ok d) (t : Told of r) where
       line-passes : line_verdict M (number + 1) now.place (read_line line) ≡ passes
       line-passes = subst (λ (m : ℕ). line_verdict m (number + 1) now.place (read_line line) ≡ passes) inv.marks-long (subst (Told of) q t).0
 

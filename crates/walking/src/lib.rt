@@ -9,18 +9,24 @@ mod noting; // the labels that a statement's operands name
 pub mod walk; // all lines, and the source's end
 mod writing; // a statement's cells
 
-// No line fails, with how many labels there are and how many are named by operands; or the first refusal: of a line, or of the source's
-// end, with the last line.
+// How many labels a source has, and how many are named by operands.
 #[derive(Clone, Copy)]
-pub enum Walked {
-    Passes(usize, usize),
-    Refused(u8, Line),
+pub struct Walked {
+    pub labels: usize,
+    pub uses: usize,
+}
+
+// The first refusal: of a line, by its number, or of the source's end, with the last line.
+#[derive(Clone, Copy, Debug, PartialEq, Eq)]
+pub enum Stopped {
+    InLine(u8, Line),
     Late(Line),
 }
 
-// The same before the source's end: where the walk stands, how many labels operands name, and the last line.
+// Where a walk that no line stopped stands before the source's end, how many labels operands name, and the last line.
 #[derive(Clone, Copy)]
-enum Lines {
-    Passes(Counters, usize, Line),
-    Refused(u8, Line),
+struct Lines {
+    counters: Counters,
+    uses: usize,
+    last: Line,
 }

@@ -3,7 +3,6 @@ ghost use Rattle.std.specs.Prelude.{◌≡◌, ◌++◌, ◌+◌, ◌≤◌, ◌
 ghost use Rattle.isa.specs.Operands.{operand_words};
 ghost use Rattle.statements.specs.Judging.{claim_of};
 ghost use Rattle.statements.specs.Reading.{line_read};
-ghost use Rattle.statements.specs.declared.StatementRead.TheVariants.{Passes};
 ghost use Rattle.codes.specs.Limits.{most_cells, longest_source};
 ghost use Rattle.sources.specs.Uses.{uses_by, second_cell};
 ghost use Rattle.labels.specs.Inner.Labels.{InCell};
@@ -15,7 +14,6 @@ use isa::opcodes::operand_count;
 use operands::Given;
 use statements::Statement;
 use uses::keeping::keep;
-use values::LabelIn;
 
 // How far the address after the instruction lies behind an operand's cell, if its label's value is counted from there; else 0.
 fn away(o: Operand, behind: u8) -> u8
@@ -71,10 +69,10 @@ fn note(
     let o = g.operand;
     let label = g.label;
     match label {
-        LabelIn::Absent => {
+        None => {
             return count;
         }
-        LabelIn::Named(n) => {
+        Some(n) => {
             let start = n.start;
             let size = n.end - start;
             let behind = (next - cell) as u8;
@@ -135,7 +133,7 @@ pub(crate) fn note_statement(
     aways: &mut [u8],
     count: usize,
 ) -> usize
-    requires { ((line_read line.now).statement ≡ Passes says)
+    requires { ((line_read line.now).statement ≡ Ok says)
         × (from + length line.now ≤ longest_source)
         × InCell number
         × (at ≤ most_cells)

@@ -13,24 +13,24 @@ ghost use Rattle.walking.specs.Inner.Walking.{Lent, work_in, SaysLines, Holds, E
 
 use super::noting::note_statement;
 use super::writing::write_statement;
-use super::{Lines, Walked};
+use super::{Lines, Walked, Stopped};
 use codes::limits::MOST_CELLS;
 use isa::Address;
 use placing::line::place_line;
 use placing::naming::bind_here;
-use placing::{Counters, Did};
+use placing::Counters;
 use sources::Line;
 use statements::line::read_line;
-use statements::{Statement, StatementRead};
+use statements::{Statement, Failure};
 use tokens::lines::line_end;
 
 // Where the next line starts; behind END, the source's end.
-fn next_line(read: StatementRead, next: usize, total: usize) -> usize
+fn next_line(read: Result<Statement, Failure>, next: usize, total: usize) -> usize
     ensures { result ≡ cond (ends_it read) total next }
 {
     match read {
-        StatementRead::Fails(_) => next,
-        StatementRead::Passes(says) => match says {
+        Err(_) => next,
+        Ok(says) => match says {
             Statement::Nothing => next,
             Statement::Instruction(_, _, _) => next,
             Statement::Org(_) => next,
@@ -47,7 +47,7 @@ fn keep_line(
     line: &[u8],
     from: usize,
     number: usize,
-    read: StatementRead,
+    read: Result<Statement, Failure>,
     at: usize,
     cells: &mut [u16],
     row: &mut [u16],
@@ -67,10 +67,10 @@ fn keep_line(
         × (result ≤ count + length line.now + 1) }
 {
     match read {
-        StatementRead::Fails(_) => {
+        Err(_) => {
             return count;
         }
-        StatementRead::Passes(says) => {
+        Ok(says) => {
             write_statement(line, says, cells, at);
             return note_statement(line, from, number, says, at, row, aways, count);
         }
@@ -86,7 +86,7 @@ fn walk_lines(
     cells: &mut [u16],
     row: &mut [u16],
     aways: &mut [u8],
-) -> Lines
+) -> Result<Lines, Stopped>
     requires { Lent s.now starts.old keys.old values.old marks.old cells.old row.old aways.old }
     ensures { SaysLines (length marks.old) s.now
         (work_in s.now starts.new keys.new values.new marks.new
@@ -107,10 +107,10 @@ fn walk_lines(
         let at = c.at.0;
         number += 1;
         match place_line(s, from, line, read, starts, keys, values, marks, c) {
-            Did::No(f) => {
-                return Lines::Refused(f, Line(number));
+            Err(f) => {
+                return Err(Stopped::InLine(f, Line(number)));
             }
-            Did::Go(d) => {
+            Ok(d) => {
                 c = d;
             }
         }
@@ -118,7 +118,7 @@ fn walk_lines(
         uses = keep_line(line, from, number, st, at, cells, row, aways, uses);
         from = next_line(st, end + 1, s.len());
     }
-    Lines::Passes(c, uses, Line(number))
+    Ok(Lines { counters: c, uses, last: Line(number) })
 }
 
 // A label that waits at the source's end would get 65,536.
@@ -141,22 +141,18 @@ pub fn walk(
     cells: &mut [u16],
     row: &mut [u16],
     aways: &mut [u8],
-) -> Walked
+) -> Result<Walked, Stopped>
     requires { Lent s.now starts.old keys.old values.old marks.old cells.old row.old aways.old }
     ensures { EndsSource (length marks.old) s.now
         (Holds s.now starts.new keys.new values.new marks.new
         cells.new row.new aways.new) result }
 {
-    match walk_lines(s, starts, keys, values, marks, cells, row, aways) {
-        Lines::Refused(f, l) => Walked::Refused(f, l),
-        Lines::Passes(c, uses, last) => {
-            let at = c.at.0;
-            if is_late(c.waiting, at) {
-                return Walked::Late(last);
-            }
-            let d = bind_here(values, c);
-            let labels = d.bound;
-            Walked::Passes(labels, uses)
-        }
+    let Lines { counters, uses, last } = walk_lines(s, starts, keys, values, marks, cells, row, aways)?;
+    let at = counters.at.0;
+    if is_late(counters.waiting, at) {
+        return Err(Stopped::Late(last));
     }
+    let d = bind_here(values, counters);
+    let labels = d.bound;
+    Ok(Walked { labels, uses })
 }

@@ -4,7 +4,6 @@ ghost use Rattle.std.proofs.lemmas.List.Edits.{sets};
 ghost use Rattle.codes.specs.Limits.{most_cells};
 ghost use Rattle.isa.specs.Encoding.{words_of, allowed};
 ghost use Rattle.statements.specs.Reading.{line_read};
-ghost use Rattle.statements.specs.declared.StatementRead.TheVariants.{Passes};
 ghost use Rattle.sources.specs.Inner.Assembling.{raw_by};
 
 use isa::encoding::encode;
@@ -18,19 +17,19 @@ fn write_words(i: Instruction, cells: &mut [u16], at: usize)
     ensures { cells.new ≡ sets cells.old at (words_of i) }
 {
     match encode(i) {
-        Encoded::Refused => {
+        None => {
             return;
         }
-        Encoded::One(x) => {
+        Some(Encoded::One(x)) => {
             put(cells, at, x);
             return;
         }
-        Encoded::Two(x, y) => {
+        Some(Encoded::Two(x, y)) => {
             put(cells, at, x);
             put(cells, at + 1, y);
             return;
         }
-        Encoded::Three(x, y, z) => {
+        Some(Encoded::Three(x, y, z)) => {
             put(cells, at, x);
             put(cells, at + 1, y);
             put(cells, at + 2, z);
@@ -40,7 +39,7 @@ fn write_words(i: Instruction, cells: &mut [u16], at: usize)
 }
 
 pub(crate) fn write_statement(line: &[u8], says: Statement, cells: &mut [u16], at: usize)
-    requires { ((line_read line.now).statement ≡ Passes says) × (at ≤ most_cells) }
+    requires { ((line_read line.now).statement ≡ Ok says) × (at ≤ most_cells) }
     ensures { cells.new ≡ sets cells.old at (raw_by line.now says) }
 {
     match says {

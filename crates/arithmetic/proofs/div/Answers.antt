@@ -6,7 +6,7 @@ use lib.Signed.{quot_z}
 use borrow.Author.Tests.{eq-eqb, ne_eqb}
 use Rattle.arithmetic.specs.Cells.{cell, leaves16}
 use Rattle.arithmetic.specs.Operations.{outcome, DIV}
-use Rattle.arithmetic.specs.declared.Division.TheVariants.{Done}
+use Rattle.std.proofs.Common.{Some}
 use Rattle.arithmetic.proofs.Laws.{quotient-leaves}
 use Rattle.arithmetic.proofs.Readings.{Computed, computed, divides, quotient-small, quotient-within}
 use Rattle.arithmetic.proofs.div.Goals as goal
@@ -34,4 +34,4 @@ returns c =
     let y = c.args.y in
     let value = c.cell_of.ensures ∙ ap cell (quotient q).right in
     let leaving = c.leaves.ensures ∙ ap leaves16 (quotient q).right ∙ sym (quotient-leaves x y c.ranges.x.fits c.ranges.y.fits) in
-    rw (ne_eqb y 0 c.if-y-eq0.false) (ap Done (c.outcome_of.ensures ∙ ap₂ (λ (v : ℕ) (o : Bool). outcome v false o) value leaving))
+    rw (ne_eqb y 0 c.if-y-eq0.false) (ap Some (c.outcome_of.ensures ∙ ap₂ (λ (v : ℕ) (o : Bool). outcome v false o) value leaving))

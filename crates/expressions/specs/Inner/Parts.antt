@@ -10,13 +10,14 @@ use Rattle.expressions.specs.Reading.{kind_symbol, Waiting, nothing, joined, Out
 use Rattle.expressions.specs.Places.{found_at, evaluate}
 use Rattle.expressions.specs.Inner.Scanning.{passes}
 use Rattle.expressions.specs.declared.Operation.{Operation}
-use Rattle.expressions.specs.declared.Found.{Found}
+use Rattle.expressions.specs.Places.{Found}
 use Rattle.expressions.specs.declared.Start.{Start}
 use Rattle.expressions.specs.declared.Start.TheVariants as S
-use Rattle.expressions.specs.declared.Mark.{Mark}
-use Rattle.expressions.specs.declared.Mark.TheVariants.{Joins, Absent}
-use Rattle.expressions.specs.declared.Part.{Part}
-use Rattle.expressions.specs.declared.Part.TheVariants.{Done, Wrong, Deep}
+use Rattle.std.specs.Prelude.{Option, Some, None, Result, Ok, Err}
+use Rattle.numerals.specs.Reading.{upto}
+use Rattle.numerals.specs.declared.Read.{Read}
+use Rattle.expressions.specs.declared.Malformed.{Malformed}
+use Rattle.expressions.specs.declared.Malformed.TheVariants.{TooDeep, WrongForm}
 use Rattle.expressions.specs.declared.Symbol.{Symbol}
 use Rattle.expressions.specs.declared.Symbol.TheVariants.{Number, Sums, Products, Opens, Shuts, Other}
 
@@ -30,21 +31,21 @@ start_of Opens = S.Opens
 start_of Shuts = S.Neither
 start_of Other = S.Neither
 
-abbrev pub sum_mark : Symbol → Mark
-sum_mark (Number v) = Absent
-sum_mark (Sums o) = Joins o
-sum_mark (Products o) = Absent
-sum_mark Opens = Absent
-sum_mark Shuts = Absent
-sum_mark Other = Absent
+abbrev pub sum_mark : Symbol → Option Operation
+sum_mark (Number v) = None
+sum_mark (Sums o) = Some o
+sum_mark (Products o) = None
+sum_mark Opens = None
+sum_mark Shuts = None
+sum_mark Other = None
 
-abbrev pub product_mark : Symbol → Mark
-product_mark (Number v) = Absent
-product_mark (Sums o) = Absent
-product_mark (Products o) = Joins o
-product_mark Opens = Absent
-product_mark Shuts = Absent
-product_mark Other = Absent
+abbrev pub product_mark : Symbol → Option Operation
+product_mark (Number v) = None
+product_mark (Sums o) = None
+product_mark (Products o) = Some o
+product_mark Opens = None
+product_mark Shuts = None
+product_mark Other = None
 
 abbrev pub is_shut : Symbol → Bool
 is_shut (Number v) = false
@@ -65,16 +66,16 @@ is_end (K.Mark b) = false
 -- ---- what is made of a part
 
 -- a further part joined to what was found by an operation, with the place of its mark
-abbrev pub joined_part : ℕ → Operation → Found → Part → Part
-joined_part at o v (Done w c) = Done (evaluate at o v w) c
-joined_part at o v Wrong = Wrong
-joined_part at o v Deep = Deep
+abbrev pub joined_part : ℕ → Operation → Found → Result (Read Found) Malformed → Result (Read Found) Malformed
+joined_part at o v (Ok r) = Ok (upto (evaluate at o v r.value) r.next)
+joined_part at o v (Err WrongForm) = Err WrongForm
+joined_part at o v (Err TooDeep) = Err TooDeep
 
 -- a sum inside parentheses: the closing one must follow
-abbrev pub closed_part : List ℕ → Part → Part
-closed_part s (Done v c) = cond (is_shut (kind_symbol (token_at s c.at).kind)) (Done v (token_at s c.at).next) Wrong
-closed_part s Wrong = Wrong
-closed_part s Deep = Deep
+abbrev pub closed_part : List ℕ → Result (Read Found) Malformed → Result (Read Found) Malformed
+closed_part s (Ok r) = cond (is_shut (kind_symbol (token_at s r.next.at).kind)) (Ok (upto r.value (token_at s r.next.at).next)) (Err WrongForm)
+closed_part s (Err WrongForm) = Err WrongForm
+closed_part s (Err TooDeep) = Err TooDeep
 
 -- ---- what a part is to the reader of whole rows
 
@@ -92,20 +93,20 @@ abbrev pub inside_at : Token → Found → Found
 inside_at t w = w
 
 abbrev pub Wait : Type 0
-Wait = Waiting Found number_at evaluate_at inside_at
+Wait = Waiting (Found) number_at evaluate_at inside_at
 
 abbrev pub Stack : Type 0
-Stack = List (Frame Found number_at evaluate_at inside_at)
+Stack = List (Frame (Found) number_at evaluate_at inside_at)
 
 -- the reader of whole rows, over what is found
 abbrev pub Answer : Type 0
-Answer = Outcome Found number_at evaluate_at inside_at
+Answer = Outcome (Found) number_at evaluate_at inside_at
 
 abbrev pub operand_f : List Token → Wait → Wait → Stack → Answer
-operand_f ts l p k = operand Found number_at evaluate_at inside_at ts l p k
+operand_f ts l p k = operand (Found) number_at evaluate_at inside_at ts l p k
 
 abbrev pub operator_f : List Token → Wait → Found → Stack → Answer
-operator_f ts l v k = operator Found number_at evaluate_at inside_at ts l v k
+operator_f ts l v k = operator (Found) number_at evaluate_at inside_at ts l v k
 
 -- what waits to the left of a part
 abbrev pub Left : Level → Type 0
@@ -120,15 +121,15 @@ before products ts x = operand_f ts x.0 nothing x.1
 before sums ts x = operand_f ts nothing nothing x
 
 abbrev pub after : (level : Level) → List Token → Found → Left level → Answer
-after factors ts v x = operator_f ts x.0 (joined Found number_at evaluate_at inside_at x.1 v) x.2
+after factors ts v x = operator_f ts x.0 (joined (Found) number_at evaluate_at inside_at x.1 v) x.2
 after products ts v x = operator_f ts x.0 v x.1
 after sums ts v x = operator_f ts nothing v x
 
 -- no mark that would carry a part on
 abbrev pub EndsAt : Level → Symbol → Type 0
 EndsAt factors y = Unit {0}
-EndsAt products y = product_mark y ≡ Absent
-EndsAt sums y = (product_mark y ≡ Absent) × (sum_mark y ≡ Absent)
+EndsAt products y = product_mark y ≡ None
+EndsAt sums y = (product_mark y ≡ None) × (sum_mark y ≡ None)
 
 abbrev pub Ends : Level → List Token → Type 0
 Ends level [] = Unit {0}
@@ -142,7 +143,7 @@ pub record PartDone (level ended : Level) (s : List ℕ) (at room : ℕ) (v : Fo
   pub read : (x : Left level) → before level (tokens_from s at) x ≡ after level (tokens_from s to) v x
   pub ends : Ends ended (tokens_from s to)
 
-abbrev pub Says : Level → Level → List ℕ → ℕ → ℕ → Part → Type 0
-Says level ended s at room (Done v c) = PartDone level ended s at room v c.at
-Says level ended s at room Wrong = (x : Left level) → before level (tokens_from s at) x ≡ wrong
-Says level ended s at room Deep = passes (tokens_from s at) room ≡ true
+abbrev pub Says : Level → Level → List ℕ → ℕ → ℕ → Result (Read Found) Malformed → Type 0
+Says level ended s at room (Ok r) = PartDone level ended s at room r.value r.next.at
+Says level ended s at room (Err WrongForm) = (x : Left level) → before level (tokens_from s at) x ≡ wrong
+Says level ended s at room (Err TooDeep) = passes (tokens_from s at) room ≡ true

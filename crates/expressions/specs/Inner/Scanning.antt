@@ -4,37 +4,37 @@ use Rattle.std.specs.Prelude.{ℕ, zero, suc, ◌+◌, ◌-◌, Bool, true, fals
 use Rattle.codes.specs.Limits.{deepest}
 use Rattle.tokens.specs.declared.Token.{Token}
 use Rattle.expressions.specs.Reading.{kind_symbol}
-use Rattle.expressions.specs.declared.ScanStep.{ScanStep}
-use Rattle.expressions.specs.declared.ScanStep.TheVariants.{On, Wrong}
+use Rattle.std.specs.Prelude.{Option, Some, None}
+use Rattle.expressions.specs.declared.Scan.{Scan}
 use Rattle.expressions.specs.declared.Symbol.{Symbol}
 use Rattle.expressions.specs.declared.Symbol.TheVariants.{Number, Sums, Products, Opens, Shuts, Other}
 
 -- a closing parenthesis, where so many are open
-abbrev pub shut_step : ℕ → ScanStep
-shut_step height = cond (eqb height 0) Wrong (On false (height - 1))
+abbrev pub shut_step : ℕ → Option Scan
+shut_step height = cond (eqb height 0) None (Some (record { operand = false; height = (height - 1) }))
 
 -- one token, where an operand is next or not, and so many parentheses are open
-abbrev pub scan_step : Symbol → Bool → ℕ → ScanStep
-scan_step (Number v) true height = On false height
-scan_step (Number v) false height = Wrong
-scan_step (Sums o) true height = Wrong
-scan_step (Sums o) false height = On true height
-scan_step (Products o) true height = Wrong
-scan_step (Products o) false height = On true height
-scan_step Opens true height = On true (height + 1)
-scan_step Opens false height = Wrong
-scan_step Shuts true height = Wrong
+abbrev pub scan_step : Symbol → Bool → ℕ → Option Scan
+scan_step (Number v) true height = Some (record { operand = false; height = height })
+scan_step (Number v) false height = None
+scan_step (Sums o) true height = None
+scan_step (Sums o) false height = Some (record { operand = true; height = height })
+scan_step (Products o) true height = None
+scan_step (Products o) false height = Some (record { operand = true; height = height })
+scan_step Opens true height = Some (record { operand = true; height = (height + 1) })
+scan_step Opens false height = None
+scan_step Shuts true height = None
 scan_step Shuts false height = shut_step height
-scan_step Other true height = Wrong
-scan_step Other false height = Wrong
+scan_step Other true height = None
+scan_step Other false height = None
 
 abbrev pub scan_end : Bool → ℕ → Bool
 scan_end true height = false
 scan_end false height = eqb height 0
 
-abbrev pub scan_on : ScanStep → (Bool → ℕ → Bool) → Bool
-scan_on (On operand height) further = further operand height
-scan_on Wrong further = false
+abbrev pub scan_on : Option Scan → (Bool → ℕ → Bool) → Bool
+scan_on (Some r) further = further r.operand r.height
+scan_on None further = false
 
 unfoldable pub right_form : List Token → Bool → ℕ → Bool
 right_form [] operand height = scan_end operand height
@@ -55,9 +55,9 @@ passes [] room = false
 passes (t ∷ ts) room = room_on (kind_symbol t.kind) room (λ room. passes ts room)
 
 -- the place of the leftmost parenthesis at which more than the deepest are open; 0 where there is none, or a wrong form before it
-abbrev pub level_on : ScanStep → ℕ → (Bool → ℕ → ℕ) → ℕ
-level_on (On operand height) at further = cond (leb height deepest) (further operand height) at
-level_on Wrong at further = 0
+abbrev pub level_on : Option Scan → ℕ → (Bool → ℕ → ℕ) → ℕ
+level_on (Some r) at further = cond (leb r.height deepest) (further r.operand r.height) at
+level_on None at further = 0
 
 unfoldable pub level_at : List Token → Bool → ℕ → ℕ
 level_at [] operand height = 0

@@ -5,15 +5,18 @@ use Rattle.tokens.specs.Reading.{token_at}
 use Rattle.tokens.specs.declared.Kind.{Kind}
 use Rattle.tokens.specs.declared.Token.{Token}
 use Rattle.values.specs.Reading.{value_at}
+use Rattle.values.specs.declared.Value.{Value}
 use Rattle.values.specs.declared.Value.TheVariants.{Number, Label}
-use Rattle.values.specs.declared.ValueRead.{ValueRead}
-use Rattle.values.specs.declared.ValueRead.TheVariants as R
+use Rattle.std.specs.Prelude.{Option, Some, None, Result, Ok, Err}
+use Rattle.numerals.specs.Reading.{upto}
+use Rattle.numerals.specs.declared.Read.{Read}
+use Rattle.items.specs.declared.Measure.{Measure}
+use Rattle.values.specs.declared.Value.{Value}
+use Rattle.items.specs.declared.Measure.{Measure}
+use Rattle.items.specs.declared.ItemsFault.{ItemsFault}
+use Rattle.items.specs.declared.ItemsFault.TheVariants.{WrongForm, OutOfRange}
 use Rattle.items.specs.Items.{Item, number, item_cells, item_in_range, cells_of, all_in_range}
-use Rattle.items.specs.Reading.{on_text, string_of, Result, reads, wrong}
-use Rattle.items.specs.declared.ItemRead.{ItemRead}
-use Rattle.items.specs.declared.ItemRead.TheVariants.{Found, Absent}
-use Rattle.items.specs.declared.ItemsRead.{ItemsRead}
-use Rattle.items.specs.declared.ItemsRead.TheVariants.{Cells, WrongForm, OutOfRange}
+use Rattle.items.specs.Reading.{on_text, string_of, RowRead, reads, wrong}
 
 -- an item with the cursor after it, or none
 pub data Standing : Type 0 where
@@ -26,29 +29,33 @@ string_by s k t = on_text none (stands (string_of s t) t.next) k
 abbrev pub string_at : List ℕ → Token → Standing
 string_at s t = string_by s t.kind t
 
+-- a number is an item, a label is none
+abbrev pub number_item : Value → Cursor → Standing
+number_item (Number n) c = stands (number n) c
+number_item (Label w) c = none
+
 -- a value that is a number, or a string
-abbrev pub item_by : List ℕ → ℕ → ValueRead → Standing
-item_by s at (R.Found (Number n) c) = stands (number n) c
-item_by s at (R.Found (Label w) c) = none
-item_by s at R.Absent = string_at s (token_at s at)
+abbrev pub item_by : List ℕ → ℕ → Option (Read Value) → Standing
+item_by s at (Some r) = number_item r.value r.next
+item_by s at None = string_at s (token_at s at)
 
 unfoldable pub item_at : List ℕ → ℕ → Standing
 item_at s at = item_by s at (value_at s at)
 
 -- what the code keeps of an item
-abbrev pub measured : Standing → ItemRead
-measured (stands i c) = Found (length (item_cells i)) (item_in_range i) c
-measured none = Absent
+abbrev pub measured : Standing → Option (Read Measure)
+measured (stands i c) = Some (upto (record { cells = (length (item_cells i)); fits = (item_in_range i) }) c)
+measured none = None
 
 -- the verdict on what is left, with the cells and the ranges of what is read
-abbrev pub verdict : ℕ → Bool → Result → ItemsRead
-verdict n fit (reads is) = cond (fit && all_in_range is) (Cells (n + length (cells_of is))) OutOfRange
-verdict n fit wrong = WrongForm
+abbrev pub verdict : ℕ → Bool → RowRead → Result ℕ ItemsFault
+verdict n fit (reads is) = cond (fit && all_in_range is) (Ok (n + length (cells_of is))) (Err OutOfRange)
+verdict n fit wrong = Err WrongForm
 
 -- ---- what the code of one turn writes
 
 -- the form and every range are right
-abbrev pub accepted : Result → Bool
+abbrev pub accepted : RowRead → Bool
 accepted (reads is) = all_in_range is
 accepted wrong = false
 

@@ -5,15 +5,16 @@ use Rattle.codes.specs.Limits.{most_cells}
 use Rattle.codes.specs.Marks.{free, code_mark, reserved_mark}
 use Rattle.isa.specs.Decoding.{decode_of}
 use Rattle.isa.specs.declared.Decoded.{Decoded}
-use Rattle.isa.specs.declared.Decoded.TheVariants.{Read, NoOpcode, NoMode, NoRegister, PastMemory}
+use Rattle.std.specs.Prelude.{Result, Ok, Err}
+use Rattle.isa.specs.declared.Address.{Address}
+use Rattle.isa.specs.declared.Undecoded.{Undecoded}
+use Rattle.isa.specs.declared.Undecoded.TheVariants.{NoOpcode, NoMode, NoRegister, PastMemory}
 use Rattle.listing.specs.Lines.{text_of_lines}
 use Rattle.listing.specs.Listing.{origin_at}
 use Rattle.listing.specs.declared.Begins.{Begins}
 use Rattle.listing.specs.declared.Begins.TheVariants as B
 use Rattle.listing.specs.declared.Entry.{Entry}
 use Rattle.listing.specs.declared.Entry.TheVariants.{Origin, Instructs, Holds, Reserves, Finish}
-use Rattle.listing.specs.declared.Measured.{Measured}
-use Rattle.listing.specs.declared.Measured.TheVariants as M
 use Rattle.listing.specs.Inner.Walk.{Found, found, failing, runs_from, lines_from}
 
 -- every mark is that of code
@@ -22,12 +23,12 @@ every_code [] = true
 every_code (k ∷ ks) = eqb k code_mark && every_code ks
 
 -- an instruction whose words are all marked as code
-abbrev pub code_by : List ℕ → ℕ → Decoded → Begins
-code_by marks at (Read i next) = cond (every_code (slice at next.0 marks)) (B.Line (Instructs i) next) B.Fails
-code_by marks at NoOpcode = B.Fails
-code_by marks at NoMode = B.Fails
-code_by marks at NoRegister = B.Fails
-code_by marks at PastMemory = B.Fails
+abbrev pub code_by : List ℕ → ℕ → Result Decoded Undecoded → Begins
+code_by marks at (Ok r) = cond (every_code (slice at r.next.0 marks)) (B.Line (Instructs r.instruction) r.next) B.Fails
+code_by marks at (Err NoOpcode) = B.Fails
+code_by marks at (Err NoMode) = B.Fails
+code_by marks at (Err NoRegister) = B.Fails
+code_by marks at (Err PastMemory) = B.Fails
 
 -- how many marks at the head of a map are those of reserved cells
 unfoldable pub reserved_run : List ℕ → ℕ
@@ -68,9 +69,9 @@ was_found (found es) = true
 was_found (failing a) = false
 
 -- how long that text is, or where it fails
-abbrev pub measure_of : Found → Measured
-measure_of (found es) = M.Long (length (text_of_lines es))
-measure_of (failing a) = M.Fails (record { 0 = a })
+abbrev pub measure_of : Found → Result ℕ Address
+measure_of (found es) = Ok (length (text_of_lines es))
+measure_of (failing a) = Err (record { 0 = a })
 
 -- an origin's address is one that ORG takes
 abbrev pub Addressed : Entry → Type 0

@@ -4,7 +4,9 @@ use Rattle.codes.specs.Limits.{longest_source}
 use Rattle.codes.specs.Marks.{free, code_mark, reserved_mark}
 use Rattle.isa.specs.Decoding.{decode_of}
 use Rattle.isa.specs.declared.Decoded.{Decoded}
-use Rattle.isa.specs.declared.Decoded.TheVariants.{Read, NoOpcode, NoMode, NoRegister, PastMemory}
+use Rattle.std.specs.Prelude.{Result, Ok, Err}
+use Rattle.isa.specs.declared.Undecoded.{Undecoded}
+use Rattle.isa.specs.declared.Undecoded.TheVariants.{NoOpcode, NoMode, NoRegister, PastMemory}
 use Rattle.isa.specs.declared.Instruction.{Instruction}
 use Rattle.image.specs.Printing.{good_loan}
 use Rattle.listing.specs.Lines.{text_of_lines}
@@ -38,12 +40,12 @@ abbrev pub before : Instruction → Parts → Parts
 before i (whole is) = whole (i ∷ is)
 before i (fails a) = fails a
 
-abbrev pub parts_by : ℕ → Decoded → (ℕ → Parts) → Parts
-parts_by at (Read i next) rest = before i (rest (next.0 - 1))
-parts_by at NoOpcode rest = fails at
-parts_by at NoMode rest = fails at
-parts_by at NoRegister rest = fails at
-parts_by at PastMemory rest = fails at
+abbrev pub parts_by : ℕ → Result Decoded Undecoded → (ℕ → Parts) → Parts
+parts_by at (Ok r) rest = before r.instruction (rest (r.next.0 - 1))
+parts_by at (Err NoOpcode) rest = fails at
+parts_by at (Err NoMode) rest = fails at
+parts_by at (Err NoRegister) rest = fails at
+parts_by at (Err PastMemory) rest = fails at
 
 -- each instruction begins where the one before ended, and all its words lie in the run; `more` words at the head belong to an instruction
 -- that is read already

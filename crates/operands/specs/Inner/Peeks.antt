@@ -11,54 +11,52 @@ use Rattle.tokens.specs.declared.Kind.{Kind}
 use Rattle.tokens.specs.declared.Kind.TheVariants as K
 use Rattle.tokens.specs.declared.Token.{Token}
 use Rattle.values.specs.Walks as Walks
-use Rattle.operands.specs.Reading.{State, operand, done, Step, Result, reads, wrong, code_at, walk}
+use Rattle.operands.specs.Reading.{State, operand, done, Step, RowRead, reads, wrong, code_at, walk}
 use Rattle.operands.specs.Checks.{operand_with, word_of, ranged}
-use Rattle.operands.specs.declared.InstructionRead.{InstructionRead}
-use Rattle.operands.specs.declared.InstructionRead.TheVariants.{WrongCount, WrongKind}
-use Rattle.operands.specs.declared.ListRead.{ListRead}
-use Rattle.operands.specs.declared.ListRead.TheVariants as L
+use Rattle.std.specs.Prelude.{Option, Some, None, Result, Err}
+use Rattle.numerals.specs.Reading.{upto}
+use Rattle.numerals.specs.declared.Read.{Read}
+use Rattle.operands.specs.declared.Operands.{Operands}
+use Rattle.operands.specs.declared.OperandsFault.{OperandsFault}
+use Rattle.operands.specs.declared.OperandsFault.TheVariants.{WrongCount, WrongKind}
 use Rattle.operands.specs.declared.FirstTwo.{FirstTwo}
-use Rattle.operands.specs.declared.OperandRead.{OperandRead}
-use Rattle.operands.specs.declared.OperandRead.TheVariants as O
-use Rattle.operands.specs.declared.RegisterRead.{RegisterRead}
-use Rattle.operands.specs.declared.RegisterRead.TheVariants as R
 use Rattle.operands.specs.declared.Written.{Written}
 use Rattle.operands.specs.declared.Written.TheVariants.{Absent}
 
 -- ---- one token
 
 -- a code that names a register
-abbrev pub named : ℕ → Cursor → RegisterRead
-named r next = cond (is_register r) (R.Named r next) R.Absent
+abbrev pub named : ℕ → Cursor → Option (Read ℕ)
+named r next = cond (is_register r) (Some (upto r next)) None
 
-abbrev pub register_by : ℕ → Kind → Cursor → RegisterRead
-register_by r K.End next = R.Absent
-register_by r K.Stray next = R.Absent
+abbrev pub register_by : ℕ → Kind → Cursor → Option (Read ℕ)
+register_by r K.End next = None
+register_by r K.Stray next = None
 register_by r K.Word next = named r next
-register_by r (K.Number v k) next = R.Absent
-register_by r K.Text next = R.Absent
-register_by r (K.Mark b) next = R.Absent
+register_by r (K.Number v k) next = None
+register_by r K.Text next = None
+register_by r (K.Mark b) next = None
 
-abbrev pub register_of : List ℕ → Token → RegisterRead
+abbrev pub register_of : List ℕ → Token → Option (Read ℕ)
 register_of line t = register_by (code_at line t) t.kind t.next
 
 -- ---- one operand
 
 -- where a step leads: after a comma, an operand begins
-abbrev pub stepped : Step → (State → Result) → Result
+abbrev pub stepped : Step → (State → RowRead) → RowRead
 stepped = Walks.stepped operand
 
-abbrev pub goes_on : List ℕ → OperandRead → Result
-goes_on line (O.Read o next) = walk line (done o) (tokens_from line next.at)
-goes_on line O.Wrong = wrong
+abbrev pub goes_on : List ℕ → Option (Read Written) → RowRead
+goes_on line (Some r) = walk line (done r.value) (tokens_from line r.next.at)
+goes_on line None = wrong
 
 -- an answer's cursor lies no further back
-abbrev pub Onward : ℕ → OperandRead → Type 0
-Onward at (O.Read o next) = at ≤ next.at
-Onward at O.Wrong = Unit
+abbrev pub Onward : ℕ → Option (Read Written) → Type 0
+Onward at (Some r) = at ≤ r.next.at
+Onward at None = Unit
 
 -- the walk from a state and a place is the walk from where the answer has come to
-pub record Goes (line : List ℕ) (st : State) (at : ℕ) (r : OperandRead) : Type 0 where
+pub record Goes (line : List ℕ) (st : State) (at : ℕ) (r : Option (Read Written)) : Type 0 where
   pub same : walk line st (tokens_from line at) ≡ goes_on line r
   pub on : Onward at r
 
@@ -77,18 +75,18 @@ keep_all all (o ∷ os) = keep_all (keep all o) os
 abbrev pub none_listed : FirstTwo
 none_listed = record { count = 0; first = Absent; second = Absent }
 
-abbrev pub listed : FirstTwo → Result → ListRead
-listed all (reads os) = L.Read (keep_all all os)
-listed all wrong = L.Wrong
+abbrev pub listed : FirstTwo → RowRead → Option FirstTwo
+listed all (reads os) = Some (keep_all all os)
+listed all wrong = None
 
 -- ---- what is judged of a list
 
-unfoldable pub judged_listed : Opcode → FirstTwo → InstructionRead
+unfoldable pub judged_listed : Opcode → FirstTwo → Result Operands OperandsFault
 judged_listed op all =
     cond (eqb all.count (count_of op))
     (cond (allows (table op).first (operand_with all.first 0))
     (cond (allows (table op).second (operand_with all.second 0))
     (ranged all.first (word_of all.first) all.second (word_of all.second))
-    (WrongKind 2))
-    (WrongKind 1))
-    WrongCount
+    (Err (WrongKind 2)))
+    (Err (WrongKind 1)))
+    (Err WrongCount)

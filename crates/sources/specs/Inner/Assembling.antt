@@ -6,15 +6,14 @@ use Rattle.std.proofs.lemmas.List.Edits.{sets}
 use Rattle.isa.specs.Encoding.{words_of}
 use Rattle.tokens.specs.Reading.{lines_of}
 use Rattle.names.specs.Names.{same}
-use Rattle.values.specs.declared.LabelIn.{LabelIn}
-use Rattle.values.specs.declared.LabelIn.TheVariants.{Absent, Named}
+use Rattle.std.specs.Prelude.{Option, Some, None, Result, Ok, Err}
+use Rattle.statements.specs.declared.Failure.{Failure}
+use Rattle.values.specs.declared.Name.{Name}
 use Rattle.statements.specs.Judging.{number_of}
 use Rattle.statements.specs.Reading.{line_read}
 use Rattle.statements.specs.Cells.{cells_in}
 use Rattle.statements.specs.declared.Statement.{Statement}
 use Rattle.statements.specs.declared.Statement.TheVariants.{Nothing, Instruction, Org, Equ, Res, Data, End}
-use Rattle.statements.specs.declared.StatementRead.{StatementRead}
-use Rattle.statements.specs.declared.StatementRead.TheVariants.{Passes, Fails}
 use Rattle.codes.specs.Limits.{most_cells, longest_source, most_labels, longest_label}
 use Rattle.codes.specs.Marks.{free}
 use Rattle.sources.specs.Sources.{spelled}
@@ -64,9 +63,9 @@ is_end (Res v) = false
 is_end (Data n) = false
 is_end End = true
 
-abbrev pub ends_it : StatementRead → Bool
-ends_it (Passes s) = is_end s
-ends_it (Fails why) = false
+abbrev pub ends_it : Result Statement Failure → Bool
+ends_it (Ok s) = is_end s
+ends_it (Err why) = false
 
 -- the lines up to END
 unfoldable pub up_to_end : List (List ℕ) → List (List ℕ)
@@ -96,13 +95,13 @@ name_verdict k p w =
     ∷ test (9 on k) (among w (names p))
     ∷ [])
 
-abbrev pub label_verdict : ℕ → Place → List ℕ → LabelIn → Verdict
-label_verdict k p bytes Absent = passes
-label_verdict k p bytes (Named n) = name_verdict k p (spelled bytes n)
+abbrev pub label_verdict : ℕ → Place → List ℕ → Option Name → Verdict
+label_verdict k p bytes None = passes
+label_verdict k p bytes (Some n) = name_verdict k p (spelled bytes n)
 
-abbrev pub own_verdict : ℕ → StatementRead → Verdict
-own_verdict k (Passes s) = passes
-own_verdict k (Fails why) = refused (number_of why on k)
+abbrev pub own_verdict : ℕ → Result Statement Failure → Verdict
+own_verdict k (Ok s) = passes
+own_verdict k (Err why) = refused (number_of why on k)
 
 abbrev pub gives_start : Gives → Bool
 gives_start Waits = false
@@ -157,9 +156,9 @@ raw_by bytes (Res v) = []
 raw_by bytes (Data n) = cells_in bytes
 raw_by bytes End = []
 
-abbrev pub raw_read : List ℕ → StatementRead → List ℕ
-raw_read bytes (Passes s) = raw_by bytes s
-raw_read bytes (Fails why) = []
+abbrev pub raw_read : List ℕ → Result Statement Failure → List ℕ
+raw_read bytes (Ok s) = raw_by bytes s
+raw_read bytes (Err why) = []
 
 -- what the walk over the lines has come to
 pub record Work : Type 0 where

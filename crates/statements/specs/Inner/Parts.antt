@@ -5,20 +5,17 @@ use Rattle.std.specs.Int.{w16}
 use Rattle.std.proofs.Common.{of_z}
 use Rattle.tokens.specs.Reading.{after_kind, tokens_from}
 use Rattle.tokens.specs.declared.Token.{Token}
-use Rattle.values.specs.declared.LabelIn.TheVariants.{Absent}
-use Rattle.expressions.specs.declared.ExpressionRead.{ExpressionRead}
-use Rattle.expressions.specs.declared.ExpressionRead.TheVariants as E
-use Rattle.expressions.specs.declared.Worth.{Worth}
-use Rattle.expressions.specs.declared.Worth.TheVariants as W
+use Rattle.std.specs.Prelude.{None, Result, Ok, Err}
+use Rattle.statements.specs.declared.Failure.{Failure}
+use Rattle.expressions.specs.declared.Fault.TheVariants.{OutOfRange, ByZero}
+use Rattle.expressions.specs.declared.Malformed.{Malformed}
+use Rattle.expressions.specs.declared.Malformed.TheVariants.{TooDeep, WrongForm}
+use Rattle.expressions.specs.Worths.{Worth}
 use Rattle.statements.specs.Checks.{result_in}
 use Rattle.statements.specs.Reading.{label_read, after_label}
 use Rattle.statements.specs.declared.Failure.TheVariants.{WrongForm, TooDeep, OutOfRange, ByZero, ResultOut}
 use Rattle.statements.specs.declared.Labelled.{Labelled}
-use Rattle.statements.specs.declared.Outcome.{Outcome}
-use Rattle.statements.specs.declared.Outcome.TheVariants.{Value, Fails}
 use Rattle.statements.specs.declared.Statement.{Statement}
-use Rattle.statements.specs.declared.StatementRead.{StatementRead}
-use Rattle.statements.specs.declared.StatementRead.TheVariants as S
 
 -- a `:` stands at a place of the line; past its end the byte is 0
 abbrev pub colon_at : List ℕ → ℕ → Bool
@@ -30,7 +27,7 @@ begun_by line w = after_kind w.kind w (tokens_from line)
 
 -- no label: the statement begins with the line's first token
 abbrev pub no_label : Token → Labelled
-no_label w = record { label = Absent; word = w }
+no_label w = record { label = None; word = w }
 
 -- the label, and the token with which what comes after it begins
 pub record LabelDone (line : List ℕ) (r : Labelled) : Type 0 where
@@ -38,20 +35,20 @@ pub record LabelDone (line : List ℕ) (r : Labelled) : Type 0 where
   pub behind : after_label (tokens_from line 0) ≡ begun_by line r.word
 
 -- a result from the least one up to 65535
-unfoldable pub cell_in : ℤ → ℤ → Outcome
-cell_in least z = cond (result_in least z) (Value (of_z w16 z)) (Fails ResultOut)
+unfoldable pub cell_in : ℤ → ℤ → Result ℕ Failure
+cell_in least z = cond (result_in least z) (Ok (of_z w16 z)) (Err ResultOut)
 
-abbrev pub worth_outcome : ℤ → Worth → Outcome
-worth_outcome least (W.Is z) = cell_in least z
-worth_outcome least W.OutOfRange = Fails OutOfRange
-worth_outcome least W.ByZero = Fails ByZero
+abbrev pub worth_outcome : ℤ → Worth → Result ℕ Failure
+worth_outcome least (Ok z) = cell_in least z
+worth_outcome least (Err OutOfRange) = Err OutOfRange
+worth_outcome least (Err ByZero) = Err ByZero
 
-abbrev pub outcome_of : ℤ → ExpressionRead → Outcome
-outcome_of least (E.Read w) = worth_outcome least w
-outcome_of least E.TooDeep = Fails TooDeep
-outcome_of least E.WrongForm = Fails WrongForm
+abbrev pub outcome_of : ℤ → Result Worth Malformed → Result ℕ Failure
+outcome_of least (Ok w) = worth_outcome least w
+outcome_of least (Err TooDeep) = Err TooDeep
+outcome_of least (Err WrongForm) = Err WrongForm
 
 -- what a statement makes of its outcome
-abbrev pub said : (ℕ → Statement) → Outcome → StatementRead
-said makes (Value v) = S.Passes (makes v)
-said makes (Fails why) = S.Fails why
+abbrev pub said : (ℕ → Statement) → Result ℕ Failure → Result Statement Failure
+said makes (Ok v) = Ok (makes v)
+said makes (Err why) = Err why

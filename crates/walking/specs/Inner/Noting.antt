@@ -2,8 +2,8 @@
 use Rattle.std.specs.Prelude.{ℕ, ◌+◌, ◌-◌, ◌≤◌, ◌<◌, List, [], ◌∷◌, ◌++◌, ◌≡◌}
 use Rattle.isa.specs.declared.Operand.{Operand}
 use Rattle.isa.specs.declared.Operand.TheVariants as O
-use Rattle.values.specs.declared.LabelIn.{LabelIn}
-use Rattle.values.specs.declared.LabelIn.TheVariants.{Absent, Named}
+use Rattle.std.specs.Prelude.{Option, Some, None}
+use Rattle.values.specs.declared.Name.{Name}
 use Rattle.operands.specs.declared.Given.{Given}
 use Rattle.codes.specs.Limits.{most_cells}
 use Rattle.labels.specs.Inner.Labels.{window, Part, InCell}
@@ -23,14 +23,14 @@ away_for (O.IndexedSp d) n = 0
 away_for (O.Relative d) n = n
 
 -- a label's place and the operand's cell fit where they are kept
-abbrev pub Placeable : ℕ → ℕ → ℕ → LabelIn → Type 0
-Placeable from cell next Absent = Unit {0}
-Placeable from cell next (Named n) = (n.start ≤ n.end) × InCell (from + n.end) × (cell < next) × (next ≤ cell + 2) × (next ≤ most_cells)
+abbrev pub Placeable : ℕ → ℕ → ℕ → Option Name → Type 0
+Placeable from cell next None = Unit {0}
+Placeable from cell next (Some n) = (n.start ≤ n.end) × InCell (from + n.end) × (cell < next) × (next ≤ cell + 2) × (next ≤ most_cells)
 
 -- as `useBy`, with the name where it stands in the source
-abbrev pub noted_by : List ℕ → ℕ → ℕ → ℕ → ℕ → Operand → LabelIn → List Use
-noted_by s from k cell next o Absent = []
-noted_by s from k cell next o (Named n) =
+abbrev pub noted_by : List ℕ → ℕ → ℕ → ℕ → ℕ → Operand → Option Name → List Use
+noted_by s from k cell next o None = []
+noted_by s from k cell next o (Some n) =
     record { line = k; name = window s (from + n.start) (n.end - n.start); cell = cell; counted = counted_for o next } ∷ []
 
 abbrev pub noted : List ℕ → ℕ → ℕ → ℕ → ℕ → Given → List Use

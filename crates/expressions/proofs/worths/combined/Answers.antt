@@ -2,7 +2,7 @@
 use borrow.Author.Rules.{rules}
 use mathlib.Core.Path.{sym, ap, ap₂}
 use Rattle.expressions.specs.Places.{evaluate}
-use Rattle.expressions.specs.declared.Found.{Found}
+use Rattle.expressions.specs.Places.{Found}
 use Rattle.expressions.proofs.worths.combined.Goals as goal
 
 pub returns-in-Is-b : goal.returns-in-Is-b

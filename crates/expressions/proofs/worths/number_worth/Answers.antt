@@ -5,12 +5,12 @@ use borrow.Author.Tests.{le-leb, lt-leb}
 use mir.Syntax.{w32}
 use mir.Facts.{to_z_pos}
 use Rattle.expressions.specs.Worths.{of_number}
-use Rattle.expressions.specs.declared.Worth.TheVariants.{Is}
+use Rattle.std.proofs.Common.{Ok}
 use Rattle.expressions.proofs.worths.number_worth.Goals as goal
 
 pub returns-then-v-le65535 : goal.returns-then-v-le65535
 unfolding of_number
-returns-then-v-le65535 c = rw (le-leb c.args.v 65535 c.if-v-le65535.true) (ap Is (to_z_pos w32 {n = c.args.v} (omega arith)))
+returns-then-v-le65535 c = rw (le-leb c.args.v 65535 c.if-v-le65535.true) (ap Ok (to_z_pos w32 {n = c.args.v} (omega arith)))
 
 pub returns-else-v-le65535 : goal.returns-else-v-le65535
 unfolding of_number

@@ -5,7 +5,8 @@ use lib.IntN.{◌+ℤ◌, ◌-ℤ◌, ◌*ℤ◌}
 use lib.Signed.{quot_z, rem_z}
 use Rattle.expressions.specs.Worths.{within32, operation}
 use Rattle.expressions.specs.declared.Operation.{Operation}
-use Rattle.expressions.specs.declared.Worth.TheVariants.{ByZero}
+use Rattle.std.proofs.Common.{Err}
+use Rattle.expressions.specs.declared.Fault.TheVariants.{ByZero}
 use Rattle.expressions.proofs.Ranges.{plus-fits, minus-fits, times-fits, quot_fits, rem_fits, wide, op_fits, op_kept, zero_bits, no_zero, divides}
 use Rattle.expressions.proofs.worths.operation_on.Goals as goal
 
@@ -41,7 +42,7 @@ returns-then-b-eq0 c =
     let b = c.args.b in
     sym
     (ap (λ (o : Operation). operation o a b) c.in-Over.is
-    ∙ ap (λ (q : Bool). cond q ByZero (within32 (quot_z a b))) (zero_bits b c.ranges.b c.if-b-eq0.true))
+    ∙ ap (λ (q : Bool). cond q (Err ByZero) (within32 (quot_z a b))) (zero_bits b c.ranges.b c.if-b-eq0.true))
 
 pub returns-then-b-eq0-2 : goal.returns-then-b-eq0-2
 unfolding operation
@@ -50,7 +51,7 @@ returns-then-b-eq0-2 c =
     let b = c.args.b in
     sym
     (ap (λ (o : Operation). operation o a b) c.in-Rest.is
-    ∙ ap (λ (q : Bool). cond q ByZero (within32 (rem_z a b))) (zero_bits b c.ranges.b c.if-b-eq0-2.true))
+    ∙ ap (λ (q : Bool). cond q (Err ByZero) (within32 (rem_z a b))) (zero_bits b c.ranges.b c.if-b-eq0-2.true))
 
 pub returns-in-Plus : goal.returns-in-Plus
 unfolding operation
@@ -82,7 +83,7 @@ returns-else-b-eq0 c =
     op_kept quot_z h.a h.b (quot_fits h.a h.b) c.within-in-Over.ensures
     ∙ sym
     (ap (λ (o : Operation). operation o a b) c.in-Over.is
-    ∙ ap (λ (q : Bool). cond q ByZero (within32 (quot_z a b))) (no_zero b c.if-b-eq0.false))
+    ∙ ap (λ (q : Bool). cond q (Err ByZero) (within32 (quot_z a b))) (no_zero b c.if-b-eq0.false))
 
 pub returns-else-b-eq0-2 : goal.returns-else-b-eq0-2
 unfolding operation
@@ -93,4 +94,4 @@ returns-else-b-eq0-2 c =
     op_kept rem_z h.a h.b (rem_fits h.a h.b) c.within-in-Rest.ensures
     ∙ sym
     (ap (λ (o : Operation). operation o a b) c.in-Rest.is
-    ∙ ap (λ (q : Bool). cond q ByZero (within32 (rem_z a b))) (no_zero b c.if-b-eq0-2.false))
+    ∙ ap (λ (q : Bool). cond q (Err ByZero) (within32 (rem_z a b))) (no_zero b c.if-b-eq0-2.false))

@@ -3,35 +3,36 @@ use mathlib.Core.Path.{refl, sym, ap, subst, ◌∙◌}
 use native.Mathlib.Omega.{arith}
 use Rattle.operands.specs.Reading.{operand}
 use Rattle.operands.specs.Inner.Peeks.{Goes}
-use Rattle.operands.specs.declared.ListRead.TheVariants as L
-use Rattle.operands.specs.declared.OperandRead.{OperandRead}
+use Rattle.std.proofs.Common.{Option, Some}
+use Rattle.numerals.specs.declared.Read.{Read}
+use Rattle.operands.specs.declared.Written.{Written}
 use Rattle.operands.proofs.Lists.{some-wrong, some-over, some-neither, some-comma}
 use Rattle.operands.proofs.listed.some_operands.Goals as goal
 
 pub returns-in-Wrong : goal.returns-in-Wrong
 returns-in-Wrong c =
     let s = c.args.s.now in
-    let g = subst (λ (r : OperandRead). Goes s operand c.loop-o.at r) c.in-Wrong.is c.operand-read.ensures in
+    let g = subst (λ (r : Option (Read Written)). Goes s operand c.loop-o.at r) c.in-Wrong.is c.operand-read.ensures in
     sym (c.loop-o.invariant ∙ some-wrong s c.loop-o.all c.loop-o.at g)
 
 pub returns-in-Over : goal.returns-in-Over
 returns-in-Over c =
     let s = c.args.s.now in
-    let g = subst (λ (r : OperandRead). Goes s operand c.loop-o.at r) c.in-Read.is c.operand-read.ensures in
+    let g = subst (λ (r : Option (Read Written)). Goes s operand c.loop-o.at r) c.in-Read.is c.operand-read.ensures in
     let e = sym c.follows.ensures ∙ c.in-Over.is in
-    ap L.Read c.with_operand-all.ensures ∙ sym (c.loop-o.invariant ∙ some-over s c.loop-o.all c.loop-o.at g e)
+    ap Some c.with_operand-all.ensures ∙ sym (c.loop-o.invariant ∙ some-over s c.loop-o.all c.loop-o.at g e)
 
 pub returns-in-Neither : goal.returns-in-Neither
 returns-in-Neither c =
     let s = c.args.s.now in
-    let g = subst (λ (r : OperandRead). Goes s operand c.loop-o.at r) c.in-Read.is c.operand-read.ensures in
+    let g = subst (λ (r : Option (Read Written)). Goes s operand c.loop-o.at r) c.in-Read.is c.operand-read.ensures in
     let e = sym c.follows.ensures ∙ c.in-Neither.is in
     sym (c.loop-o.invariant ∙ some-neither s c.loop-o.all c.loop-o.at g e)
 
 pub loop-o-smaller : goal.loop-o-smaller
 loop-o-smaller c =
     let s = c.args.s.now in
-    let g = subst (λ (r : OperandRead). Goes s operand c.loop-o.at r) c.in-Read.is c.operand-read.ensures in
+    let g = subst (λ (r : Option (Read Written)). Goes s operand c.loop-o.at r) c.in-Read.is c.operand-read.ensures in
     let e = sym c.follows.ensures ∙ c.in-Comma.is in
     let h = some-comma s c.loop-o.all c.loop-o.at g c.with_operand-all.ensures e in
     omega (arith, h.1, h.2)
@@ -39,7 +40,7 @@ loop-o-smaller c =
 pub loop-o-preserved : goal.loop-o-preserved
 loop-o-preserved c =
     let s = c.args.s.now in
-    let g = subst (λ (r : OperandRead). Goes s operand c.loop-o.at r) c.in-Read.is c.operand-read.ensures in
+    let g = subst (λ (r : Option (Read Written)). Goes s operand c.loop-o.at r) c.in-Read.is c.operand-read.ensures in
     let e = sym c.follows.ensures ∙ c.in-Comma.is in
     let h = some-comma s c.loop-o.all c.loop-o.at g c.with_operand-all.ensures e in
     c.loop-o.invariant ∙ h.0

@@ -3,14 +3,13 @@ use Prim.Native.Nat.{◌+◌}
 use mathlib.Core.Path.{sym, ap, subst, ◌∙◌}
 use native.Mathlib.Omega.{arith}
 use lib.ListN.{length}
-use Rattle.values.specs.declared.LabelIn.TheVariants.{Named}
+use Rattle.std.proofs.Common.{Some, Err}
 use Rattle.statements.specs.declared.LineRead.{LineRead}
 use Rattle.sources.specs.Placing.{labelled}
 use Rattle.sources.specs.Inner.Assembling.{label_verdict}
 use Rattle.labels.specs.Inner.Labels.{words}
 use Rattle.labels.proofs.Laws.{length-words}
 use Rattle.placing.specs.Inner.State.{place_in, FairDid}
-use Rattle.placing.specs.declared.Did.TheVariants.{No}
 use Rattle.placing.proofs.LabelLaws.{label-within}
 use Rattle.placing.proofs.LineLaws.{as_read, tells_by, label-fails, named_placed}
 use Rattle.placing.proofs.line.place_named.Goals as goal
@@ -37,9 +36,9 @@ returns-in-No c =
     let place = place_in a.s.now a.starts.now a.keys.now a.values.now a.marks.now a.c in
     let f = c.in-No in (
       tt,
-      λ k. as_read (length a.marks.now) k place a.line.now (λ z. place) (No f.f) p.3
+      λ k. as_read (length a.marks.now) k place a.line.now (λ z. place) (Err f.f) p.3
           (label-fails (length a.marks.now) k place (record { bytes = a.line.now; read = a.read }) p.6
-          (tells_by k (label_verdict k place a.line.now (Named a.n)) (labelled place a.line.now (Named a.n))
+          (tells_by k (label_verdict k place a.line.now (Some a.n)) (labelled place a.line.now (Some a.n))
           (place_in a.s.now starts keys a.values.now a.marks.now) f.is (d.ensures.1 k a.values.now a.marks.now p.1.values_long))),
     )
 
@@ -60,7 +59,7 @@ returns-in-Go c =
       λ k. as_read (length a.marks.now) k place a.line.now (place_in a.s.now starts keys e.new.values e.new.marks) e.result p.3
           (named_placed (length a.marks.now) k a.s.now a.starts.now a.keys.now starts keys a.values.now a.marks.now
           e.new.values e.new.marks a.line.now a.c a.read g.d e.result p.6
-          (tells_by k (label_verdict k place a.line.now (Named a.n)) (labelled place a.line.now (Named a.n))
+          (tells_by k (label_verdict k place a.line.now (Some a.n)) (labelled place a.line.now (Some a.n))
           (place_in a.s.now starts keys a.values.now a.marks.now) g.is (d.ensures.1 k a.values.now a.marks.now p.1.values_long))
           e.ensures.1 (e.ensures.2 k (words a.s.now starts keys n) long)),
     )

@@ -1,12 +1,14 @@
 -- The label and the tokens behind it are what `label` found, and the statement is read from there.
 use mathlib.Core.Path.{sym, ap, ap₂, ◌∙◌}
-use Rattle.values.specs.declared.LabelIn.{LabelIn}
+use Rattle.std.proofs.Common.{Option, Result}
+use Rattle.statements.specs.declared.Statement.{Statement}
+use Rattle.statements.specs.declared.Failure.{Failure}
+use Rattle.values.specs.declared.Name.{Name}
 use Rattle.statements.specs.Reading.{statement_read, line_read}
 use Rattle.statements.specs.declared.LineRead.{LineRead}
-use Rattle.statements.specs.declared.StatementRead.{StatementRead}
 use Rattle.statements.proofs.line.read_line.Goals as goal
 
-answer : LabelIn → StatementRead → LineRead
+answer : Option Name → Result Statement Failure → LineRead
 answer l st = record { label = l; statement = st }
 
 pub returns : goal.returns

@@ -7,7 +7,7 @@ use mathlib.Core.Path.{refl, sym, ap, subst, ◌∙◌}
 use Rattle.codes.specs.Limits.{most_cells}
 use Rattle.isa.proofs.Top.{few-operands}
 use Rattle.statements.specs.Judging.{claim_of}
-use Rattle.statements.specs.declared.StatementRead.TheVariants.{Passes}
+use Rattle.std.proofs.Common.{Ok}
 use Rattle.sources.specs.Uses.{uses_by}
 use Rattle.uses.specs.Inner.Held.{uses_held}
 use Rattle.walking.proofs.Notes.{none_named}
@@ -25,7 +25,7 @@ overflow_add-next-in-Instruction c =
 pub note_operands-requires : goal.note_operands-requires
 note_operands-requires c =
     let a = c.args in
-    let e = c.requires.0 ∙ ap Passes c.in-Instruction.is in
+    let e = c.requires.0 ∙ ap Ok c.in-Instruction.is in
     let n = c.operand_count.ensures in
     let room = subst (λ (x : Statement). 0 < claim_of x → a.at + claim_of x ≤ most_cells) c.in-Instruction.is c.requires.4 (omega arith) in (
       c.requires.5,
@@ -38,7 +38,7 @@ note_operands-requires c =
 pub returns-in-Instruction : goal.returns-in-Instruction
 returns-in-Instruction c =
     let a = c.args in
-    let e = c.requires.0 ∙ ap Passes c.in-Instruction.is in (
+    let e = c.requires.0 ∙ ap Ok c.in-Instruction.is in (
       λ s part. uses-noted a.line.now e s a.from a.number part a.at c.operand_count.ensures
           (uses_held s a.row.now a.aways.now a.count) (c.note_operands.ensures.0 s)
           ∙ ap (λ (x : Statement). uses_held s a.row.now a.aways.now a.count ++ uses_by a.number a.line.now a.at x) (sym c.in-Instruction.is),

@@ -2,7 +2,8 @@
 use Rattle.statements.specs.declared.Statement.{Statement}
 use mathlib.Core.Bool.{cond}
 use mathlib.Core.Path.{sym, ap, ◌∙◌}
-use Rattle.statements.specs.declared.StatementRead.{StatementRead}
+use Rattle.std.proofs.Common.{Result}
+use Rattle.statements.specs.declared.Failure.{Failure}
 use Rattle.sources.specs.Inner.Assembling.{is_end, ends_it}
 use Rattle.walking.proofs.walk.next_line.Goals as goal
 
@@ -10,5 +11,5 @@ pub returns-in-End : goal.returns-in-End
 returns-in-End c =
     let s = c.args in
     sym (
-    ap (λ (r : StatementRead). cond (ends_it r) s.total s.next) c.in-Passes.is
+    ap (λ (r : Result Statement Failure). cond (ends_it r) s.total s.next) c.in-Passes.is
     ∙ ap (λ (x : Statement). cond (is_end x) s.total s.next) c.in-End.is)

@@ -1,13 +1,13 @@
 -- An instruction that a line says is allowed as it stands.
 use mathlib.Core.Path.{ap, ◌∙◌}
-use Rattle.statements.specs.declared.StatementRead.TheVariants.{Passes}
+use Rattle.std.proofs.Common.{Ok}
 use Rattle.walking.proofs.Said.{allowed-said}
 use Rattle.walking.proofs.Words.{as_said}
 use Rattle.walking.proofs.writing.write_statement.Goals as goal
 
 pub write_words-requires : goal.write_words-requires
 write_words-requires c =
-    (allowed-said c.args.line.now (c.requires.0 ∙ ap Passes c.in-Instruction.is), c.requires.1)
+    (allowed-said c.args.line.now (c.requires.0 ∙ ap Ok c.in-Instruction.is), c.requires.1)
 
 pub returns-in-Instruction : goal.returns-in-Instruction
 returns-in-Instruction c =
