@@ -1,4 +1,5 @@
 -- The columns of Columns.antt are those of Points.antt. Top.antt restates it.
+use Rattle.expressions.specs.Worths.{Worth}
 use Prim.Native.Nat.{ℕ, ◌+◌, ◌≤◌, ◌<◌}
 use mathlib.Core.Bool.{Bool, true, false, cond, ◌||◌}
 use mathlib.Core.List.{List, [], ◌∷◌}

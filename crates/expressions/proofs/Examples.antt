@@ -11,7 +11,7 @@ use Rattle.numerals.specs.Reading.{run, digits_at, radix_at, unsigned_at}
 use Rattle.tokens.specs.Bytes.{is_blank, is_mark}
 use Rattle.tokens.specs.Reading.{blanks, closing, token_here, token_at, tokens_within, tokens_from}
 use Rattle.expressions.specs.Trees.{depth}
-use Rattle.expressions.specs.Worths.{within32, of_number, operation, operate, worth_of}
+use Rattle.expressions.specs.Worths.{Worth, within32, of_number, operation, operate, worth_of}
 use Rattle.expressions.specs.Reading.{mark_symbol, operand, operator, expression_read}
 use Rattle.expressions.specs.Places.{strip, evaluate, found_of, fault_in, deep_from, too_deep_in}
 use Rattle.std.proofs.Common.{Result, Ok, Err}

@@ -1,4 +1,5 @@
 -- The paper's numbers of the answers are all different: each tells its answer.
+use Rattle.expressions.specs.Worths.{Worth}
 use mathlib.Core.Path.{◌≡◌, refl}
 use native.Mathlib.Omega.{arith}
 use lib.IntN.{ℤ}

@@ -6,6 +6,7 @@ use Rattle.expressions.specs.Trees.{Tree, literal, node, enclosed}
 use Rattle.expressions.specs.declared.Operation.{Operation}
 use Rattle.expressions.specs.declared.Operation.TheVariants.{Plus, Minus, Times, Over, Rest}
 use Rattle.std.specs.Prelude.{Result, Ok, Err}
+use Rattle.expressions.specs.declared.Fault.{Fault}
 use Rattle.expressions.specs.declared.Fault.TheVariants.{OutOfRange, ByZero}
 
 -- a number, or 6 or 7

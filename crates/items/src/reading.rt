@@ -2,6 +2,7 @@
 ghost use Rattle.std.specs.Prelude.{cond, ◌&&◌, ◌≡◌};
 ghost use Rattle.tokens.specs.Reading.{tokens_from};
 ghost use Rattle.items.specs.Reading.{items_read};
+ghost use Rattle.items.specs.declared.ItemsFault.TheVariants.{OutOfRange};
 
 use super::{ItemsFault, Measure};
 use super::single::item;

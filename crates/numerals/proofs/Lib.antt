@@ -1,5 +1,6 @@
 -- Laws of the definitions, by topic; Top.antt restates what the crate promises.
 pub mod Ranks
+pub mod SameReads
 pub mod Runs
 pub mod Worths
 pub mod Cells

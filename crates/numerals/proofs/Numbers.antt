@@ -23,6 +23,7 @@ use Rattle.numerals.specs.declared.Radix.TheVariants.{Decimal, Hexadecimal}
 use Rattle.std.proofs.Common.{Option, Some, None}
 use Rattle.numerals.specs.Reading.{upto}
 use Rattle.numerals.specs.declared.Read.{Read}
+use Rattle.numerals.proofs.SameReads.{same-value, same-next}
 use Rattle.numerals.proofs.Runs.{run_le, run-all, run_none, run_of}
 use Rattle.numerals.proofs.Radixes.{base-small, begins, prefix-stands}
 use Rattle.numerals.proofs.Readers.{digits-found, unsigned_is, number-minus, number-plain}
@@ -93,8 +94,8 @@ module _ (below : Bool) (k : Radix) (s : List ℕ) (from : ℕ) where
             split = rw l (rw (← drop-drop m from s) (sym (take-append-drop m (drop from s))));
             are-digits = record { some = rw l (ltb→lt 0 m (and_l (ltb 0 m) (ends_word (drop (from + m) s)) b)); all = run-all (base k) (drop from s) };
             ends = rw l (and_r (ltb 0 m) (ends_word (drop (from + m) s)) b);
-            numeral_is = cc;
-            cursor_is = rw l (cc);
+            numeral_is = sym (same-value f);
+            cursor_is = rw l (sym (same-next f));
           }
       go false t f = let z : ◌≡◌ {A = ℕ} 0 1 = cc in absurd (omega arith)
 

@@ -123,15 +123,7 @@ pub fn line_number(s: &[u8]) -> u16
     ensures { result ≡ line_number s.now }
 {
     match (Cursor { at: 0 }).number(s) {
-        Some(Read { value: n, next: c }) => {
-            if c.at != s.len() {
-                return 0;
-            }
-            match kept(n) {
-                Some(x) => x,
-                None => 0,
-            }
-        }
-        None => 0,
+        Some(read) if read.next.at == s.len() => kept(read.value).unwrap_or(0),
+        _ => 0,
     }
 }

@@ -1,4 +1,5 @@
 -- What is answered exactly when: each answer from a reading of the row, and back. Top.antt restates these.
+use Rattle.expressions.specs.Places.{Found}
 use Prim.Native.Nat.{ℕ, suc}
 use mathlib.Core.Bool.{Bool, true, false, cond, ◌&&◌}
 use mathlib.Core.List.{List}

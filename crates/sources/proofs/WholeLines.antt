@@ -1,4 +1,5 @@
 -- A line that passes its own checks has whole tokens, unless its word is END: so a comment may be added to any line of an accepted source.
+use Rattle.expressions.specs.Worths.{Worth}
 use Prim.Native.Nat.{ℕ}
 use mathlib.Core.Bool.{cond, not}
 use mathlib.Core.List.{List, [], ◌∷◌}

@@ -8,7 +8,6 @@ use Rattle.names.specs.Names.{same}
 use Rattle.std.specs.Prelude.{Option, Some, None, Result, Ok, Err}
 use Rattle.statements.specs.declared.Failure.{Failure}
 use Rattle.values.specs.declared.Name.{Name}
-use Rattle.values.specs.declared.Value.{Value}
 use Rattle.operands.specs.declared.Given.{Given}
 use Rattle.statements.specs.Judging.{claim_of}
 use Rattle.statements.specs.declared.Statement.{Statement}

@@ -1,4 +1,5 @@
 -- DATA claims as many cells as its items take; and a refusal has the number that the crate below gives it.
+use Rattle.expressions.specs.Worths.{Worth}
 use Prim.Native.Nat.{ℕ}
 use mathlib.Core.Bool.{Bool, true, false, cond}
 use mathlib.Core.List.{List}

@@ -1,5 +1,6 @@
 -- Two lines with the same tokens, whatever blanks and comments stand between and after them (tokens' Spacing.antt), read alike: labels with
 -- the same bytes, the same statement and cells, the same failure.
+use Rattle.expressions.specs.Worths.{Worth}
 use Prim.Native.Nat.{ℕ}
 use Prim.Native.Char.{code}
 use mathlib.Core.Bool.{Bool, true, false, cond, ◌&&◌, false≢true}

@@ -21,7 +21,7 @@ use Rattle.values.specs.declared.Name.{Name}
 use Rattle.values.proofs.Within.{LabelWithin}
 use Rattle.codes.specs.Limits.{deepest}
 use Rattle.expressions.specs.Trees.{Tree, depth}
-use Rattle.expressions.specs.Worths.{worth_of}
+use Rattle.expressions.specs.Worths.{Worth, worth_of}
 use Rattle.expressions.specs.Reading as Expressions
 use Rattle.operands.specs.Checks.{fits, operand_at, word_of, given}
 use Rattle.operands.specs.Checks as Operands

@@ -1,4 +1,5 @@
 -- The reading of a line as a function of its tokens; `proofs/Top.antt` shows that it is the rule's reading, judged.
+use Rattle.expressions.specs.Worths.{Worth}
 use Rattle.std.specs.Prelude.{ℕ, Bool, true, false, cond, ◌&&◌, List, [], ◌∷◌, eqb, ℤ}
 use Prim.Native.Char.{code}
 use Rattle.tokens.specs.Reading.{tokens_from}

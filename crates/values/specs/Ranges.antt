@@ -1,6 +1,6 @@
 -- "A decimal displacement (indexed or `$`) lies in -32768..32767; a hex one .. is a bit pattern" (01, "Rules of writing"). The range
 -- of any other number, and the cell that keeps it, are `numerals`' kept_of.
-use Rattle.std.specs.Prelude.{cond, pos}
+use Rattle.std.specs.Prelude.{ℕ, cond, pos}
 use Rattle.std.specs.Int.Signed.{le_z}
 use Rattle.numerals.specs.Numbers.{value_of, kept_of}
 use Rattle.std.specs.Prelude.{Option, None}

@@ -33,6 +33,7 @@ work_in s starts keys vs ms cells row aways c uses =
 abbrev pub Says : Verdict → Work → ℕ → (Counters → ℕ → Work) → Result Lines Stopped → Type 0
 Says v w n of (Ok r) = (v ≡ passes) × (of r.counters r.uses ≡ w) × (r.last.0 ≡ n) × Fair r.counters × (r.uses < most_uses)
 Says v w n of (Err (InLine f l)) = v ≡ refused (f on l.0)
+Says v w n of (Err (Late l)) = ⊥
 
 -- of a source's lines up to END, over so many cells
 abbrev pub SaysLines : ℕ → List ℕ → (Counters → ℕ → Work) → Result Lines Stopped → Type 0

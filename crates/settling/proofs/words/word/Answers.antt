@@ -2,7 +2,7 @@
 use mathlib.Core.Path.{subst}
 use Rattle.sources.specs.Uses.{value_of}
 use Rattle.labels.specs.Inner.Labels.{window, labels_in}
-use Rattle.std.proofs.Common.{Result}
+use Rattle.std.proofs.Common.{ℕ, Result}
 use Rattle.settling.specs.Inner.Settling.{Finds}
 use Rattle.settling.proofs.Laws.{tells_none, tells-plain, tells-far}
 use Rattle.settling.proofs.words.word.Goals as goal
