@@ -6,7 +6,7 @@ use Rattle.numerals.specs.Digits.{worth, ends_word}
 use Rattle.numerals.specs.Numbers.{base, prefix, cut, kept_of}
 use Rattle.numerals.specs.declared.Radix.{Radix}
 use Rattle.numerals.specs.declared.Radix.TheVariants.{Decimal, Hexadecimal}
-use Rattle.std.specs.Prelude.{Option, Some, None}
+use Rattle.std.specs.Prelude.{Option, Some, None, unwrap_or}
 use Rattle.numerals.specs.declared.Cursor.{Cursor}
 use Rattle.numerals.specs.declared.Read.{Read}
 use Rattle.numerals.specs.declared.Numeral.{Numeral}
@@ -42,8 +42,7 @@ number_at s at = cond (eqb (get_or s at 0) (code "-")) (digits_at true Decimal s
 
 -- "A line that isn't wholly a number as above reads 0" (ININT)
 abbrev pub or_zero : Option ℕ → ℕ
-or_zero (Some x) = x
-or_zero None = 0
+or_zero o = unwrap_or o 0
 
 abbrev pub wholly : ℕ → Option (Read Numeral) → ℕ
 wholly end (Some r) = cond (eqb r.next.at end) (or_zero (kept_of r.value)) 0
