@@ -41,9 +41,9 @@ fn spanning(kind: Kind, start: usize, directly: bool, end: usize) -> Token
     ensures { result ≡ token kind start directly end }
 {
     Token {
-        kind: kind,
-        start: start,
-        directly: directly,
+        kind,
+        start,
+        directly,
         next: Cursor { at: end },
     }
 }
@@ -52,11 +52,8 @@ fn spanning(kind: Kind, start: usize, directly: bool, end: usize) -> Token
 fn number_token(s: &[u8], at: usize, directly: bool) -> Token
     ensures { result ≡ number_token (unsigned_at s.now at) at directly }
 {
-    match (Cursor { at: at }).unsigned(s) {
-        Some(Read { value: n, next: c }) => {
-            let radix = n.radix;
-            spanning(Kind::Number(n.magnitude, radix), at, directly, c.at)
-        }
+    match (Cursor { at }).unsigned(s) {
+        Some(Read { value: n, next }) => spanning(Kind::Number(n.magnitude, n.radix), at, directly, next.at),
         None => spanning(Kind::Stray, at, directly, at),
     }
 }
