@@ -1,12 +1,11 @@
 -- The operations: what each gives of its operands x (op1) and y (op2), cells both (01, "What a step does"; manual 5.3 to 5.5).
-use Rattle.std.specs.Prelude.{ℕ, ◌+◌, ◌-◌, ◌*◌, ◌%◌, Bool, false, cond, ◌&&◌, ltb, eqb, ◌+ℤ◌, ◌-ℤ◌, ◌*ℤ◌}
+use Rattle.std.specs.Prelude.{ℕ, ◌+◌, ◌-◌, ◌*◌, ◌%◌, Bool, false, cond, ◌&&◌, ltb, eqb, ◌+ℤ◌, ◌-ℤ◌, ◌*ℤ◌, Option, Some, None}
 use Rattle.std.specs.Int.Bits.{bit_and, bit_or, bit_xor}
 use Rattle.std.specs.Int.Signed.{quot_z, rem_z}
 use Rattle.codes.specs.Stops.{none, zero_divisor}
 use Rattle.arithmetic.specs.Cells.{signed, cell, leaves16}
 use Rattle.arithmetic.specs.Flags.{flags_of}
 use Rattle.arithmetic.specs.declared.Outcome.{Outcome}
-use Rattle.std.specs.Prelude.{Option, Some, None}
 
 -- a result with the flags that it gives
 unfoldable pub outcome : ℕ → Bool → Bool → Outcome

@@ -1,10 +1,9 @@
 -- What an effect leaves in registers and memory (01, "What a step does").
-use Rattle.std.specs.Prelude.{ℕ, ◌+◌, ◌*◌, ◌/◌, ◌%◌, cond, List, eqb, get_or, set}
+use Rattle.std.specs.Prelude.{ℕ, ◌+◌, ◌*◌, ◌/◌, ◌%◌, cond, List, eqb, get_or, set, Option, Some, None}
 use Rattle.codes.specs.Flags.{for_h}
 use Rattle.codes.specs.Registers.{SR, SP, PC}
 use Rattle.effects.specs.declared.Place.{Place}
 use Rattle.effects.specs.declared.Place.TheVariants.{Nowhere, Constant, InRegister, InCell}
-use Rattle.std.specs.Prelude.{Option, Some, None}
 use Rattle.effects.specs.declared.Effect.{Effect}
 
 -- "Writing SR sets bits 0..4 and keeps H"

@@ -1,18 +1,15 @@
 -- The effect of each opcode, as a value (01, "What a step does"; manual 5, in its order). `x` and `y` are the source values
 -- of the first and the second operand.
-use Rattle.std.specs.Prelude.{ℕ, ◌%◌, Bool, true, cond, ◌&&◌, ◌||◌, List, ltb, eqb, length, get_or}
+use Rattle.std.specs.Prelude.{ℕ, ◌%◌, Bool, true, cond, ◌&&◌, ◌||◌, List, ltb, eqb, length, get_or, Option, Some, None}
 use Rattle.codes.specs.Stops.{memory_end}
 use Rattle.codes.specs.Registers.{A, SR, SP, PC}
 use Rattle.isa.specs.Opcodes.{table}
 use Rattle.isa.specs.Operands.{is_target}
 use Rattle.isa.specs.declared.Instruction.{Instruction}
 use Rattle.isa.specs.declared.Opcode.{Opcode}
-use Rattle.isa.specs.declared.Opcode.TheVariants.{NOP, HALT, MOVE, PUSH, POP, ADD, SUB, MUL, DIV, MOD, INC, DEC, NEG, CMP, AND, OR, XOR, NOT}
-use Rattle.isa.specs.declared.Opcode.TheVariants.{BR, BZ, BNZ, BP, BNP, BN, BNN, BV, BNV, BC, BNC, BE, BO, CALL, RET}
-use Rattle.isa.specs.declared.Opcode.TheVariants.{INCHAR, ININT, INSTR, WRCHAR, WRINT, WRSTR}
+use Rattle.isa.specs.declared.Opcode.TheVariants.{NOP, HALT, MOVE, PUSH, POP, ADD, SUB, MUL, DIV, MOD, INC, DEC, NEG, CMP, AND, OR, XOR, NOT, BR, BZ, BNZ, BP, BNP, BN, BNN, BV, BNV, BC, BNC, BE, BO, CALL, RET, INCHAR, ININT, INSTR, WRCHAR, WRINT, WRSTR}
 use Rattle.arithmetic.specs.Operations as Op
 use Rattle.arithmetic.specs.declared.Outcome.{Outcome}
-use Rattle.std.specs.Prelude.{Option, Some, None}
 use Rattle.effects.specs.Places.{place_of, value_at, there_in, target_of}
 use Rattle.effects.specs.Conditions.{taken_bz, taken_bnz, taken_bp, taken_bnp, taken_bn, taken_bnn, taken_bv, taken_bnv, taken_bc, taken_bnc, taken_be, taken_bo}
 use Rattle.effects.specs.Stack.{push_cell, pushed_sp, pop_cell, popped_sp}

@@ -30,8 +30,7 @@ use Rattle.machine.specs.States.{State, state, machine, register}
 use Rattle.machine.specs.Stops.{answer, good_loan}
 use Rattle.machine.specs.Steps.{stop_at, does, performed, step_of}
 use Rattle.machine.proofs.Orders.{step-decoded}
-use Rattle.machine.proofs.Kept.{two, one, alone, Reads, value_in, place_in, There, completes}
-use Rattle.machine.proofs.Kept.{does-nowhere, does-cell, does-register, does_SR, writes-register, same_SP, kept-past}
+use Rattle.machine.proofs.Kept.{two, one, alone, Reads, value_in, place_in, There, completes, does-nowhere, does-cell, does-register, does_SR, writes-register, same_SP, kept-past}
 
 module _ (input : List ℕ) (s : State) (good : good_loan input s ≡ true) (runs : s.registers.stop ≡ 0) (next : ℕ) where
   abbrev r : List ℕ

@@ -1,11 +1,10 @@
 -- One step (01, "What a step does"). What each opcode does is `byOpcode` of `effects`, one line for each.
-use Rattle.std.specs.Prelude.{ℕ, ◌+◌, ◌%◌, true, false, cond, List, ltb, eqb, length, set}
+use Rattle.std.specs.Prelude.{ℕ, ◌+◌, ◌%◌, true, false, cond, List, ltb, eqb, length, set, None, Result, Ok, Err}
 use Rattle.codes.specs.Flags.{for_h}
 use Rattle.codes.specs.Registers.{SR, SP, PC}
 use Rattle.codes.specs.Stops.{none, halted, memory_end, bad_loan}
 use Rattle.isa.specs.Decoding.{decode_of, stop_of}
 use Rattle.isa.specs.declared.Decoded.{Decoded}
-use Rattle.std.specs.Prelude.{None, Result, Ok, Err}
 use Rattle.isa.specs.declared.Undecoded.{Undecoded}
 use Rattle.isa.specs.declared.Undecoded.TheVariants.{NoOpcode, NoMode, NoRegister, PastMemory}
 use Rattle.effects.specs.Effects.{writes, perform_of}

@@ -195,17 +195,17 @@ module _ (input : List ℕ) (at : ℕ) where
 
 -- what a value taken keeps: its position moves past what was taken, and it is a cell
 pub record Takes (input : List ℕ) (at : ℕ) (its : Result Taken ℕ) : Type 0 where
-  pub moves : {v p : ℕ} → its ≡ Ok (record { value = v; after = p }) → Past at input p × (v < 65536)
+  pub moves : {t : Taken} → its ≡ Ok t → Past at input t.after × (t.value < 65536)
   pub refuses : {k : ℕ} → its ≡ Err k → k ≡ input_end
 
 module _ (input : List ℕ) (at : ℕ) where
-  takes-cond : (v p : ℕ) → (at < length input → Past at input p × (v < 65536)) → Takes input at (cond (ltb at (length input)) (Ok (record { value = v; after = p })) (Err input_end))
-  takes-cond v p h = go (ltb at (length input)) (λ e. h (ltb-true _ _ e))
+  takes-cond : (t : Taken) → (at < length input → Past at input t.after × (t.value < 65536)) → Takes input at (cond (ltb at (length input)) (Ok t) (Err input_end))
+  takes-cond t h = go (ltb at (length input)) (λ e. h (ltb-true _ _ e))
     where
-      go : (b : Bool) → (b ≡ true → Past at input p × (v < 65536)) → Takes input at (cond b (Ok (record { value = v; after = p })) (Err input_end))
+      go : (b : Bool) → (b ≡ true → Past at input t.after × (t.value < 65536)) → Takes input at (cond b (Ok t) (Err input_end))
       go true g =
           record {
-            moves = λ {v = w} {p = q} e. let f : v ≡ w = cc in let z : p ≡ q = cc in omega (arith, g refl);
+            moves = λ {t = u} e. let f : t ≡ u = cc in subst (λ (v : Taken). Past at input v.after × (v.value < 65536)) f (g refl);
             refuses = λ e. let z : ◌≡◌ {A = ℕ} 0 1 = cc in absurd (omega arith);
           }
       go false g =
@@ -216,8 +216,8 @@ module _ (input : List ℕ) (at : ℕ) where
 
   pub INCHAR-takes : Below 256 input → Takes input at (byte_taken input at)
   unfolding byte_taken
-  INCHAR-takes h = takes-cond (get_or input at 0) (at + 1) (λ l. omega (arith, h at))
+  INCHAR-takes h = takes-cond (record { value = get_or input at 0; after = at + 1 }) (λ l. omega (arith, h at))
 
   pub ININT-takes : Takes input at (number_taken input at)
   unfolding number_taken
-  ININT-takes = takes-cond (line_number (line_at input at)) (after_line input at) (λ l. (line-past input at l, line_number_cell (line_at input at)))
+  ININT-takes = takes-cond (record { value = line_number (line_at input at); after = after_line input at }) (λ l. (line-past input at l, line_number_cell (line_at input at)))

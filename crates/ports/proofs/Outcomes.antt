@@ -64,7 +64,7 @@ module _ (input : List ℕ) (at : ℕ) where
   unfolding byte_taken
   byte-none h = rw (le-ltb _ _ h)
 
-  pub byte-taken : at < length input → byte_taken input at ≡ Ok (record { value = (get_or input at 0); after = (at + 1) })
+  pub byte-taken : at < length input → byte_taken input at ≡ Ok (record { value = get_or input at 0; after = at + 1 })
   unfolding byte_taken
   byte-taken h = rw (lt-ltb _ _ h)
 
@@ -72,7 +72,7 @@ module _ (input : List ℕ) (at : ℕ) where
   unfolding number_taken
   number-none h = rw (le-ltb _ _ h)
 
-  pub number-taken : at < length input → number_taken input at ≡ Ok (record { value = (line_number (line_at input at)); after = (after_line input at) })
+  pub number-taken : at < length input → number_taken input at ≡ Ok (record { value = line_number (line_at input at); after = after_line input at })
   unfolding number_taken
   number-taken h = rw (lt-ltb _ _ h)
 

@@ -62,7 +62,7 @@ module _ (input : List ℕ) (at : ℕ) where
           last (up_to-free LF (drop at input)) (sym (up_to-whole LF (drop at input) l)) refl
 
   module _ {line : List ℕ} {next : ℕ} (here : at < length input) (its : Line input at line next) where
-    pub line_read : number_taken input at ≡ Ok (record { value = (line_number line); after = next })
+    pub line_read : number_taken input at ≡ Ok (record { value = line_number line; after = next })
     line_read = rw (← (line_is its).0, ← (line_is its).1) (number-taken input at here)
 
     pub line_stored : (m : List ℕ) (to : ℕ) → to + length line + 1 ≤ length m → string_taken m to input at ≡ passed (Ok next) (overwrite m to (line ++ (0 ∷ [])))

@@ -63,11 +63,11 @@ one-string m from s t = sym (rules.string_is m from s).1 ∙ (rules.string_is m 
 
 module _ (input : List ℕ) (at : ℕ) where
   -- "INCHAR takes a byte".
-  pub INCHAR-takes : at < length input → byte_taken input at ≡ Ok (record { value = (get_or input at 0); after = (at + 1) })
+  pub INCHAR-takes : at < length input → byte_taken input at ≡ Ok (record { value = get_or input at 0; after = at + 1 })
   INCHAR-takes = byte-taken input at
 
   -- "ININT .. a line, its LF taken": it reads the number of the line at the position and stops after the line.
-  pub ININT-reads : {line : List ℕ} {next : ℕ} → at < length input → Line input at line next → number_taken input at ≡ Ok (record { value = (line_number line); after = next })
+  pub ININT-reads : {line : List ℕ} {next : ℕ} → at < length input → Line input at line next → number_taken input at ≡ Ok (record { value = line_number line; after = next })
   ININT-reads = rules.line_read input at
 
   -- "INSTR a line, its LF taken, not kept; INSTR adds a 0 cell": where they fit, the line's bytes and a 0 stand in memory from the

@@ -1,13 +1,12 @@
 -- What is taken of the input (01: "INCHAR takes a byte; ININT and INSTR a line, its LF taken, not kept; INSTR adds a 0 cell.
 -- A line that isn't wholly a number as above reads 0.").
-use Rattle.std.specs.Prelude.{ℕ, ◌+◌, cond, List, [], ◌∷◌, ◌++◌, ltb, leb, length, get_or, drop}
+use Rattle.std.specs.Prelude.{ℕ, ◌+◌, cond, List, [], ◌∷◌, ◌++◌, ltb, leb, length, get_or, drop, Result, Ok, Err}
 use Rattle.codes.specs.Stops.{memory_end, input_end}
 use Rattle.numerals.specs.Bytes.{LF}
 use Rattle.numerals.specs.Reading.{line_number}
 use Rattle.ports.specs.Overwriting.{overwrite}
 use Rattle.ports.specs.Searching.{up_to}
 use Rattle.ports.specs.declared.Taken.{Taken}
-use Rattle.std.specs.Prelude.{Result, Ok, Err}
 
 -- the line that a text begins with: up to its LF, or all of it ("the last may lack it")
 abbrev pub line_of : List ℕ → List ℕ
@@ -23,11 +22,11 @@ after_line input at =
 
 -- INCHAR: the byte at the position
 unfoldable pub byte_taken : List ℕ → ℕ → Result Taken ℕ
-byte_taken input at = cond (ltb at (length input)) (Ok (record { value = (get_or input at 0); after = (at + 1) })) (Err input_end)
+byte_taken input at = cond (ltb at (length input)) (Ok (record { value = get_or input at 0; after = at + 1 })) (Err input_end)
 
 -- ININT: the number that the line is
 unfoldable pub number_taken : List ℕ → ℕ → Result Taken ℕ
-number_taken input at = cond (ltb at (length input)) (Ok (record { value = (line_number (line_at input at)); after = (after_line input at) })) (Err input_end)
+number_taken input at = cond (ltb at (length input)) (Ok (record { value = line_number (line_at input at); after = after_line input at })) (Err input_end)
 
 -- a row of cells or bytes, and the position after, or the stop
 pub record Passed : Type 0 where

@@ -1,12 +1,11 @@
 -- What is written to the output (01: "WRINT writes signed decimal. WRCHAR and WRSTR write low bytes; WRSTR ends before the
 -- first cell that is 0."; "output room short" is 9, "a string passing M is 5 and comes before 9").
-use Rattle.std.specs.Prelude.{ℕ, ◌+◌, ◌%◌, Bool, cond, List, [], ◌∷◌, map, leb, length, drop}
+use Rattle.std.specs.Prelude.{ℕ, ◌+◌, ◌%◌, Bool, cond, List, [], ◌∷◌, map, leb, length, drop, Ok, Err}
 use Rattle.numerals.specs.Writing.{signed_decimal}
 use Rattle.ports.specs.Overwriting.{overwrite}
 use Rattle.ports.specs.Searching.{up_to, meets}
 use Rattle.codes.specs.Stops.{memory_end, output_short}
 use Rattle.ports.specs.Input.{Passed, passed}
-use Rattle.std.specs.Prelude.{Ok, Err}
 
 -- a text written at the position, if there is room for all of it
 unfoldable pub text_put : List ℕ → ℕ → List ℕ → Passed

@@ -5,11 +5,10 @@ use Prim.Native.Nat.{ℕ, ◌<◌}
 use lib.Dec.{ltb, T}
 use lib.Ieee.Fits.{and_l, and_r}
 use lib.ListN.{get_or, drop}
-use Rattle.numerals.specs.Bytes.{rank}
+use Rattle.numerals.specs.Bytes.{rank, LF}
 use Rattle.numerals.specs.Digits.{all_below, worth}
 use Rattle.numerals.specs.Writing.{decimal}
 use Rattle.numerals.proofs.Top.{decimal-right}
-use Rattle.numerals.specs.Bytes.{LF}
 use Rattle.texts.specs.Lines.{text_of}
 
 behind : (a x y : List ℕ) → a ++ x ≡ a ++ y → x ≡ y

@@ -1,8 +1,7 @@
 -- What writing a record answers, and what it leaves in the room.
-use Rattle.std.specs.Prelude.{ℕ, Bool, cond, ◌&&◌, List, ◌++◌, leb, length, drop}
+use Rattle.std.specs.Prelude.{ℕ, Bool, cond, ◌&&◌, List, ◌++◌, leb, length, drop, Result, Ok, Err}
 use Rattle.machine.specs.declared.Ran.{Ran}
 use Rattle.record.specs.Record.{record_text}
-use Rattle.std.specs.Prelude.{Result, Ok, Err}
 use Rattle.record.specs.declared.NotRecorded.{NotRecorded}
 use Rattle.record.specs.declared.NotRecorded.TheVariants.{TooFar, RoomShort}
 
