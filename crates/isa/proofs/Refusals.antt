@@ -10,6 +10,7 @@ use lib.Dec.{leb}
 use lib.ListN.{length, get_or, get_or-eq_default}
 use Rattle.isa.specs.declared.Instruction.{Instruction}
 use Rattle.std.proofs.Common.{Ok, Err}
+use Rattle.isa.specs.declared.Undecoded.{Undecoded}
 use Rattle.isa.specs.declared.Undecoded.TheVariants.{NoOpcode, NoMode, NoRegister, PastMemory}
 use Rattle.isa.specs.declared.Opcode.{Opcode}
 use Rattle.isa.specs.Opcodes.{table, opcodes, opcode_of}
@@ -36,6 +37,11 @@ module _ (m : List ℕ) (at w : ℕ) where
   unfolding decode_word first_word_read
   word-whole h t s = rw (lt-leb 2496 w h, t, le-ltb (length m) (at + size_in w) s)
 
+  -- a first word that is refused decides by itself
+  pub word-refused : (why : Undecoded) → first_word_read w ≡ Err why → decode_word m at w ≡ Err why
+  unfolding decode_word
+  word-refused why e = rw e
+
 module _ (m : List ℕ) (at : ℕ) where
   -- "PC≥M (5)"
   pub past_the_end : length m ≤ at → decode_of m at ≡ Err PastMemory
@@ -54,6 +60,10 @@ module _ (m : List ℕ) (at : ℕ) where
   pub at_a_word : decode_of m at ≡ decode_word m at (get_or m at 0)
   unfolding decode_of
   at_a_word = at_a_word_by (leb (length m) at) refl
+
+  -- a first word that is refused decides by itself
+  pub refused_word : (why : Undecoded) → first_word_read (get_or m at 0) ≡ Err why → decode_of m at ≡ Err why
+  refused_word why e = at_a_word ∙ word-refused m at (get_or m at 0) why e
 
   -- "A first word of 2,496 or more is 2"
   pub no-opcode : 2496 ≤ get_or m at 0 → decode_of m at ≡ Err NoOpcode

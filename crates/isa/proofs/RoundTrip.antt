@@ -195,6 +195,11 @@ first_word_passed m at w true modes o i next e = let none = ap stop_of e in absu
 first_word_passed m at w false true o i next e = (refl, refl, e)
 first_word_passed m at w false false o i next e = let none = ap stop_of e in absurd (omega arith)
 
+-- one reply has one instruction and one address
+read-both : (i j : Instruction) (n k : Address) → ◌≡◌ {A = Result Decoded Undecoded} (Ok (record { instruction = i; next = n })) (Ok (record { instruction = j; next = k }))
+    → (i ≡ j) × (n ≡ k)
+read-both i j n k e = let d : ◌≡◌ {A = Decoded} (record { instruction = i; next = n }) (record { instruction = j; next = k }) = cc in (ap (λ (x : Decoded). x.instruction) d, ap (λ (x : Decoded). x.next) d)
+
 decodes : (m : List ℕ) (at : ℕ) (i : Instruction) (next : Address) → decode_of m at ≡ Ok (record { instruction = i; next = next }) → Decodes m at i next
 unfolding decode_of decode_word first_word_read read_unless
 decodes m at i next e =
@@ -205,16 +210,15 @@ decodes m at i next e =
     let p2 = first_word_passed m at w (leb 2496 w) (modes_allowed w) (opcode_in w) i next p1.1 in
     let p4 = passed (ltb (length m) n) (Err PastMemory) (read_unless x n) i next (omega arith) p2.2 in
     let p5 = held (registers_there x) (Err NoRegister) (Ok (record { instruction = x; next = (record { 0 = n }) })) i next (omega arith) p4.1 in
-    let read = p5.1 in
-    let to : ◌≡◌ {A = Address} (record { 0 = n }) next = cc in
+    let both = read-both x i (record { 0 = n }) next p5.1 in
     record {
       there = leb-false (length m) at p1.0;
       below = leb-false 2496 w p2.0;
       modes = p2.1;
       whole_words = ltb-false (length m) n p4.0;
       registers = p5.0;
-      its = cc;
-      after = ap (λ (a : Address). a.0) to;
+      its = both.0;
+      after = ap (λ (a : Address). a.0) both.1;
     }
 
 drop-one : (m : List ℕ) (at : ℕ) → at < length m → drop at m ≡ get_or m at 0 ∷ drop (at + 1) m

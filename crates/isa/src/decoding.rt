@@ -7,27 +7,20 @@ use super::operands::{operand, permits, register_there};
 use super::{Address, Decoded, Instruction, Opcode, Undecoded};
 
 // What a first word alone decides: the one place that a table of 2,496 entries may replace.
+#[tactic(auto, unfolding(crate::specs::Decoding::first_word_read, crate::specs::Decoding::modes_allowed, crate::specs::Opcodes::found_of))]
 pub fn first_word(w: u16) -> Result<Opcode, Undecoded>
     ensures { result ≡ first_word_read w }
 {
-    match opcode(w / 64) {
-        Some(op) => {
-            let its = row(op);
-            let k1 = its.first;
-            let k2 = its.second;
-            if !permits(k1, w / 8 % 8) {
-                return Err(Undecoded::NoMode);
-            }
-            if !permits(k2, w % 8) {
-                return Err(Undecoded::NoMode);
-            }
-            Ok(op)
-        }
-        None => Err(Undecoded::NoOpcode),
+    let op = opcode(w / 64).ok_or(Undecoded::NoOpcode)?;
+    let its = row(op);
+    if !permits(its.first, w / 8 % 8) || !permits(its.second, w % 8) {
+        return Err(Undecoded::NoMode);
     }
+    Ok(op)
 }
 
 // How many words the instruction of a first word has.
+#[tactic(auto, unfolding(crate::specs::Decoding::size_in))]
 pub fn size_of(w: u16) -> usize
     ensures { result ≡ size_in w }
 {
@@ -42,18 +35,14 @@ pub fn size_of(w: u16) -> usize
 pub fn word_at(m: &[u16], at: usize) -> u16
     ensures { result ≡ get_or m.now at 0 }
 {
-    if at < m.len() { m[at] } else { 0 }
+    m.get(at).copied().unwrap_or(0)
 }
 
+#[tactic(auto, unfolding(crate::specs::Decoding::read_unless))]
 fn read_unless(i: Instruction, after: usize) -> Result<Decoded, Undecoded>
     ensures { result ≡ read_unless i after }
 {
-    let a = i.first;
-    let b = i.second;
-    if !register_there(a) {
-        return Err(Undecoded::NoRegister);
-    }
-    if !register_there(b) {
+    if !register_there(i.first) || !register_there(i.second) {
         return Err(Undecoded::NoRegister);
     }
     Ok(Decoded { instruction: i, next: Address(after) })
@@ -69,18 +58,9 @@ fn operands_at(m: &[u16], at: usize, w: u16, op: Opcode) -> Result<Decoded, Unde
         return Err(Undecoded::PastMemory);
     }
     let its = row(op);
-    let k1 = its.first;
-    let k2 = its.second;
-    let a = operand(k1, w / 8 % 8, word_at(m, at + 1));
-    let b = operand(k2, w % 8, word_at(m, at + 2));
-    read_unless(
-        Instruction {
-            op: op,
-            first: a,
-            second: b,
-        },
-        at + size,
-    )
+    let first = operand(its.first, w / 8 % 8, word_at(m, at + 1));
+    let second = operand(its.second, w % 8, word_at(m, at + 2));
+    read_unless(Instruction { op, first, second }, at + size)
 }
 
 // The instruction that stands at an address of a list of words.
@@ -92,6 +72,5 @@ pub fn decode(m: &[u16], at: Address) -> Result<Decoded, Undecoded>
         return Err(Undecoded::PastMemory);
     }
     let w = m[from];
-    let op = first_word(w)?;
-    operands_at(m, from, w, op)
+    operands_at(m, from, w, first_word(w)?)
 }

@@ -1,20 +1,17 @@
 // The table of the 39 opcodes (specs/Opcodes.antt), as two matches: opcode to row, number to opcode.
 ghost use Rattle.std.specs.Prelude.{◌≡◌};
-ghost use Rattle.isa.specs.Opcodes.{opcode_of, row_of, found_of, count_of, present_in};
+ghost use Rattle.isa.specs.Opcodes.{row_of, found_of, count_of, present_in};
 
 use super::{Kinds, Opcode, Row};
 
 fn made(number: u16, first: Kinds, second: Kinds) -> Row
     ensures { result ≡ record { number = number; first = first; second = second } }
 {
-    Row {
-        number: number,
-        first: first,
-        second: second,
-    }
+    Row { number, first, second }
 }
 
 // An opcode's number and what its operands may be.
+#[tactic(auto, unfolding(crate::specs::Opcodes::table))]
 pub fn row(op: Opcode) -> Row
     ensures { result ≡ row_of op }
 {
@@ -67,72 +64,61 @@ pub fn row(op: Opcode) -> Row
 }
 
 // The opcode of a number.
+#[tactic(auto, unfolding(crate::specs::Opcodes::found_of, crate::specs::Opcodes::opcode_of, crate::specs::Opcodes::opcodes))]
 pub fn opcode(number: u16) -> Option<Opcode>
     ensures { result ≡ found_of number }
 {
-    if number < 39 {
-        Some(numbered(number))
-    } else {
-        None
-    }
-}
-
-// The opcode of a number below 39.
-fn numbered(number: u16) -> Opcode
-    ensures { result ≡ opcode_of number }
-{
     match number {
-        0 => Opcode::NOP,
-        1 => Opcode::HALT,
-        2 => Opcode::MOVE,
-        3 => Opcode::PUSH,
-        4 => Opcode::POP,
-        5 => Opcode::ADD,
-        6 => Opcode::SUB,
-        7 => Opcode::MUL,
-        8 => Opcode::DIV,
-        9 => Opcode::MOD,
-        10 => Opcode::INC,
-        11 => Opcode::DEC,
-        12 => Opcode::NEG,
-        13 => Opcode::CMP,
-        14 => Opcode::AND,
-        15 => Opcode::OR,
-        16 => Opcode::XOR,
-        17 => Opcode::NOT,
-        18 => Opcode::BR,
-        19 => Opcode::BZ,
-        20 => Opcode::BNZ,
-        21 => Opcode::BP,
-        22 => Opcode::BNP,
-        23 => Opcode::BN,
-        24 => Opcode::BNN,
-        25 => Opcode::BV,
-        26 => Opcode::BNV,
-        27 => Opcode::BC,
-        28 => Opcode::BNC,
-        29 => Opcode::BE,
-        30 => Opcode::BO,
-        31 => Opcode::CALL,
-        32 => Opcode::RET,
-        33 => Opcode::INCHAR,
-        34 => Opcode::ININT,
-        35 => Opcode::INSTR,
-        36 => Opcode::WRCHAR,
-        37 => Opcode::WRINT,
-        38 => Opcode::WRSTR,
-        _ => Opcode::NOP,
+        0 => Some(Opcode::NOP),
+        1 => Some(Opcode::HALT),
+        2 => Some(Opcode::MOVE),
+        3 => Some(Opcode::PUSH),
+        4 => Some(Opcode::POP),
+        5 => Some(Opcode::ADD),
+        6 => Some(Opcode::SUB),
+        7 => Some(Opcode::MUL),
+        8 => Some(Opcode::DIV),
+        9 => Some(Opcode::MOD),
+        10 => Some(Opcode::INC),
+        11 => Some(Opcode::DEC),
+        12 => Some(Opcode::NEG),
+        13 => Some(Opcode::CMP),
+        14 => Some(Opcode::AND),
+        15 => Some(Opcode::OR),
+        16 => Some(Opcode::XOR),
+        17 => Some(Opcode::NOT),
+        18 => Some(Opcode::BR),
+        19 => Some(Opcode::BZ),
+        20 => Some(Opcode::BNZ),
+        21 => Some(Opcode::BP),
+        22 => Some(Opcode::BNP),
+        23 => Some(Opcode::BN),
+        24 => Some(Opcode::BNN),
+        25 => Some(Opcode::BV),
+        26 => Some(Opcode::BNV),
+        27 => Some(Opcode::BC),
+        28 => Some(Opcode::BNC),
+        29 => Some(Opcode::BE),
+        30 => Some(Opcode::BO),
+        31 => Some(Opcode::CALL),
+        32 => Some(Opcode::RET),
+        33 => Some(Opcode::INCHAR),
+        34 => Some(Opcode::ININT),
+        35 => Some(Opcode::INSTR),
+        36 => Some(Opcode::WRCHAR),
+        37 => Some(Opcode::WRINT),
+        38 => Some(Opcode::WRSTR),
+        _ => None,
     }
 }
 
 // How many operands an opcode has.
+#[tactic(auto, unfolding(crate::specs::Opcodes::count_of))]
 pub fn operand_count(op: Opcode) -> usize
     ensures { result ≡ count_of op }
 {
     let its = row(op);
-    let first = its.first;
-    let second = its.second;
-    present(first) + present(second)
+    present(its.first) + present(its.second)
 }
 
 fn present(k: Kinds) -> usize
@@ -140,9 +126,6 @@ fn present(k: Kinds) -> usize
 {
     match k {
         Kinds::Nothing => 0,
-        Kinds::Source => 1,
-        Kinds::Destination => 1,
-        Kinds::Place => 1,
-        Kinds::Target => 1,
+        _ => 1,
     }
 }

@@ -43,8 +43,7 @@ pub(crate) fn register_there(o: Operand) -> bool
     ensures { result ≡ register_there o }
 {
     match o {
-        Operand::Register(r) => r < REGISTER_COUNT,
-        Operand::Indirect(r) => r < REGISTER_COUNT,
+        Operand::Register(r) | Operand::Indirect(r) => r < REGISTER_COUNT,
         _ => true,
     }
 }
@@ -55,54 +54,25 @@ pub(crate) fn permits(k: Kinds, mode: u16) -> bool
 {
     match k {
         Kinds::Nothing => mode == 0,
-        Kinds::Source => from_to(1, mode),
-        Kinds::Destination => from_to(2, mode),
-        Kinds::Place => from_to(3, mode),
-        Kinds::Target => target_mode(mode),
-    }
-}
-
-fn from_to(least: u16, mode: u16) -> bool
-    ensures { result ≡ (leb least mode && leb mode 7) }
-{
-    if mode < least {
-        return false;
-    }
-    mode <= 7
-}
-
-fn target_mode(mode: u16) -> bool
-    ensures { result ≡ one_of (3 ∷ 4 ∷ 7 ∷ []) mode }
-{
-    match mode {
-        3 => true,
-        4 => true,
-        7 => true,
-        _ => false,
+        Kinds::Source => 1 <= mode && mode <= 7,
+        Kinds::Destination => 2 <= mode && mode <= 7,
+        Kinds::Place => 3 <= mode && mode <= 7,
+        Kinds::Target => matches!(mode, 3 | 4 | 7),
     }
 }
 
 // Whether an operand is of a kind that is allowed: `$v` for branches and CALL alone, `#v[.SP]` for the others.
+#[tactic(auto, unfolding(crate::specs::Operands::allows))]
 pub fn allowed_kind(k: Kinds, o: Operand) -> bool
     ensures { result ≡ allows k o }
 {
-    if permits(k, mode(o)) {
-        seventh_fits(k, o)
-    } else {
-        false
-    }
+    permits(k, mode(o)) && seventh_fits(k, o)
 }
 
 pub fn is_target(k: Kinds) -> bool
     ensures { result ≡ is_target k }
 {
-    match k {
-        Kinds::Nothing => false,
-        Kinds::Source => false,
-        Kinds::Destination => false,
-        Kinds::Place => false,
-        Kinds::Target => true,
-    }
+    matches!(k, Kinds::Target)
 }
 
 fn seventh_fits(k: Kinds, o: Operand) -> bool
@@ -116,6 +86,7 @@ fn seventh_fits(k: Kinds, o: Operand) -> bool
 }
 
 // The operand of a mode and its word; what is no mode counts as mode 7.
+#[tactic(auto, unfolding(crate::specs::Operands::operand_of))]
 pub(crate) fn operand(k: Kinds, mode: u16, word: u16) -> Operand
     ensures { result ≡ operand_of k mode word }
 {

@@ -21,8 +21,8 @@ returns c =
       instruction_by c.args.w _ _ c.args.op known.2,
       ← c.word_at.ensures,
       ← c.word_at-2.ensures,
-      ← (rw row at c.operand-a.ensures),
-      ← (rw row at c.operand-b.ensures),
+      ← (rw row at c.operand-first.ensures),
+      ← (rw row at c.operand-second.ensures),
       ← size,
     )
     c.read_unless.ensures

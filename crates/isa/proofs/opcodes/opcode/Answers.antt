@@ -1,12 +1,9 @@
--- The test on the way is the one of the definition. Assumes nothing.
-use borrow.Author.Tests.{lt-ltb, le-ltb}
+-- Each arm's opcode is the one at its number, by computing; past the list there is none. Assumes nothing.
+use native.Mathlib.Omega.{arith}
+use borrow.Author.Tests.{le-ltb}
 use Rattle.isa.specs.Opcodes.{found_of}
 use Rattle.isa.proofs.opcodes.opcode.Goals as goal
 
-pub returns-then-number-lt39 : goal.returns-then-number-lt39
+pub returns-in_default : goal.returns-in_default
 unfolding found_of
-returns-then-number-lt39 c = rw (lt-ltb _ 39 c.if-number-lt39.true, ← c.numbered.ensures)
-
-pub returns-else-number-lt39 : goal.returns-else-number-lt39
-unfolding found_of
-returns-else-number-lt39 c = rw (le-ltb _ 39 c.if-number-lt39.false)
+returns-in_default c = rw (le-ltb c.args.number 39 (omega arith))
