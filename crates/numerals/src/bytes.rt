@@ -49,12 +49,10 @@ fn rank_of_capital(b: u8) -> u8
 pub fn run_end(s: &[u8], from: usize, below: u8) -> usize
     ensures { result ≡ from + run below (drop from s.now) }
 {
-    let mut i = from;
-    while i < s.len() {
+    for i in from..s.len() {
         if rank_of(s[i]) >= below {
             return i;
         }
-        i += 1;
     }
-    i
+    from.max(s.len())
 }

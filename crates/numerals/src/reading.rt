@@ -11,7 +11,7 @@ use super::{Cursor, Numeral, Radix, Read};
 fn byte_at(s: &[u8], at: usize) -> u8
     ensures { result ≡ get_or s.now at 0 }
 {
-    if at < s.len() { s[at] } else { 0 }
+    s.get(at).copied().unwrap_or(0)
 }
 
 fn base_of(k: Radix) -> u8
@@ -29,13 +29,8 @@ fn worth_of(s: &[u8], from: usize, end: usize, radix: u8) -> u32
     ensures { result ≡ cut (worth radix (take (end - from) (drop from s.now))) }
 {
     let mut v: u32 = 0;
-    let mut i = from;
-    while i < end {
-        v = v * (radix as u32) + rank_of(s[i]) as u32;
-        if 65536 < v {
-            v = 65536;
-        }
-        i += 1;
+    for i in from..end {
+        v = (v * u32::from(radix) + u32::from(rank_of(s[i]))).min(65536);
     }
     v
 }
@@ -53,11 +48,14 @@ fn digits_at(s: &[u8], from: usize, k: Radix, negative: bool) -> Option<Read<Num
         return None;
     }
     let magnitude = worth_of(s, from, end, radix);
-    Some(Read { value: Numeral {
+    Some(Read {
+        value: Numeral {
             negative,
             radix: k,
             magnitude,
-        }, next: Cursor { at: end } })
+        },
+        next: Cursor { at: end },
+    })
 }
 
 fn radix_at(s: &[u8], at: usize) -> Radix

@@ -9,23 +9,15 @@ pub fn unsigned_decimal(n: u32) -> Written
     ensures { result ≡ written (decimal n) }
 {
     let mut bytes = [0u8; 11];
-    let mut i: usize = 11;
     let mut left = n;
-    while 1 < i {
-        i -= 1;
-        bytes[i] = 48 + (left % 10) as u8;
+    for i in (1..11).rev() {
+        bytes[i] = b'0' + (left % 10) as u8;
         if left < 10 {
-            return Written {
-                bytes: bytes,
-                start: i,
-            };
+            return Written { bytes, start: i };
         }
-        left = left / 10;
+        left /= 10;
     }
-    Written {
-        bytes: bytes,
-        start: i,
-    }
+    Written { bytes, start: 1 }
 }
 
 // The decimal of a cell read as two's complement.
@@ -37,7 +29,7 @@ pub fn signed_decimal(x: u16) -> Written
     }
     let mut its = unsigned_decimal(65536 - x as u32);
     let start = its.start - 1;
-    its.bytes[start] = 45;
+    its.bytes[start] = b'-';
     its.start = start;
     its
 }

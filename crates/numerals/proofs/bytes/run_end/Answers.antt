@@ -16,4 +16,4 @@ loop-i-preserved c =
 pub returns : goal.returns
 returns c =
     let a = c.args in
-    omega (arith, run_end a.below a.s.now c.loop-i.i (omega arith))
+    grind (arith, run_end a.below a.s.now c.loop-i.i, run_end a.below a.s.now a.from, c.loop-i.auto.i-end)

@@ -1,12 +1,9 @@
 -- The loop keeps its place plus the run that is left there: that is where the run ends.
-use Prim.Native.Nat.{◌+◌, ◌-◌}
+use Prim.Native.Nat.{◌+◌}
 use mathlib.Core.Path.{◌≡◌}
-use lib.ListN.{length, drop}
+use lib.ListN.{drop}
 use Rattle.numerals.specs.Reading.{run}
 use Rattle.numerals.proofs.bytes.run_end.Given as goal
 
 abbrev pub invariant-loop-i : goal.invariant-loop-i
 invariant-loop-i l = l.from + run l.below (drop l.from l.s) ≡ l.i + run l.below (drop l.i l.s)
-
-abbrev pub decreases-loop-i : goal.decreases-loop-i
-decreases-loop-i l = length l.s - l.i

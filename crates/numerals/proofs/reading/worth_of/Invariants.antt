@@ -8,6 +8,3 @@ use Rattle.numerals.proofs.reading.worth_of.Given as goal
 abbrev pub invariant-loop-i : goal.invariant-loop-i
 invariant-loop-i l = (l.i ≤ l.end) × (l.v ≤ 65536)
     × (cut_after l.radix 0 (take (l.end - l.from) (drop l.from l.s)) ≡ cut_after l.radix l.v (take (l.end - l.i) (drop l.i l.s)))
-
-abbrev pub decreases-loop-i : goal.decreases-loop-i
-decreases-loop-i l = l.end - l.i
