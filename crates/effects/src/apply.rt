@@ -45,11 +45,8 @@ fn put_result(r: &mut [u16; 16], to: Place, v: u16)
 fn put_flags(r: &mut [u16; 16], flags: Option<usize>)
     ensures { r.new ≡ flagged r.old flags }
 {
-    match flags {
-        Some(f) => {
-            r[SR] = kept_h(r[SR], f);
-        }
-        None => {}
+    if let Some(f) = flags {
+        r[SR] = kept_h(r[SR], f);
     }
 }
 

@@ -1,5 +1,5 @@
 -- Flags that become something go to SR through `kept_h`.
 use Rattle.effects.proofs.apply.put_flags.Goals as goal
 
-pub returns-in-Become : goal.returns-in-Become
-returns-in-Become c = rw (c.in-Become.is, ← c.kept_h.ensures)
+pub returns-in-Some : goal.returns-in-Some
+returns-in-Some c = rw (c.in-Some.is, ← c.kept_h.ensures)
