@@ -1,5 +1,5 @@
 -- What a step of a machine that runs comes to: it completes, or it is a refusal. Assumes nothing.
-use mathlib.Core.Path.{◌≡◌, refl}
+use mathlib.Core.Path.{◌≡◌, refl, ap}
 use mathlib.Core.Bool.{Bool, true, false, cond}
 use mathlib.Core.Logic.{◌⊎◌, inl, inr}
 use mathlib.Core.List.{List}
@@ -96,19 +96,22 @@ stop_performing k (inr e) = stop-below k (omega arith) (omega arith)
 
 -- INCHAR takes a byte that is there, whatever stands there
 module _ (input : List ℕ) (at : ℕ) where
-  byte-within : (v t : ℕ) → byte_taken input at ≡ Ok (record { value = v; after = t }) → t ≤ length input
+  abbrev byte_there : Taken
+  byte_there = record { value = get_or input at 0; after = at + 1 }
+
+  byte-within : (t : Taken) → byte_taken input at ≡ Ok t → t.after ≤ length input
   unfolding byte_taken
-  byte-within v t = go (ltb at (length input)) refl
+  byte-within t = go (ltb at (length input)) refl
     where
-      go : (b : Bool) → ltb at (length input) ≡ b → cond b (Ok (record { value = (get_or input at 0); after = (at + 1) })) (Err 8) ≡ Ok (record { value = v; after = t }) → t ≤ length input
-      go true e q = let l : at < length input = ltb-true at (length input) e in let z : at + 1 ≡ t = cc in omega arith
+      go : (b : Bool) → ltb at (length input) ≡ b → cond {A = Result Taken ℕ} b (Ok byte_there) (Err 8) ≡ Ok t → t.after ≤ length input
+      go true e q = let l : at < length input = ltb-true at (length input) e in let z : byte_there ≡ t = cc in omega (arith, ap (λ (u : Taken). u.after) z)
       go false e q = let z : ◌≡◌ {A = ℕ} 0 1 = cc in absurd (omega arith)
 
   byte-ends : (k : ℕ) → byte_taken input at ≡ Err k → k ≡ 8
   unfolding byte_taken
   byte-ends k = go (ltb at (length input))
     where
-      go : (b : Bool) → cond b (Ok (record { value = (get_or input at 0); after = (at + 1) })) (Err 8) ≡ Err k → k ≡ 8
+      go : (b : Bool) → cond {A = Result Taken ℕ} b (Ok byte_there) (Err 8) ≡ Err k → k ≡ 8
       go true q = cc
       go false q = cc
 
@@ -198,10 +201,10 @@ module _ (input : List ℕ) (s : State) (good : Good input s) where
 
   -- ---- input and output
 
-  takes-outcome : (next : ℕ) (place : Place) (got : Result Taken ℕ) → ((v t : ℕ) → got ≡ Ok (record { value = v; after = t }) → t ≤ length input) → ((k : ℕ) → got ≡ Err k → k ≡ 8) →
+  takes-outcome : (next : ℕ) (place : Place) (got : Result Taken ℕ) → ((t : Taken) → got ≡ Ok t → t.after ≤ length input) → ((k : ℕ) → got ≡ Err k → k ≡ 8) →
       Outcome input s (takes s next place got)
   takes-outcome next place (Ok r) h n =
-      inl (does-completes (writes next (register s SP) place r.value None) r.after s.registers.written (h r.value r.after refl) good.written)
+      inl (does-completes (writes next (register s SP) place r.value None) r.after s.registers.written (h r refl) good.written)
   takes-outcome next place (Err k) h n = refuses_by input s k (stop_eight k (n k refl))
 
   module _ (next : ℕ) (its : Passed) where
@@ -226,7 +229,7 @@ module _ (input : List ℕ) (s : State) (good : Good input s) where
       takes-outcome next place (byte_taken input s.registers.taken) (byte-within input s.registers.taken) (byte-ends input s.registers.taken)
   asks-outcome next (TakeNumber place) =
       let its = ININT-takes input s.registers.taken in
-      takes-outcome next place (number_taken input s.registers.taken) (λ v t e. (its.moves e).0.1) (λ k e. its.refuses e)
+      takes-outcome next place (number_taken input s.registers.taken) (λ t e. (its.moves e).0.1) (λ k e. its.refuses e)
   asks-outcome next (TakeString to) =
       fills-outcome next (string_taken s.memory to input s.registers.taken) (INSTR-keeps input s.registers.taken s.memory to)
   asks-outcome next (PutByte x) =

@@ -3,10 +3,9 @@ use Rattle.std.specs.Prelude.{ℕ, ◌+◌, ◌%◌, true, false, cond, List, lt
 use Rattle.codes.specs.Flags.{for_h}
 use Rattle.codes.specs.Registers.{SR, SP, PC}
 use Rattle.codes.specs.Stops.{none, halted, memory_end, bad_loan}
-use Rattle.isa.specs.Decoding.{decode_of, stop_of}
+use Rattle.isa.specs.Decoding.{decode_of, undecoded_stop}
 use Rattle.isa.specs.declared.Decoded.{Decoded}
 use Rattle.isa.specs.declared.Undecoded.{Undecoded}
-use Rattle.isa.specs.declared.Undecoded.TheVariants.{NoOpcode, NoMode, NoRegister, PastMemory}
 use Rattle.effects.specs.Effects.{writes, perform_of}
 use Rattle.effects.specs.Applied.{registers_after, memory_after}
 use Rattle.effects.specs.declared.Effect.{Effect}
@@ -81,10 +80,7 @@ performed input s next (Stops k) = refuses s k
 -- "PC≥M (5), 2, 3, missing words (5), 4", and then what the instruction does
 abbrev pub decoded : List ℕ → State → Result Decoded Undecoded → Answer
 decoded input s (Ok r) = performed input s r.next.0 (perform_of s.registers.r s.memory r.next.0 r.instruction)
-decoded input s (Err NoOpcode) = refuses s (stop_of (Err NoOpcode))
-decoded input s (Err NoMode) = refuses s (stop_of (Err NoMode))
-decoded input s (Err NoRegister) = refuses s (stop_of (Err NoRegister))
-decoded input s (Err PastMemory) = refuses s (stop_of (Err PastMemory))
+decoded input s (Err why) = refuses s (undecoded_stop why)
 
 -- a step of a machine that runs, on a good loan
 unfoldable pub runs_on : List ℕ → State → Answer

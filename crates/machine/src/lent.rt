@@ -80,9 +80,9 @@ fn take(
         ≡ takes (running r.old m.old out taken written) next place got }
 {
     match got {
-        Ok(Taken { value: v, after }) => {
-            let e = effects::shapes::written(next, r[SP], place, v, None);
-            do_effect(r, m, e, after, written)
+        Ok(t) => {
+            let e = effects::shapes::written(next, r[SP], place, t.value, None);
+            do_effect(r, m, e, t.after, written)
         }
         Err(k) => answered(k, false, taken, written),
     }
