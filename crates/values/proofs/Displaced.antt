@@ -7,12 +7,12 @@ use native.Mathlib.Omega.{arith}
 use lib.Dec.{ltb}
 use lib.IntN.{pos, neg_ℤ}
 use lib.Signed.{le_z}
-use borrow.Author.Tests.{le-leb, lt-leb, lt-ltb, le-ltb}
+use borrow.Author.Tests.{le-leb, lt-ltb, le-ltb}
 use Rattle.numerals.specs.Numbers.{kept_of}
 use Rattle.std.proofs.Common.{Option, Some, None}
 use Rattle.numerals.specs.declared.Numeral.{Numeral}
 use Rattle.numerals.specs.declared.Radix.{Radix}
-use Rattle.numerals.specs.declared.Radix.TheVariants.{Decimal, Hexadecimal}
+use Rattle.numerals.specs.declared.Radix.TheVariants.{Decimal}
 use Rattle.numerals.proofs.Cells.{kept-plus, kept-minus}
 use Rattle.values.specs.Values.{numeral}
 use Rattle.values.specs.Ranges.{displacement_in, displacement_of}
@@ -37,14 +37,6 @@ module _ (n : Numeral) where
   pub displaced-plus : n.radix ≡ Decimal → n.negative ≡ false → n.magnitude ≤ 32767 → displacement_of n ≡ kept_of n
   unfolding signed
   displaced-plus r e h = decimal r ∙ ap signed e ∙ rw (le-leb n.magnitude 32767 h)
-
-  pub displaced_high : n.radix ≡ Decimal → n.negative ≡ false → 32767 < n.magnitude → displacement_of n ≡ None
-  unfolding signed
-  displaced_high r e h = decimal r ∙ ap signed e ∙ rw (lt-leb n.magnitude 32767 h)
-
-  pub displaced-hexadecimal : n.radix ≡ Hexadecimal → displacement_of n ≡ kept_of n
-  unfolding displacement_of
-  displaced-hexadecimal r = ap (λ (k : Radix). displacement_in k n) r
 
 -- ---- a cell, written as a decimal
 

@@ -5,20 +5,12 @@ ghost use Rattle.values.specs.Ranges.{displacement_of};
 use numerals::reading::kept;
 use numerals::{Numeral, Radix};
 
+#[tactic(auto, unfolding(crate::specs::Ranges::displacement_of))]
 pub fn displacement(n: Numeral) -> Option<u16>
     ensures { result ≡ displacement_of n }
 {
-    let radix = n.radix;
-    match radix {
-        Radix::Decimal => {
-            if n.negative {
-                return kept(n);
-            }
-            if 32767 < n.magnitude {
-                return None;
-            }
-            kept(n)
-        }
-        Radix::Hexadecimal => kept(n),
+    match n.radix {
+        Radix::Decimal if !n.negative && 32767 < n.magnitude => None,
+        _ => kept(n),
     }
 }

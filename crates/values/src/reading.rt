@@ -8,60 +8,53 @@ use tokens::Kind;
 use tokens::tokens::next_token;
 
 // The number whose `-` ends at a cursor: decimal digits follow directly.
+#[tactic(auto, unfolding(crate::specs::Reading::minus_at))]
 fn below_zero(s: &[u8], from: Cursor) -> Option<Read<Value>>
     ensures { result ≡ minus_at s.now from.at }
 {
     let t = next_token(s, from);
-    let kind = t.kind;
-    let directly = t.directly;
-    let next = t.next;
-    match kind {
-        Kind::End => None,
-        Kind::Stray => None,
-        Kind::Word => None,
-        Kind::Number(v, radix) => match radix {
-            Radix::Decimal => {
-                if directly {
-                    return Some(Read { value: Value::Number(Numeral {
-                            negative: true,
-                            radix: Radix::Decimal,
-                            magnitude: v,
-                        }), next });
-                }
-                None
-            }
-            Radix::Hexadecimal => None,
-        },
-        Kind::Text => None,
-        Kind::Mark(_) => None,
+    match t.kind {
+        Kind::Number(magnitude, Radix::Decimal) if t.directly => {
+            let number = Numeral {
+                negative: true,
+                radix: Radix::Decimal,
+                magnitude,
+            };
+            Some(Read {
+                value: Value::Number(number),
+                next: t.next,
+            })
+        }
+        _ => None,
     }
 }
 
+#[tactic(auto, unfolding(crate::specs::Reading::value_at))]
 pub fn value(s: &[u8], from: Cursor) -> Option<Read<Value>>
     ensures { result ≡ value_at s.now from.at }
 {
     let t = next_token(s, from);
-    let kind = t.kind;
-    let start = t.start;
     let next = t.next;
-    match kind {
-        Kind::End => None,
-        Kind::Stray => None,
-        Kind::Word => Some(Read { value: Value::Label(Name {
-                start,
+    match t.kind {
+        Kind::Word => Some(Read {
+            value: Value::Label(Name {
+                start: t.start,
                 end: next.at,
-            }), next }),
-        Kind::Number(v, radix) => Some(Read { value: Value::Number(Numeral {
+            }),
+            next,
+        }),
+        Kind::Number(magnitude, radix) => {
+            let number = Numeral {
                 negative: false,
                 radix,
-                magnitude: v,
-            }), next }),
-        Kind::Text => None,
-        Kind::Mark(b) => {
-            if b == b'-' {
-                return below_zero(s, next);
-            }
-            None
+                magnitude,
+            };
+            Some(Read {
+                value: Value::Number(number),
+                next,
+            })
         }
+        Kind::Mark(b'-') => below_zero(s, next),
+        _ => None,
     }
 }
