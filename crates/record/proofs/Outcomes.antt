@@ -12,6 +12,8 @@ use Rattle.ports.specs.Overwriting.{overwrite}
 use Rattle.ports.specs.Input.{Passed, passed}
 use Rattle.ports.specs.Output.{text_put}
 use Rattle.std.proofs.Common.{Result, Ok, Err}
+use Rattle.std.specs.Result.{MatchResult, IsErrAnd, OkIff}
+use Rattle.record.specs.declared.NotRecorded.{NotRecorded}
 use Rattle.record.specs.declared.NotRecorded.TheVariants.{TooFar, RoomShort}
 use Rattle.texts.specs.Inner.Wrote.{Wrote}
 use Rattle.texts.proofs.Rooms.{overwrite-front}
@@ -50,11 +52,29 @@ module _ (xs text room : List ℕ) {mid after : List ℕ} {end : ℕ} {r : Resul
       ap (λ (p : Passed). answered p.moved p.row) (put ∙ ap (text_put room 0) (head-text xs text w.0))
       ∙ put-fitted text room
 
-  pub put-done : {n : ℕ} → r ≡ Ok n → leaves (Ok n) after ≡ fitted text room
-  put-done e = ap (λ (m : Result ℕ ℕ). answered m after) (sym e) ∙ fits_so
+  -- each stop of putting it is that the room is short
+  pub put-answers : {P : ℕ → NotRecorded → Type 0} (q : Result ℕ NotRecorded) → ((k : ℕ) (why : NotRecorded) → P k why → why ≡ RoomShort)
+      → MatchResult r (λ (n : ℕ). q ≡ Ok n) (λ (k : ℕ). IsErrAnd q (P k)) → leaves q after ≡ fitted text room
+  put-answers {P = P} q short m = go r m ∙ fits_so
+    where
+      go : (s : Result ℕ ℕ) → MatchResult s (λ (n : ℕ). q ≡ Ok n) (λ (k : ℕ). IsErrAnd q (P k)) → leaves q after ≡ answered s after
+      go (Ok n) e = ap (λ (a : Result ℕ NotRecorded). leaves a after) e
+      go (Err k) e = told q e
+        where
+          told : (a : Result ℕ NotRecorded) → IsErrAnd a (P k) → leaves a after ≡ leaves (Err RoomShort) after
+          told (Ok n) z = absurd z
+          told (Err why) p = ap (λ (w : NotRecorded). leaves (Err w) after) (short k why p)
 
-  pub put-short : {k : ℕ} → r ≡ Err k → leaves (Err RoomShort) after ≡ fitted text room
-  put-short e = ap (λ (m : Result ℕ ℕ). answered m after) (sym e) ∙ fits_so
+-- a position as 32 bits, or that it is too far
+abbrev pub Told : ℕ → Result ℕ NotRecorded → Type 0
+Told x q = MatchResult q (λ (n : ℕ). (x ≤ largest_position) × (n ≡ x)) (λ (why : NotRecorded). (largest_position < x) × (why ≡ TooFar))
+
+pub position-told : {E : Type 0} {P : E → NotRecorded → Type 0} (x : ℕ) (r : Result ℕ E) (q : Result ℕ NotRecorded)
+    → ((e : E) (why : NotRecorded) → P e why → why ≡ TooFar) → OkIff r (x < 4294967296) x
+    → MatchResult r (λ (n : ℕ). q ≡ Ok n) (λ (e : E). IsErrAnd q (P e)) → Told x q
+position-told x (Ok n) q far f m = rw m (omega (arith, f.0), f.1)
+position-told x (Err e) (Ok n) far f m = absurd m
+position-told x (Err e) (Err why) far f m = (omega (arith, f), far e why m)
 
 module _ (ran : Ran) (room : List ℕ) where
   pub recorded-taken : largest_position < ran.registers.taken → leaves (Err TooFar) room ≡ recorded ran room

@@ -14,8 +14,7 @@ refusal_of (Err RoomShort) = 2
 -- the length of the record that an answer tells
 abbrev pub length_of : Result ℕ NotRecorded → ℕ
 length_of (Ok n) = n
-length_of (Err TooFar) = 0
-length_of (Err RoomShort) = 0
+length_of (Err why) = 0
 
 -- a refusal or 0, the record's length, and the room after
 pub record Leaves : Type 0 where

@@ -21,10 +21,7 @@ fn put(room: &mut [u8], stop: u8, steps: u32, r: [u16; 16], taken: u32, written:
 {
     let mut text = longest();
     let end = write(&mut text, stop, steps, r, taken, written);
-    match put_text(room, 0, &text[..end]) {
-        Ok(n) => Ok(n),
-        Err(k) => Err(NotRecorded::RoomShort),
-    }
+    put_text(room, 0, &text[..end]).map_err(|_| NotRecorded::RoomShort)
 }
 
 // Writes a run's record at the head of a room, if there is place for all of it.
@@ -32,19 +29,7 @@ pub fn write_record(ran: Ran, room: &mut [u8]) -> Result<usize, NotRecorded>
     ensures { leaves result room.new ≡ recorded ran room.old }
 {
     let registers = ran.registers;
-    if 4294967295 < registers.taken {
-        return Err(NotRecorded::TooFar);
-    }
-    if 4294967295 < registers.written {
-        return Err(NotRecorded::TooFar);
-    }
-    let r = registers.r;
-    put(
-        room,
-        ran.stop,
-        ran.count,
-        r,
-        registers.taken as u32,
-        registers.written as u32,
-    )
+    let taken = u32::try_from(registers.taken).map_err(|_| NotRecorded::TooFar)?;
+    let written = u32::try_from(registers.written).map_err(|_| NotRecorded::TooFar)?;
+    put(room, ran.stop, ran.count, registers.r, taken, written)
 }
