@@ -1,12 +1,13 @@
 -- Laws of `overwrite`: what a loop that writes element by element from a place on leaves is one overwriting.
-use mathlib.Core.Path.{◌≡◌, refl, sym, ◌∙◌}
+use mathlib.Core.Path.{◌≡◌, refl, sym, ap, ◌∙◌}
 use mathlib.Core.List.{List, [], ◌∷◌, ◌++◌, append_assoc}
 use Prim.Native.Nat.{ℕ, suc, ◌+◌, ◌≤◌, ◌<◌}
 use native.Mathlib.Nat.{add-zero}
 use native.Mathlib.Numerals.{add-one}
 use native.Mathlib.Omega.{arith}
 use lib.ListN.{length, get_or, set, take, drop, length-append, length-take, length-drop, take-append-drop, length-set}
-use lib.Seq.{set_at, take_at, drop_at, drop-cons, take-suc, length-take-le}
+use borrow.Rule.Slice.PartMut.{put_mid}
+use lib.Seq.{set_at, take_at, drop_at, drop-cons, take-suc, length-take-le, drop-drop}
 use Rattle.ports.specs.Overwriting.{overwrite}
 
 pub overwrite-none : (xs : List ℕ) (at : ℕ) → overwrite xs at [] ≡ xs
@@ -47,6 +48,11 @@ module _ (xs : List ℕ) (at : ℕ) (ys : List ℕ) where
 
 pub overwrite-one : (xs : List ℕ) (at y : ℕ) → at < length xs → set xs at y ≡ overwrite xs at (y ∷ [])
 overwrite-one xs at y h = rw (overwrite-none xs at, add-zero at) at (overwrite-more xs at [] y (omega arith))
+
+-- a part of a row written over as a whole
+pub overwrite_part : (xs : List ℕ) (at k : ℕ) (ys zs : List ℕ) → zs ≡ ys → k ≡ length ys → put_mid at k xs zs ≡ overwrite xs at ys
+unfolding overwrite
+overwrite_part xs at k ys zs e l = rw (e, l) (ap (λ (r : List ℕ). take at xs ++ (ys ++ r)) (drop-drop (length ys) at xs))
 
 -- a row `ms` after k turns of a loop that copies the first n elements of `s` to a place of `xs`
 abbrev pub Copied : List ℕ → ℕ → List ℕ → ℕ → List ℕ → ℕ → Type 0

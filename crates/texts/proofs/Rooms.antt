@@ -12,10 +12,6 @@ use Rattle.numerals.specs.declared.Written.{Written}
 use Rattle.numerals.proofs.Decimals.{signed-length}
 use Rattle.numerals.proofs.Filling.{written-text, length-decimal}
 use Rattle.ports.specs.Overwriting.{overwrite}
-use Rattle.ports.specs.Input.{Passed, passed}
-use Rattle.ports.specs.Output.{text_put}
-use Rattle.std.proofs.Common.{Result}
-use Rattle.ports.proofs.Outcomes.{text-put}
 use Rattle.ports.proofs.Overwrites.{overwrite-none, overwrite-length, overwrite-more, overwrite-after}
 use Rattle.texts.specs.Lines.{text_of}
 use Rattle.texts.specs.Inner.Wrote.{Wrote}
@@ -62,11 +58,6 @@ pub wrote_length : (xs : List ℕ) (at : ℕ) (ys : List ℕ) {after : List ℕ}
     → length after ≡ length xs
 wrote_length xs at ys h w = ap length w.1 ∙ overwrite-length xs at ys h
 
--- a text that fits is written
-put-row : (xs : List ℕ) (at : ℕ) (ys : List ℕ) {after : List ℕ} {r : Result ℕ ℕ} → at + length ys ≤ length xs → passed r after ≡ text_put xs at ys
-    → after ≡ overwrite xs at ys
-put-row xs at ys h e = ap (λ (p : Passed). p.row) (e ∙ text-put xs at ys (le-leb (at + length ys) (length xs) h))
-
 -- nothing written
 pub wrote_none : (xs : List ℕ) (at : ℕ) → Wrote xs at [] xs at
 wrote_none xs at = (omega arith, sym (overwrite-none xs at))
@@ -85,20 +76,20 @@ module _ {w : Written} (body : List ℕ) (short : length body ≤ 11) (is : w �
   unfolding written
   text-start = let e : w.start ≡ 11 - length body = ap (λ (v : Written). v.start) is in omega (arith, e, short)
 
-  text-taken : take (11 - w.start) (drop w.start w.bytes) ≡ body
-  text-taken = rw text-places.0 (take_all (11 - w.start) body (omega (arith, text-start.1)))
+  text-taken : take (length w.bytes - w.start) (drop w.start w.bytes) ≡ body
+  text-taken = rw text-places.0 (take_all (length w.bytes - w.start) body (omega (arith, text-start.1, text-places.1)))
 
-  -- a text and this one behind it
-  wrote_behind : (xs : List ℕ) (at : ℕ) (text : List ℕ) {mid after : List ℕ} {r s : Result ℕ ℕ} → at + length (text ++ body) ≤ length xs
-      → passed r mid ≡ text_put xs at text
-      → passed s after ≡ text_put mid (at + length text) (take (11 - w.start) (drop w.start w.bytes))
-      → Wrote xs at (text ++ body) after (at + length text + (11 - w.start))
-  wrote_behind xs at text {mid} fits e f =
-      let l = length-append text body in
-      let front : mid ≡ overwrite xs at text = put-row xs at text (omega arith) e in
-      let long : length mid ≡ length xs = ap length front ∙ overwrite-length xs at text (omega arith) in
-      let back = put-row mid (at + length text) body (omega arith) (rw text-taken at f) in
-      wrote_on xs at text body (omega arith) (refl, front) (omega (arith, text-start.1), back)
+  module _ (xs : List ℕ) (at : ℕ) (text : List ℕ) {mid : List ℕ} {k : ℕ} (fits : at + length (text ++ body) ≤ length xs) (e : Wrote xs at text mid k) where
+    -- there is room for it behind a text
+    room_behind : k + length (take (length w.bytes - w.start) (drop w.start w.bytes)) ≤ length mid
+    room_behind =
+        let l = length-append text body in
+        rw text-taken (omega (arith, e.0, wrote_length xs at text (omega arith) e))
+
+    -- a text and this one behind it
+    wrote_behind : {after : List ℕ} {next : ℕ} → Wrote mid k (take (length w.bytes - w.start) (drop w.start w.bytes)) after next
+        → Wrote xs at (text ++ body) after next
+    wrote_behind f = let l = length-append text body in wrote_on xs at text body (omega arith) e (rw text-taken at f)
 
 -- the same of a decimal's places
 module _ {w : Written} (n : ℕ) (is : w ≡ written (decimal n)) where
@@ -111,12 +102,14 @@ module _ {w : Written} (n : ℕ) (is : w ≡ written (decimal n)) where
   pub places-start : (w.start ≤ 11) × (11 - w.start ≡ length (decimal n))
   places-start = text-start (decimal n) short-decimal is
 
-  -- a text and a decimal behind it
-  pub wrote_field : (xs : List ℕ) (at : ℕ) (text : List ℕ) {mid after : List ℕ} {r s : Result ℕ ℕ} → at + length (text ++ decimal n) ≤ length xs
-      → passed r mid ≡ text_put xs at text
-      → passed s after ≡ text_put mid (at + length text) (take (11 - w.start) (drop w.start w.bytes))
-      → Wrote xs at (text ++ decimal n) after (at + length text + (11 - w.start))
-  wrote_field = wrote_behind (decimal n) short-decimal is
+  module _ (xs : List ℕ) (at : ℕ) (text : List ℕ) {mid : List ℕ} {k : ℕ} (fits : at + length (text ++ decimal n) ≤ length xs) (e : Wrote xs at text mid k) where
+    pub room_for_decimal : k + length (take (length w.bytes - w.start) (drop w.start w.bytes)) ≤ length mid
+    room_for_decimal = room_behind (decimal n) short-decimal is xs at text fits e
+
+    -- a text and a decimal behind it
+    pub wrote_field : {after : List ℕ} {next : ℕ} → Wrote mid k (take (length w.bytes - w.start) (drop w.start w.bytes)) after next
+        → Wrote xs at (text ++ decimal n) after next
+    wrote_field = wrote_behind (decimal n) short-decimal is xs at text fits e
 
 -- and of a cell's signed decimal
 module _ {w : Written} (x : ℕ) (cell : x < 65536) (is : w ≡ written (signed_decimal x)) where
@@ -129,13 +122,10 @@ module _ {w : Written} (x : ℕ) (cell : x < 65536) (is : w ≡ written (signed_
   pub signed-start : (w.start ≤ 11) × (11 - w.start ≡ length (signed_decimal x))
   signed-start = text-start (signed_decimal x) short-signed is
 
-  pub wrote_signed : (xs : List ℕ) (at : ℕ) (text : List ℕ) {mid after : List ℕ} {r s : Result ℕ ℕ} → at + length (text ++ signed_decimal x) ≤ length xs
-      → passed r mid ≡ text_put xs at text
-      → passed s after ≡ text_put mid (at + length text) (take (11 - w.start) (drop w.start w.bytes))
-      → Wrote xs at (text ++ signed_decimal x) after (at + length text + (11 - w.start))
-  wrote_signed = wrote_behind (signed_decimal x) short-signed is
+  module _ (xs : List ℕ) (at : ℕ) (text : List ℕ) {mid : List ℕ} {k : ℕ} (fits : at + length (text ++ signed_decimal x) ≤ length xs) (e : Wrote xs at text mid k) where
+    pub room_for_signed : k + length (take (length w.bytes - w.start) (drop w.start w.bytes)) ≤ length mid
+    room_for_signed = room_behind (signed_decimal x) short-signed is xs at text fits e
 
--- a text alone
-pub wrote_text : (xs : List ℕ) (at : ℕ) (ys : List ℕ) {after : List ℕ} {r : Result ℕ ℕ} → at + length ys ≤ length xs → passed r after ≡ text_put xs at ys
-    → Wrote xs at ys after (at + length ys)
-wrote_text xs at ys h e = (refl, put-row xs at ys h e)
+    pub wrote_signed : {after : List ℕ} {next : ℕ} → Wrote mid k (take (length w.bytes - w.start) (drop w.start w.bytes)) after next
+        → Wrote xs at (text ++ signed_decimal x) after next
+    wrote_signed = wrote_behind (signed_decimal x) short-signed is xs at text fits e

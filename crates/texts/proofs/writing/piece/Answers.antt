@@ -1,7 +1,8 @@
--- A text that fits is written (`wrote-text`).
-use Rattle.texts.proofs.Rooms.{wrote_text}
+-- The part of the room that the text is copied to (`overwrite_part`).
+use mathlib.Core.Path.{refl}
+use native.Mathlib.Omega.{arith}
+use Rattle.ports.proofs.Overwrites.{overwrite_part}
 use Rattle.texts.proofs.writing.piece.Goals as goal
 
 pub returns : goal.returns
-returns c =
-    wrote_text c.args.room.now c.args.at c.args.text.now c.requires c.put_text.ensures
+returns c = (refl, overwrite_part c.args.room.now c.args.at _ c.args.text.now _ c.copy_from_slice.ensures.after (omega arith))
