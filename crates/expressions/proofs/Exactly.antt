@@ -1,5 +1,4 @@
 -- What is read exactly when: each answer from its tree, and back. Top.antt restates these.
-use Rattle.expressions.specs.Places.{Found}
 use Prim.Native.Nat.{ℕ, ◌≤◌, ◌<◌}
 use mathlib.Core.Bool.{Bool, true, false, cond}
 use mathlib.Core.List.{List, []}

@@ -15,7 +15,6 @@ use Rattle.expressions.specs.Worths.{Worth, within32, of_number, operation, oper
 use Rattle.expressions.specs.Reading.{mark_symbol, operand, operator, expression_read}
 use Rattle.expressions.specs.Places.{strip, evaluate, found_of, fault_in, deep_from, too_deep_in}
 use Rattle.std.proofs.Common.{Result, Ok, Err}
-use Rattle.expressions.specs.declared.Fault.{Fault}
 use Rattle.expressions.specs.declared.Fault.TheVariants.{OutOfRange, ByZero}
 use Rattle.expressions.specs.declared.Malformed.{Malformed}
 use Rattle.expressions.specs.declared.Malformed.TheVariants.{TooDeep, WrongForm}

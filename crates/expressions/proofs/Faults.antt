@@ -3,7 +3,7 @@ use Prim.Native.Nat.{ℕ, ◌≤◌, ◌<◌}
 use mathlib.Core.Bool.{Bool, true, false}
 use mathlib.Core.List.{List}
 use mathlib.Core.Logic.{◌↔◌}
-use mathlib.Core.Path.{◌≡◌, refl, sym, ap, subst, subst⁻¹, ◌∙◌}
+use mathlib.Core.Path.{◌≡◌, refl, sym, ap, ap₂, subst, subst⁻¹, ◌∙◌}
 use lib.Dec.{leb}
 use borrow.Author.Tests.{le-leb}
 use Rattle.codes.specs.Limits.{deepest}
@@ -14,6 +14,7 @@ use Rattle.expressions.specs.Reading.{Outcome, reads, wrong, expression_read, re
 use Rattle.expressions.specs.Places.{Placed, literal_at, node_at, enclosed_at, PlacedExpression, placed_read, strip, found_of, plain, fault_place, fault_in, Place, here, nowhere, deep_at, place_or, deep_judged, too_deep_in}
 use Rattle.expressions.specs.Places.{Found}
 use Rattle.std.proofs.Common.{Ok, Err}
+use Rattle.expressions.specs.declared.Fault.{Fault}
 use Rattle.expressions.specs.declared.Fault.TheVariants.{OutOfRange, ByZero}
 use Rattle.expressions.specs.declared.Malformed.TheVariants.{TooDeep}
 use Rattle.expressions.specs.Worths.{Worth}
@@ -26,15 +27,11 @@ use Rattle.expressions.proofs.Numbers.{number_6, number_7}
 use Rattle.expressions.proofs.Steps.{never}
 
 -- what is found, by its worth and its place
-found_6 : (f : Found) {at : ℕ} → plain f ≡ Err OutOfRange → fault_place f ≡ at → f ≡ Err (record { fault = OutOfRange; at = at })
-found_6 (Ok z) e g = never (cc)
-found_6 (Err (record { fault = OutOfRange; at = at })) e g = ap (Err (record { fault = OutOfRange; at = g }))
-found_6 (Err (record { fault = ByZero; at = at })) e g = never (cc)
-
-found_7 : (f : Found) {at : ℕ} → plain f ≡ Err ByZero → fault_place f ≡ at → f ≡ Err (record { fault = ByZero; at = at })
-found_7 (Ok z) e g = never (cc)
-found_7 (Err (record { fault = OutOfRange; at = at })) e g = never (cc)
-found_7 (Err (record { fault = ByZero; at = at })) e g = ap (Err (record { fault = ByZero; at = g }))
+found_with : (f : Found) {fault : Fault} {at : ℕ} → plain f ≡ Err fault → fault_place f ≡ at → f ≡ Err (record { fault = fault; at = at })
+found_with (Ok z) e g = never (cc)
+found_with (Err f) {fault} {at} e g =
+    let h : f.fault ≡ fault = cc in
+    ap₂ (λ (fault : Fault) (at : ℕ). Err (record { fault = fault; at = at })) h g
 
 module _ (ts : List Token) where
   -- ---- the tree with places
@@ -76,19 +73,22 @@ module _ (ts : List Token) where
 
   pub fault_6 : {at : ℕ} → ((refusal_of (expression_read ts) ≡ 6) × (fault_in ts ≡ at)) ↔ FoundIn (Err (record { fault = OutOfRange; at = at }))
   fault_6 =
-      (λ h. let f = found-tells (number_6 (expression_read ts) h.0) in subst FoundIn (found_6 f.0 f.2 (sym f.3 ∙ h.1)) f.1, λ h. let b = found_back h in (ap refusal_of b.0, b.1))
+      (λ h. let f = found-tells (number_6 (expression_read ts) h.0) in subst FoundIn (found_with f.0 f.2 (sym f.3 ∙ h.1)) f.1, λ h. let b = found_back h in (ap refusal_of b.0, b.1))
 
   pub fault_7 : {at : ℕ} → ((refusal_of (expression_read ts) ≡ 7) × (fault_in ts ≡ at)) ↔ FoundIn (Err (record { fault = ByZero; at = at }))
   fault_7 =
-      (λ h. let f = found-tells (number_7 (expression_read ts) h.0) in subst FoundIn (found_7 f.0 f.2 (sym f.3 ∙ h.1)) f.1, λ h. let b = found_back h in (ap refusal_of b.0, b.1))
+      (λ h. let f = found-tells (number_7 (expression_read ts) h.0) in subst FoundIn (found_with f.0 f.2 (sym f.3 ∙ h.1)) f.1, λ h. let b = found_back h in (ap refusal_of b.0, b.1))
 
   pub fault_none : (refusal_of (expression_read ts) ≡ 6 → ⊥) → (refusal_of (expression_read ts) ≡ 7 → ⊥) → fault_in ts ≡ 0
   fault_none n m = go (placed_read ts) refl
     where
       with-found : (f : Found) → expression_read ts ≡ Ok (plain f) → fault_in ts ≡ fault_place f → fault_in ts ≡ 0
       with-found (Ok z) e g = g
-      with-found (Err (record { fault = OutOfRange; at = at })) e g = absurd (n (ap refusal_of e))
-      with-found (Err (record { fault = ByZero; at = at })) e g = absurd (m (ap refusal_of e))
+      with-found (Err f) e g = by_fault f.fault e
+        where
+          by_fault : (fault : Fault) → expression_read ts ≡ Ok (Err fault) → fault_in ts ≡ 0
+          by_fault OutOfRange e = absurd (n (ap refusal_of e))
+          by_fault ByZero e = absurd (m (ap refusal_of e))
 
       with_placed : (p : Placed) → placed_read ts ≡ reads p → (q : Bool) → leb (depth (strip p)) deepest ≡ q → fault_in ts ≡ 0
       with_placed p e true d = let v = by_depth ts e d in with-found (found_of p) v.0 v.1

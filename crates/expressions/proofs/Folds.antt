@@ -1,7 +1,6 @@
 -- Read over two kinds of value, a row is worth the same where the one's parts are made into the other's: so the reader over trees with
 -- places tells what the readers over trees and over worths find, and read over any kind of value a row is worth what its one tree is.
 use Prim.Native.Nat.{ℕ, suc, max}
-use Rattle.numerals.specs.declared.Read.{Read}
 use mathlib.Core.List.{List, [], ◌∷◌}
 use mathlib.Core.Path.{◌≡◌, refl, ap, ap₂, ◌∙◌}
 use Rattle.tokens.specs.declared.Token.{Token}

@@ -17,7 +17,6 @@ use Rattle.expressions.specs.Grammar.{one_product, sum, one_factor, product, lit
 use Rattle.expressions.specs.Reading.{kind_symbol, Outcome, reads, wrong}
 use Rattle.expressions.specs.Places.{Placed, literal_at, node_at, enclosed_at, PlacedExpression, placed_read, Place, here, nowhere, leftmost, deep_from, deep_at, place_or, deep_judged, too_deep_in}
 use Rattle.expressions.specs.Inner.Scanning.{scan_step, level_on, right_form, level_at}
-use Rattle.expressions.specs.Inner.Parts.{is_end}
 use Rattle.expressions.specs.declared.Operation.{Operation}
 use Rattle.std.proofs.Common.{Option, Some, None}
 use Rattle.expressions.specs.declared.Scan.{Scan}
@@ -25,8 +24,8 @@ use Rattle.expressions.specs.declared.Symbol.{Symbol}
 use Rattle.expressions.specs.declared.Symbol.TheVariants as Y
 use Rattle.expressions.proofs.Meanings.{sum-mark, product-mark, open_mark, shut-mark}
 use Rattle.expressions.proofs.Readings.{sound}
-use Rattle.expressions.proofs.Rows.{Begins, ended, some, begins, row-ended}
-use Rattle.expressions.proofs.Scans.{is_read, form-read, ends_as, steps_as, on_by}
+use Rattle.expressions.proofs.Rows.{Begins, ended, some, begins}
+use Rattle.expressions.proofs.Scans.{is_read, form-read, steps_as, on_by}
 use Rattle.expressions.proofs.Steps.{never}
 
 -- ---- a token of the scan
@@ -130,32 +129,28 @@ module _ (ts : List Token) where
 
 -- ---- one token, as the code meets it
 
-module _ (s : List ℕ) (at : ℕ) (q : Bool) (h : ℕ) {t : Token} (k : t ≡ token_at s at) {e : Bool} (f : e ≡ is_end t.kind) where
-  pub level_ended : e ≡ true → level_at (tokens_from s at) q h ≡ 0
+module _ (s : List ℕ) (at : ℕ) (q : Bool) (h : ℕ) {t : Token} (k : t ≡ token_at s at) {y : Symbol} (l : y ≡ kind_symbol t.kind)
+    {r : Option Scan} (m : r ≡ scan_step y q h) where
+  pub level_wrong : r ≡ None → level_at (tokens_from s at) q h ≡ 0
   unfolding level_at
-  level_ended g = ap (λ (ts : List Token). level_at ts q h) (row-ended s at (ends_as s at q h k f ∙ g))
+  level_wrong n = go (begins s at)
+    where
+      go : {ts : List Token} → Begins s at ts → level_at ts q h ≡ 0
+      go (ended x y) = refl
+      go (some {ts} x) = ap (λ (r : Option Scan). level_on r (token_at s at).start (λ q h. level_at ts q h)) (steps_as s at q h k l m ∙ n)
 
-  module _ {y : Symbol} (l : y ≡ kind_symbol t.kind) {r : Option Scan} (m : r ≡ scan_step y q h) where
-    pub level_wrong : r ≡ None → level_at (tokens_from s at) q h ≡ 0
-    unfolding level_at
-    level_wrong n = go (begins s at)
-      where
-        go : {ts : List Token} → Begins s at ts → level_at ts q h ≡ 0
-        go (ended x y) = refl
-        go (some {ts} x) = ap (λ (r : Option Scan). level_on r (token_at s at).start (λ q h. level_at ts q h)) (steps_as s at q h k f l m ∙ n)
+  module _ {u : Scan} (n : r ≡ Some u) where
+    row_as : tokens_from s at ≡ token_at s at ∷ tokens_from s (token_at s at).next.at
+    row_as = (on_by s at q h k l m n).row
 
-    module _ {q' : Bool} {h' : ℕ} (n : r ≡ Some (record { operand = q'; height = h' })) where
-      row_as : tokens_from s at ≡ token_at s at ∷ tokens_from s (token_at s at).next.at
-      row_as = (on_by s at q h k f l m n).row
+    pub level-on : u.height ≤ deepest → level_at (tokens_from s at) q h ≡ level_at (tokens_from s t.next.at) u.operand u.height
+    level-on d =
+        ap (λ (ts : List Token). level_at ts q h) row_as
+        ∙ goes_on_lem (token_at s at) (tokens_from s (token_at s at).next.at) q h (steps_as s at q h k l m ∙ n) d
+        ∙ ap (λ (t : Token). level_at (tokens_from s t.next.at) u.operand u.height) (sym k)
 
-      pub level-on : h' ≤ deepest → level_at (tokens_from s at) q h ≡ level_at (tokens_from s t.next.at) q' h'
-      level-on d =
-          ap (λ (ts : List Token). level_at ts q h) row_as
-          ∙ goes_on_lem (token_at s at) (tokens_from s (token_at s at).next.at) q h (steps_as s at q h k f l m ∙ n) d
-          ∙ ap (λ (t : Token). level_at (tokens_from s t.next.at) q' h') (sym k)
-
-      pub level_past : deepest < h' → level_at (tokens_from s at) q h ≡ t.start
-      level_past d =
-          ap (λ (ts : List Token). level_at ts q h) row_as
-          ∙ goes-past (token_at s at) (tokens_from s (token_at s at).next.at) q h (steps_as s at q h k f l m ∙ n) d
-          ∙ ap (λ (t : Token). t.start) (sym k)
+    pub level_past : deepest < u.height → level_at (tokens_from s at) q h ≡ t.start
+    level_past d =
+        ap (λ (ts : List Token). level_at ts q h) row_as
+        ∙ goes-past (token_at s at) (tokens_from s (token_at s at).next.at) q h (steps_as s at q h k l m ∙ n) d
+        ∙ ap (λ (t : Token). t.start) (sym k)

@@ -14,7 +14,6 @@ use Rattle.expressions.specs.Places.{Placed, literal, node, enclosed, strip, fou
 use Rattle.expressions.specs.declared.Operation.{Operation}
 use Rattle.expressions.specs.Places.{Found}
 use Rattle.std.proofs.Common.{Ok, Err}
-use Rattle.expressions.specs.declared.Fault.TheVariants.{OutOfRange, ByZero}
 use Rattle.expressions.specs.Worths.{Worth}
 use Rattle.expressions.proofs.Steps.{never}
 
@@ -22,16 +21,13 @@ use Rattle.expressions.proofs.Steps.{never}
 
 plain_at : (at : ℕ) (w : Worth) → plain (found_at at w) ≡ w
 plain_at at (Ok z) = refl
-plain_at at (Err OutOfRange) = refl
-plain_at at (Err ByZero) = refl
+plain_at at (Err why) = refl
 
 plain-evaluate : (at : ℕ) (o : Operation) (a b : Found) → plain (evaluate at o a b) ≡ operate o (plain a) (plain b)
 unfolding evaluate operate
 plain-evaluate at o (Ok a) (Ok b) = plain_at at _
-plain-evaluate at o (Ok a) (Err (record { fault = OutOfRange; at = right })) = refl
-plain-evaluate at o (Ok a) (Err (record { fault = ByZero; at = right })) = refl
-plain-evaluate at o (Err (record { fault = OutOfRange; at = left })) b = refl
-plain-evaluate at o (Err (record { fault = ByZero; at = left })) b = refl
+plain-evaluate at o (Ok a) (Err right) = refl
+plain-evaluate at o (Err left) b = refl
 
 pub plain-found : (p : Placed) → plain (found_of p) ≡ worth_of (strip p)
 unfolding found_of strip worth_of

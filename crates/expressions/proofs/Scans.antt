@@ -97,61 +97,53 @@ Grows h None = Unit {0}
 
 grows : (y : Symbol) (q : Bool) (h : ℕ) → Grows h (scan_step y q h)
 grows (Y.Number v) true h = omega arith
-grows (Y.Number v) false h = tt
-grows (Y.Sums o) true h = tt
 grows (Y.Sums o) false h = omega arith
-grows (Y.Products o) true h = tt
 grows (Y.Products o) false h = omega arith
 grows Y.Opens true h = omega arith
-grows Y.Opens false h = tt
-grows Y.Shuts true h = tt
 grows Y.Shuts false h = go (eqb h 0)
   where
     go : (b : Bool) → Grows h (cond b None (Some (record { operand = false; height = (h - 1) })))
     go true = tt
     go false = omega arith
-grows Y.Other true h = tt
-grows Y.Other false h = tt
+grows _ _ h = tt
 
 -- what no expression has stops the scan
 other-stops : (q : Bool) (h : ℕ) → scan_step Y.Other q h ≡ None
 other-stops true h = refl
 other-stops false h = refl
 
-module _ (s : List ℕ) (at : ℕ) (q : Bool) (h : ℕ) {t : Token} (k : t ≡ token_at s at) {e : Bool} (f : e ≡ is_end t.kind) where
-  pub ends_as : is_end (token_at s at).kind ≡ e
-  ends_as = sym (f ∙ ap (λ (t : Token). is_end t.kind) k)
-
-  pub scan_ended : e ≡ true → right_form (tokens_from s at) q h ≡ scan_end q h
+module _ (s : List ℕ) (at : ℕ) (q : Bool) (h : ℕ) {t : Token} (k : t ≡ token_at s at) where
+  pub scan_ended : {e : Bool} → e ≡ is_end t.kind → e ≡ true → right_form (tokens_from s at) q h ≡ scan_end q h
   unfolding right_form
-  scan_ended g = ap (λ (ts : List Token). right_form ts q h) (row-ended s at (ends_as ∙ g))
+  scan_ended f g =
+      ap (λ (ts : List Token). right_form ts q h) (row-ended s at (sym (f ∙ ap (λ (t : Token). is_end t.kind) k) ∙ g))
 
   module _ {y : Symbol} (l : y ≡ kind_symbol t.kind) {r : Option Scan} (m : r ≡ scan_step y q h) where
     pub steps_as : scan_step (kind_symbol (token_at s at).kind) q h ≡ r
     steps_as = sym (m ∙ ap (λ (y : Symbol). scan_step y q h) (l ∙ ap (λ (t : Token). kind_symbol t.kind) k))
 
-    pub scan_wrong : e ≡ false → r ≡ None → right_form (tokens_from s at) q h ≡ false
+    pub scan_wrong : is_end t.kind ≡ false → r ≡ None → right_form (tokens_from s at) q h ≡ false
     unfolding right_form
     scan_wrong g n = go (begins s at)
       where
         go : {ts : List Token} → Begins s at ts → right_form ts q h ≡ false
-        go (ended x y) = let z : true ≡ false = sym x ∙ ends_as ∙ g in never (cc)
+        go (ended x y) = let z : true ≡ false = sym x ∙ sym (ap (λ (t : Token). is_end t.kind) k) ∙ g in never (cc)
         go (some {ts} x) = ap (λ (r : Option Scan). scan_on r (λ q h. right_form ts q h)) (steps_as ∙ n)
 
-    module _ {q' : Bool} {h' : ℕ} (n : r ≡ Some (record { operand = q'; height = h' })) where
+    module _ {u : Scan} (n : r ≡ Some u) where
       pub on_by : Heads s at
       on_by =
           heads s at refl
-          (λ x. let z : None ≡ Some (record { operand = q'; height = h' }) = sym (ap (λ (y : Symbol). scan_step y q h) x ∙ other-stops q h) ∙ steps_as ∙ n in never (cc))
+          (λ x. let z : None ≡ Some u = sym (ap (λ (y : Symbol). scan_step y q h) x ∙ other-stops q h) ∙ steps_as ∙ n in never (cc))
 
-      pub scan-on : right_form (tokens_from s at) q h ≡ right_form (tokens_from s t.next.at) q' h'
+      pub scan-on : right_form (tokens_from s at) q h ≡ right_form (tokens_from s t.next.at) u.operand u.height
       unfolding right_form
       scan-on =
           ap (λ (ts : List Token). right_form ts q h) on_by.row
           ∙ ap (λ (r : Option Scan). scan_on r (λ q h. right_form (tokens_from s (token_at s at).next.at) q h)) (steps_as ∙ n)
-          ∙ ap (λ (t : Token). right_form (tokens_from s t.next.at) q' h') (sym k)
+          ∙ ap (λ (t : Token). right_form (tokens_from s t.next.at) u.operand u.height) (sym k)
 
-      pub scan_moves : (at < t.next.at) × (t.next.at ≤ length s) × (h' ≤ h + 1)
+      pub scan_moves : (at < t.next.at) × (t.next.at ≤ length s) × (u.height ≤ h + 1)
       scan_moves =
           let b = on_by in (
             subst⁻¹ (λ (t : Token). at < t.next.at) k b.on,

@@ -1,76 +1,84 @@
--- The laws of Steps.antt and Operands.antt as the code meets them: over the token that was read, its symbol, and what that is
--- to the reader.
-use Prim.Native.Nat.{ℕ, suc, ◌<◌}
+-- The laws of Steps.antt and Operands.antt as the code meets them: over the token that was read, and its symbol.
+use Prim.Native.Nat.{ℕ, suc, ◌-◌, ◌<◌}
 use mathlib.Core.List.{List}
 use mathlib.Core.Path.{◌≡◌, sym, ap, subst, subst⁻¹, ◌∙◌}
 use lib.ListN.{length}
-use Rattle.numerals.specs.declared.Cursor.{Cursor}
 use Rattle.tokens.specs.Reading.{token_at}
 use Rattle.tokens.specs.declared.Token.{Token}
-use Rattle.expressions.specs.Worths.{of_number}
-use Rattle.expressions.specs.Places.{found_at}
+use Rattle.expressions.specs.Worths.{Worth, of_number}
+use Rattle.expressions.specs.Places.{Found, found_at, evaluate}
 use Rattle.expressions.specs.Reading.{kind_symbol}
-use Rattle.expressions.specs.Inner.Parts.{start_of, joined_part, closed_part, number_at, Level, factors, sums, Says}
+use Rattle.expressions.specs.Inner.Parts.{number_at, Level, factors, sums, Says}
 use Rattle.expressions.specs.declared.Operation.{Operation}
-use Rattle.expressions.specs.Places.{Found}
-use Rattle.expressions.specs.Worths.{Worth}
-use Rattle.std.proofs.Common.{Option, Some, None, Result, Ok, Err}
+use Rattle.std.proofs.Common.{Ok, Err}
 use Rattle.numerals.specs.Reading.{upto}
 use Rattle.numerals.specs.declared.Read.{Read}
 use Rattle.expressions.specs.declared.Malformed.{Malformed}
 use Rattle.expressions.specs.declared.Malformed.TheVariants.{TooDeep, WrongForm}
-use Rattle.expressions.specs.declared.Start.{Start}
-use Rattle.expressions.specs.declared.Start.TheVariants as S
 use Rattle.expressions.specs.declared.Symbol.{Symbol}
-use Rattle.expressions.proofs.Steps.{Nests, left, part_stop, part_next, part_less}
-use Rattle.expressions.proofs.Operands.{factor_neither, factor_number, factor_deep, factor_closed}
+use Rattle.expressions.specs.declared.Symbol.TheVariants as Y
+use Rattle.expressions.proofs.Steps.{Nests, part_stop, part_next, next_fails, part_less}
+use Rattle.expressions.proofs.Operands.{factor_neither, factor_number, factor_deep, inside_fails, shut-after, not_shut_after}
 
 -- what the code saw of a symbol is what there is to see at the place
 module _ (s : List ℕ) (at : ℕ) {t : Token} {y : Symbol} (k : t ≡ token_at s at) (l : y ≡ kind_symbol t.kind) where
-  seen : {X : Type 0} (f : Symbol → X) {m m' : X} → m ≡ f y → m ≡ m' → f (kind_symbol (token_at s at).kind) ≡ m'
-  seen f e g = sym (e ∙ ap f (l ∙ ap (λ (t : Token). kind_symbol t.kind) k)) ∙ g
+  pub seen : kind_symbol (token_at s at).kind ≡ y
+  seen = sym (l ∙ ap (λ (t : Token). kind_symbol t.kind) k)
 
-  module _ {m : Start} (e : m ≡ start_of y) (room : ℕ) where
-    pub seen-neither : m ≡ S.Neither → Says factors factors s at room (Err WrongForm)
-    seen-neither g = factor_neither s at room (seen start_of e g)
+  module _ (room : ℕ) where
+    pub seen-neither : ((v : ℕ) → y ≡ Y.Number v → ⊥) → (y ≡ Y.Opens → ⊥) → Says factors factors s at room (Err WrongForm)
+    seen-neither m n = factor_neither s at room (λ v e. m v (sym seen ∙ e)) (λ e. n (sym seen ∙ e))
 
-    pub seen-number : {v : ℕ} {w : Worth} {r : Found} → m ≡ S.Number v → w ≡ of_number v → r ≡ found_at t.start w
+    pub seen-number : {v : ℕ} {w : Worth} {r : Found} → y ≡ Y.Number v → w ≡ of_number v → r ≡ found_at t.start w
         → Says factors factors s at room (Ok (upto r t.next))
     seen-number {v} g h f =
         subst⁻¹ (λ (r : Found). Says factors factors s at room (Ok (upto r t.next))) (f ∙ ap (found_at t.start) h)
-        (subst⁻¹ (λ (t : Token). Says factors factors s at room (Ok (upto (number_at t v) t.next))) k (factor_number s at room v (seen start_of e g)))
+        (subst⁻¹ (λ (t : Token). Says factors factors s at room (Ok (upto (number_at t v) t.next))) k (factor_number s at room v (seen ∙ g)))
 
-    module _ (g : m ≡ S.Opens) where
+    module _ (g : y ≡ Y.Opens) where
       pub seen-deep : room ≡ 0 → Says factors factors s at room (Err TooDeep)
-      seen-deep z = factor_deep s at (seen start_of e g) room z
+      seen-deep z = factor_deep s at (seen ∙ g) room z
 
-      pub seen-closed : {room' : ℕ} (p : Result (Read Found) Malformed) {p' : Result (Read Found) Malformed} → room ≡ suc room' → Says sums sums s t.next.at room' p → p' ≡ closed_part s p → Says factors factors s at room p'
-      seen-closed {room'} p z h q =
-          subst⁻¹ (λ (p : Result (Read Found) Malformed). Says factors factors s at room p) q
-          (factor_closed s at (seen start_of e g) z p (subst (λ (t : Token). Says sums sums s t.next.at room' p) k h))
+      -- the sum inside
+      module _ {room' : ℕ} (z : room ≡ suc room') where
+        pub seen_inside-fails : (why : Malformed) → Says sums sums s t.next.at room' (Err why) → Says factors factors s at room (Err why)
+        seen_inside-fails why h = inside_fails s at (seen ∙ g) z why (subst (λ (t : Token). Says sums sums s t.next.at room' (Err why)) k h)
+
+        module _ (r : Read Found) (h : Says sums sums s t.next.at room' (Ok r)) {u : Token} {x : Symbol} (i : u ≡ token_at s r.next.at) (j : x ≡ kind_symbol u.kind) where
+          inside-says : Says sums sums s (token_at s at).next.at room' (Ok r)
+          inside-says = subst (λ (t : Token). Says sums sums s t.next.at room' (Ok r)) k h
+
+          shut_seen : kind_symbol (token_at s r.next.at).kind ≡ x
+          shut_seen = sym (j ∙ ap (λ (t : Token). kind_symbol t.kind) i)
+
+          pub seen-shut : x ≡ Y.Shuts → Says factors factors s at room (Ok (upto r.value u.next))
+          seen-shut f =
+              subst⁻¹ (λ (t : Token). Says factors factors s at room (Ok (upto r.value t.next))) i
+              (shut-after s at (seen ∙ g) z r inside-says (shut_seen ∙ f))
+
+          pub seen_not-shut : (x ≡ Y.Shuts → ⊥) → Says factors factors s at room (Err WrongForm)
+          seen_not-shut n = not_shut_after s at (seen ∙ g) z r inside-says (λ f. n (sym shut_seen ∙ f))
 
 -- the loops of products and of sums, at a part that was read so far
-module _ {inner outer : Level} {mark : Symbol → Option Operation} (n : Nests inner outer mark) (s : List ℕ) (at room : ℕ) {part : Result (Read Found) Malformed} {v : Found} {c : Cursor}
-    (d : part ≡ Ok (upto v c)) (h : Says outer inner s at room part) {t : Token} {y : Symbol} {m : Option Operation}
-    (k : t ≡ token_at s c.at) (l : y ≡ kind_symbol t.kind) (e : m ≡ mark y) where
-  so_far : Says outer inner s at room (Ok (upto v c))
-  so_far = subst (λ (p : Result (Read Found) Malformed). Says outer inner s at room p) d h
+module _ {inner outer : Level} {mark : Operation → Symbol} (n : Nests inner outer mark) (s : List ℕ) (at room : ℕ) (q : Read Found) (h : Says outer inner s at room (Ok q))
+    {t : Token} {y : Symbol} (k : t ≡ token_at s q.next.at) (l : y ≡ kind_symbol t.kind) where
+  pub seen-stop : ((o : Operation) → y ≡ mark o → ⊥) → Says outer outer s at room (Ok q)
+  seen-stop m = part_stop n s at room q h (λ o e. m o (sym (seen s q.next.at k l) ∙ e))
 
-  pub seen-stop : m ≡ None → Says outer outer s at room (Ok (upto v c))
-  seen-stop g = part_stop n s at room v c so_far (seen s c.at k l mark e g)
+  -- a mark and a further operand
+  module _ {o : Operation} (g : y ≡ mark o) where
+    pub seen_fails : (why : Malformed) → Says inner inner s t.next.at room (Err why) → Says outer outer s at room (Err why)
+    seen_fails why r =
+        next_fails n s at room q h o (seen s q.next.at k l ∙ g) why (subst (λ (t : Token). Says inner inner s t.next.at room (Err why)) k r)
 
-  module _ {o : Operation} (g : m ≡ Some o) (p : Result (Read Found) Malformed) {p' : Result (Read Found) Malformed} (q : p' ≡ joined_part t.start o v p) (r : Says inner inner s t.next.at room p) where
-    further : Says inner inner s (token_at s c.at).next.at room p
-    further = subst (λ (t : Token). Says inner inner s t.next.at room p) k r
+    module _ (f : Read Found) (r : Says inner inner s t.next.at room (Ok f)) where
+      further : Says inner inner s (token_at s q.next.at).next.at room (Ok f)
+      further = subst (λ (t : Token). Says inner inner s t.next.at room (Ok f)) k r
 
-    joined_as : p' ≡ joined_part (token_at s c.at).start o v p
-    joined_as = q ∙ ap (λ (t : Token). joined_part t.start o v p) k
+      pub seen_next : {j : Read Found} → j ≡ upto (evaluate t.start o q.value f.value) f.next → Says outer inner s at room (Ok j)
+      seen_next i =
+          subst⁻¹ (λ (j : Read Found). Says outer inner s at room (Ok j)) (i ∙ ap (λ (t : Token). upto (evaluate t.start o q.value f.value) f.next) k)
+          (part_next n s at room q h o (seen s q.next.at k l ∙ g) f further)
 
-    pub seen_next : Says outer inner s at room p'
-    seen_next = subst⁻¹ (λ (p : Result (Read Found) Malformed). Says outer inner s at room p) joined_as (part_next n s at room v c so_far o (seen s c.at k l mark e g) p further)
-
-    pub seen-less : left (length s) p' < left (length s) part
-    seen-less =
-        subst⁻¹ (λ (p : Result (Read Found) Malformed). left (length s) p' < left (length s) p) d
-        (subst⁻¹ (λ (p : Result (Read Found) Malformed). left (length s) p < left (length s) (Ok (upto v c))) joined_as
-        (part_less n s at room v c so_far o (seen s c.at k l mark e g) p further))
+      pub seen-less : length s - f.next.at < length s - q.next.at
+      seen-less = part_less n s at room q h o (seen s q.next.at k l ∙ g) f further

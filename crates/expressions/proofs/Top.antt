@@ -15,7 +15,6 @@ use Rattle.expressions.specs.Places.{Placed, literal_at, node_at, enclosed_at, P
 use Rattle.expressions.specs.Inner.Scanning.{right_form, passes, level_at}
 use Rattle.expressions.specs.declared.Operation.{Operation}
 use Rattle.std.proofs.Common.{Ok, Err}
-use Rattle.numerals.specs.declared.Read.{Read}
 use Rattle.expressions.specs.declared.Fault.TheVariants.{OutOfRange, ByZero}
 use Rattle.expressions.specs.declared.Malformed.TheVariants.{TooDeep, WrongForm}
 use Rattle.expressions.specs.Worths.{Worth}

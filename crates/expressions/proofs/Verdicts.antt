@@ -5,7 +5,6 @@ use mathlib.Core.List.{List, []}
 use mathlib.Core.Path.{◌≡◌, refl, sym, ap, subst, ◌∙◌}
 use lib.Dec.{leb, ltb}
 use borrow.Author.Tests.{ltb-true, ltb-false, le-leb, lt-leb}
-use Rattle.numerals.specs.declared.Cursor.{Cursor}
 use Rattle.tokens.specs.Reading.{token_at, tokens_from}
 use Rattle.tokens.specs.declared.Token.{Token}
 use Rattle.codes.specs.Limits.{deepest}
@@ -17,7 +16,6 @@ use Rattle.expressions.specs.Inner.Parts.{is_end, sums, Says, Answer, operand_f,
 use Rattle.expressions.specs.Places.{Found}
 use Rattle.expressions.specs.Worths.{Worth}
 use Rattle.std.proofs.Common.{Result, Ok, Err}
-use Rattle.numerals.specs.Reading.{upto}
 use Rattle.numerals.specs.declared.Read.{Read}
 use Rattle.expressions.specs.declared.Malformed.{Malformed}
 use Rattle.expressions.specs.declared.Malformed.TheVariants.{TooDeep, WrongForm}
@@ -100,29 +98,26 @@ module _ (ts : List Token) where
 
 -- ---- by what the reader of sums gave, as the code meets it
 
-module _ (s : List ℕ) (at : ℕ) (p : Result (Read Found) Malformed) (h : Says sums sums s at deepest p) where
-  module _ {w : Found} {c : Cursor} (d : p ≡ Ok (upto w c)) {t : Token} {e : Bool} (k : t ≡ token_at s c.at) (l : e ≡ is_end t.kind) where
-    sum-read : Says sums sums s at deepest (Ok (upto w c))
-    sum-read = subst (λ (p : Result (Read Found) Malformed). Says sums sums s at deepest p) d h
-
-    ends_as : is_end (token_at s c.at).kind ≡ e
+module _ (s : List ℕ) (at : ℕ) where
+  module _ (r : Read Found) (h : Says sums sums s at deepest (Ok r)) {t : Token} {e : Bool} (k : t ≡ token_at s r.next.at) (l : e ≡ is_end t.kind) where
+    ends_as : is_end (token_at s r.next.at).kind ≡ e
     ends_as = sym (l ∙ ap (λ (t : Token). is_end t.kind) k)
 
-    whole : e ≡ true → Verdict (tokens_from s at) (Ok (plain w)) (fault_place w)
+    whole : e ≡ true → Verdict (tokens_from s at) (Ok (plain r.value)) (fault_place r.value)
     unfolding operator passes
     whole g =
-        let r = row-ended s c.at (ends_as ∙ g) in
+        let u = row-ended s r.next.at (ends_as ∙ g) in
         by_found (tokens_from s at)
-        (sum-read.read [] ∙ ap (λ (ts : List Token). operator_f ts nothing w []) r)
-        (sum-read.room-left ∙ ap (λ (ts : List Token). passes ts deepest) r)
+        (h.read [] ∙ ap (λ (ts : List Token). operator_f ts nothing r.value []) u)
+        (h.room-left ∙ ap (λ (ts : List Token). passes ts deepest) u)
 
     more : e ≡ false → Verdict (tokens_from s at) (Err WrongForm) 0
-    more g = by_wrong (tokens_from s at) (sum-read.read [] ∙ sum_not_last s c.at w sum-read.ends (ends_as ∙ g))
+    more g = by_wrong (tokens_from s at) (h.read [] ∙ sum_not_last s r.next.at r.value h.ends (ends_as ∙ g))
 
-    pub found-whole : {r : Worth} → e ≡ true → r ≡ plain w → Ok r ≡ expression_read (tokens_from s at)
+    pub found-whole : {w : Worth} → e ≡ true → w ≡ plain r.value → Ok w ≡ expression_read (tokens_from s at)
     found-whole g m = ap Ok m ∙ sym (whole g).0
 
-    pub fault_whole : {r : ℕ} → e ≡ true → r ≡ fault_place w → r ≡ fault_in (tokens_from s at)
+    pub fault_whole : {n : ℕ} → e ≡ true → n ≡ fault_place r.value → n ≡ fault_in (tokens_from s at)
     fault_whole g m = m ∙ sym (whole g).1
 
     pub found-more : e ≡ false → Err WrongForm ≡ expression_read (tokens_from s at)
@@ -131,20 +126,15 @@ module _ (s : List ℕ) (at : ℕ) (p : Result (Read Found) Malformed) (h : Says
     pub fault_more : e ≡ false → 0 ≡ fault_in (tokens_from s at)
     fault_more g = sym (more g).1
 
-  no_sum : p ≡ Err WrongForm → Verdict (tokens_from s at) (Err WrongForm) 0
-  no_sum d = let f : Says sums sums s at deepest (Err WrongForm) = subst (λ (p : Result (Read Found) Malformed). Says sums sums s at deepest p) d h in by_wrong (tokens_from s at) (f [])
+  no_sum : Says sums sums s at deepest (Err WrongForm) → Verdict (tokens_from s at) (Err WrongForm) 0
+  no_sum h = by_wrong (tokens_from s at) (h [])
 
-  pub found-wrong : p ≡ Err WrongForm → Err WrongForm ≡ expression_read (tokens_from s at)
-  found-wrong d = sym (no_sum d).0
+  pub found-wrong : Says sums sums s at deepest (Err WrongForm) → Err WrongForm ≡ expression_read (tokens_from s at)
+  found-wrong h = sym (no_sum h).0
 
-  pub fault_wrong : p ≡ Err WrongForm → 0 ≡ fault_in (tokens_from s at)
-  fault_wrong d = sym (no_sum d).1
+  pub found-deep : Says sums sums s at deepest (Err TooDeep) → {r right : Bool} → r ≡ right_form (tokens_from s at) true 0 → r ≡ right → cond right (Err TooDeep) (Err WrongForm) ≡ expression_read (tokens_from s at)
+  found-deep h e f = sym (by_scan (tokens_from s at) h (sym e ∙ f)).0
 
-  deep-sum : p ≡ Err TooDeep → {right : Bool} → right_form (tokens_from s at) true 0 ≡ right → Verdict (tokens_from s at) (cond right (Err TooDeep) (Err WrongForm)) 0
-  deep-sum d e = by_scan (tokens_from s at) (subst (λ (p : Result (Read Found) Malformed). Says sums sums s at deepest p) d h) e
-
-  pub found-deep : p ≡ Err TooDeep → {r right : Bool} → r ≡ right_form (tokens_from s at) true 0 → r ≡ right → cond right (Err TooDeep) (Err WrongForm) ≡ expression_read (tokens_from s at)
-  found-deep d e f = sym (deep-sum d (sym e ∙ f)).0
-
-  pub fault_deep : p ≡ Err TooDeep → 0 ≡ fault_in (tokens_from s at)
-  fault_deep d = sym (deep-sum d refl).1
+  pub fault_fails : (why : Malformed) → Says sums sums s at deepest (Err why) → 0 ≡ fault_in (tokens_from s at)
+  fault_fails WrongForm h = sym (no_sum h).1
+  fault_fails TooDeep h = sym (by_scan (tokens_from s at) h refl).1

@@ -27,12 +27,9 @@ mark_symbol b =
     (cond (eqb b (code "%")) (Products Rest) Other))))))
 
 abbrev pub kind_symbol : Kind → Symbol
-kind_symbol K.End = Other
-kind_symbol K.Stray = Other
-kind_symbol K.Word = Other
 kind_symbol (K.Number v k) = Number v
-kind_symbol K.Text = Other
 kind_symbol (K.Mark b) = mark_symbol b
+kind_symbol _ = Other
 
 -- the reader goes through the tokens once, with what waits to the left; over any kind of value, made with the tokens
 module _ (W : Type 0) (number : Token → ℕ → W) (operate : Token → Operation → W → W → W) (enclose : Token → W → W) where

@@ -35,10 +35,8 @@ operation Rest a b = cond (is_zero b) (Err ByZero) (within32 (rem_z a b))
 -- left, right, operation
 unfoldable pub operate : Operation → Worth → Worth → Worth
 operate o (Ok a) (Ok b) = operation o a b
-operate o (Ok a) (Err OutOfRange) = Err OutOfRange
-operate o (Ok a) (Err ByZero) = Err ByZero
-operate o (Err OutOfRange) b = Err OutOfRange
-operate o (Err ByZero) b = Err ByZero
+operate o (Ok a) (Err right) = Err right
+operate o (Err left) b = Err left
 
 unfoldable pub worth_of : Tree → Worth
 worth_of (literal v) = of_number v

@@ -58,14 +58,6 @@ pub enum Symbol {
     Other,
 }
 
-// What an operand begins with.
-#[derive(Clone, Copy)]
-enum Start {
-    Number(u32),
-    Opens,
-    Neither,
-}
-
 // Where the scan of a row stands: whether an operand is next, and how many parentheses are open.
 #[derive(Clone, Copy)]
 pub struct Scan {

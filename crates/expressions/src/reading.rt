@@ -9,7 +9,7 @@ use super::scanning::right_form;
 use super::symbols::is_end;
 use super::worths::plain_worth;
 use codes::limits::DEEPEST;
-use numerals::{Cursor, Read};
+use numerals::Cursor;
 use tokens::tokens::next_token;
 
 // What the tokens of a line from a cursor on are as an expression. Only where parentheses are too deep is the row scanned once
@@ -17,24 +17,9 @@ use tokens::tokens::next_token;
 pub fn expression(s: &[u8], from: Cursor) -> Result<Worth, Malformed>
     ensures { result ≡ expression_read (tokens_from s.now from.at) }
 {
-    let start = from.at;
-    match sum(s, Cursor { at: start }, DEEPEST) {
-        Ok(Read { value: w, next: c }) => {
-            let t = next_token(s, c);
-            let kind = t.kind;
-            if is_end(kind) {
-                Ok(plain_worth(w))
-            } else {
-                Err(Malformed::WrongForm)
-            }
-        }
-        Err(Malformed::WrongForm) => Err(Malformed::WrongForm),
-        Err(Malformed::TooDeep) => {
-            if right_form(s, Cursor { at: start }) {
-                Err(Malformed::TooDeep)
-            } else {
-                Err(Malformed::WrongForm)
-            }
-        }
+    match sum(s, from, DEEPEST) {
+        Ok(read) if is_end(next_token(s, read.next).kind) => Ok(plain_worth(read.value)),
+        Err(Malformed::TooDeep) if right_form(s, from) => Err(Malformed::TooDeep),
+        _ => Err(Malformed::WrongForm),
     }
 }

@@ -57,37 +57,24 @@ fn operation_on(o: Operation, a: i32, b: i32) -> Worth
 pub(crate) fn found_at(at: usize, w: Worth) -> Found
     ensures { result ≡ found_at at w }
 {
-    match w {
-        Ok(z) => Ok(z),
-        Err(Fault::OutOfRange) => Err(FaultAt { fault: Fault::OutOfRange, at }),
-        Err(Fault::ByZero) => Err(FaultAt { fault: Fault::ByZero, at }),
-    }
+    w.map_err(|fault| FaultAt { fault, at })
 }
 
 // Left, right, operation: the first fault is the whole's. The operation's is at its mark.
+#[tactic(auto, unfolding(crate::specs::Places::evaluate))]
 pub(crate) fn combined(at: usize, o: Operation, a: Found, b: Found) -> Found
     ensures { result ≡ evaluate at o a b }
 {
-    match a {
-        Ok(x) => match b {
-            Ok(y) => found_at(at, operation_on(o, x, y)),
-            Err(FaultAt { fault: Fault::OutOfRange, at: right }) => Err(FaultAt { fault: Fault::OutOfRange, at: right }),
-            Err(FaultAt { fault: Fault::ByZero, at: right }) => Err(FaultAt { fault: Fault::ByZero, at: right }),
-        },
-        Err(FaultAt { fault: Fault::OutOfRange, at: left }) => Err(FaultAt { fault: Fault::OutOfRange, at: left }),
-        Err(FaultAt { fault: Fault::ByZero, at: left }) => Err(FaultAt { fault: Fault::ByZero, at: left }),
-    }
+    let x = a?;
+    let y = b?;
+    found_at(at, operation_on(o, x, y))
 }
 
 // The worth without its place.
 pub(crate) fn plain_worth(w: Found) -> Worth
     ensures { result ≡ plain w }
 {
-    match w {
-        Ok(z) => Ok(z),
-        Err(FaultAt { fault: Fault::OutOfRange, at: _ }) => Err(Fault::OutOfRange),
-        Err(FaultAt { fault: Fault::ByZero, at: _ }) => Err(Fault::ByZero),
-    }
+    w.map_err(|f| f.fault)
 }
 
 // The place of the fault, 0 where there is none.
@@ -96,7 +83,6 @@ pub(crate) fn fault_place(w: Found) -> usize
 {
     match w {
         Ok(_) => 0,
-        Err(FaultAt { fault: Fault::OutOfRange, at }) => at,
-        Err(FaultAt { fault: Fault::ByZero, at }) => at,
+        Err(f) => f.at,
     }
 }

@@ -1,7 +1,7 @@
 -- What the readers of sums, products and factors promise one another: what the reader of whole rows makes of the tokens from a
 -- place on. These promises are inner ones; `expression` has the natural one.
-use Rattle.std.specs.Prelude.{ℕ, ◌≤◌, ◌<◌, Bool, true, false, cond, List, [], ◌∷◌, ◌≡◌, length}
-use Rattle.tokens.specs.Reading.{token_at, tokens_from}
+use Rattle.std.specs.Prelude.{ℕ, ◌≤◌, ◌<◌, Bool, true, false, List, [], ◌∷◌, ◌≡◌, length}
+use Rattle.tokens.specs.Reading.{tokens_from}
 use Rattle.tokens.specs.declared.Kind.{Kind}
 use Rattle.tokens.specs.declared.Kind.TheVariants as K
 use Rattle.tokens.specs.declared.Token.{Token}
@@ -11,71 +11,26 @@ use Rattle.expressions.specs.Places.{found_at, evaluate}
 use Rattle.expressions.specs.Inner.Scanning.{passes}
 use Rattle.expressions.specs.declared.Operation.{Operation}
 use Rattle.expressions.specs.Places.{Found}
-use Rattle.expressions.specs.declared.Start.{Start}
-use Rattle.expressions.specs.declared.Start.TheVariants as S
 use Rattle.std.specs.Prelude.{Option, Some, None, Result, Ok, Err}
-use Rattle.numerals.specs.Reading.{upto}
 use Rattle.numerals.specs.declared.Read.{Read}
 use Rattle.expressions.specs.declared.Malformed.{Malformed}
 use Rattle.expressions.specs.declared.Malformed.TheVariants.{TooDeep, WrongForm}
 use Rattle.expressions.specs.declared.Symbol.{Symbol}
-use Rattle.expressions.specs.declared.Symbol.TheVariants.{Number, Sums, Products, Opens, Shuts, Other}
+use Rattle.expressions.specs.declared.Symbol.TheVariants.{Sums, Products}
 
 -- ---- what a symbol is to each reader
 
-abbrev pub start_of : Symbol → Start
-start_of (Number v) = S.Number v
-start_of (Sums o) = S.Neither
-start_of (Products o) = S.Neither
-start_of Opens = S.Opens
-start_of Shuts = S.Neither
-start_of Other = S.Neither
-
 abbrev pub sum_mark : Symbol → Option Operation
-sum_mark (Number v) = None
 sum_mark (Sums o) = Some o
-sum_mark (Products o) = None
-sum_mark Opens = None
-sum_mark Shuts = None
-sum_mark Other = None
+sum_mark _ = None
 
 abbrev pub product_mark : Symbol → Option Operation
-product_mark (Number v) = None
-product_mark (Sums o) = None
 product_mark (Products o) = Some o
-product_mark Opens = None
-product_mark Shuts = None
-product_mark Other = None
-
-abbrev pub is_shut : Symbol → Bool
-is_shut (Number v) = false
-is_shut (Sums o) = false
-is_shut (Products o) = false
-is_shut Opens = false
-is_shut Shuts = true
-is_shut Other = false
+product_mark _ = None
 
 abbrev pub is_end : Kind → Bool
 is_end K.End = true
-is_end K.Stray = false
-is_end K.Word = false
-is_end (K.Number v k) = false
-is_end K.Text = false
-is_end (K.Mark b) = false
-
--- ---- what is made of a part
-
--- a further part joined to what was found by an operation, with the place of its mark
-abbrev pub joined_part : ℕ → Operation → Found → Result (Read Found) Malformed → Result (Read Found) Malformed
-joined_part at o v (Ok r) = Ok (upto (evaluate at o v r.value) r.next)
-joined_part at o v (Err WrongForm) = Err WrongForm
-joined_part at o v (Err TooDeep) = Err TooDeep
-
--- a sum inside parentheses: the closing one must follow
-abbrev pub closed_part : List ℕ → Result (Read Found) Malformed → Result (Read Found) Malformed
-closed_part s (Ok r) = cond (is_shut (kind_symbol (token_at s r.next.at).kind)) (Ok (upto r.value (token_at s r.next.at).next)) (Err WrongForm)
-closed_part s (Err WrongForm) = Err WrongForm
-closed_part s (Err TooDeep) = Err TooDeep
+is_end _ = false
 
 -- ---- what a part is to the reader of whole rows
 

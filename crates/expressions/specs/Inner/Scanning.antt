@@ -16,17 +16,11 @@ shut_step height = cond (eqb height 0) None (Some (record { operand = false; hei
 -- one token, where an operand is next or not, and so many parentheses are open
 abbrev pub scan_step : Symbol → Bool → ℕ → Option Scan
 scan_step (Number v) true height = Some (record { operand = false; height = height })
-scan_step (Number v) false height = None
-scan_step (Sums o) true height = None
 scan_step (Sums o) false height = Some (record { operand = true; height = height })
-scan_step (Products o) true height = None
 scan_step (Products o) false height = Some (record { operand = true; height = height })
 scan_step Opens true height = Some (record { operand = true; height = (height + 1) })
-scan_step Opens false height = None
-scan_step Shuts true height = None
 scan_step Shuts false height = shut_step height
-scan_step Other true height = None
-scan_step Other false height = None
+scan_step _ _ height = None
 
 abbrev pub scan_end : Bool → ℕ → Bool
 scan_end true height = false

@@ -1,8 +1,7 @@
 -- The readers of factors, products and sums, which call each other: the room for parentheses falls at each that opens, and at
--- one room a sum calls a product and a product a factor. The loops' invariant: what was read so far is a part, whatever its end.
-use Rattle.std.proofs.Common.{◌+◌, ◌*◌, length}
+-- one room a sum calls a product and a product a factor. The loops' invariant: what was read so far is a part that may go on.
+use Rattle.std.proofs.Common.{◌+◌, ◌-◌, ◌*◌, length, Ok}
 use Rattle.expressions.specs.Inner.Parts.{factors, products, sums, Says}
-use Rattle.expressions.proofs.Steps.{left}
 use Rattle.expressions.proofs.parts.+factor_product_sum.Given as goal
 
 abbrev pub decreases-factor : goal.decreases-factor
@@ -14,14 +13,14 @@ decreases-product l = l.room * 3 + 1
 abbrev pub decreases-sum : goal.decreases-sum
 decreases-sum l = l.room * 3 + 2
 
-abbrev pub invariant-product-loop-part : goal.invariant-product-loop-part
-invariant-product-loop-part l = Says products factors l.s l.start l.room l.part
+abbrev pub invariant-product-loop-o : goal.invariant-product-loop-o
+invariant-product-loop-o l = Says products factors l.s l.fn.from.at l.room (Ok l.read)
 
-abbrev pub decreases-product-loop-part : goal.decreases-product-loop-part
-decreases-product-loop-part l = left (length l.s) l.part
+abbrev pub decreases-product-loop-o : goal.decreases-product-loop-o
+decreases-product-loop-o l = length l.s - l.read.next.at
 
-abbrev pub invariant-sum-loop-part : goal.invariant-sum-loop-part
-invariant-sum-loop-part l = Says sums products l.s l.start l.room l.part
+abbrev pub invariant-sum-loop-o : goal.invariant-sum-loop-o
+invariant-sum-loop-o l = Says sums products l.s l.fn.from.at l.room (Ok l.read)
 
-abbrev pub decreases-sum-loop-part : goal.decreases-sum-loop-part
-decreases-sum-loop-part l = left (length l.s) l.part
+abbrev pub decreases-sum-loop-o : goal.decreases-sum-loop-o
+decreases-sum-loop-o l = length l.s - l.read.next.at

@@ -8,8 +8,8 @@ use Rattle.tokens.specs.Reading.{tokens_from}
 use Rattle.expressions.specs.Inner.Scanning.{level_at}
 use Rattle.expressions.proofs.places.level_past.Given as goal
 
-abbrev pub invariant-loop-kind : goal.invariant-loop-kind
-invariant-loop-kind l = (l.height ≤ deepest) × (level_at (tokens_from l.s l.start) true 0 ≡ level_at (tokens_from l.s l.at) l.operand l.height)
+abbrev pub invariant-loop-further : goal.invariant-loop-further
+invariant-loop-further l = (l.scan.height ≤ deepest) × (level_at (tokens_from l.s l.fn.from.at) true 0 ≡ level_at (tokens_from l.s l.at.at) l.scan.operand l.scan.height)
 
-abbrev pub decreases-loop-kind : goal.decreases-loop-kind
-decreases-loop-kind l = length l.s - l.at
+abbrev pub decreases-loop-further : goal.decreases-loop-further
+decreases-loop-further l = length l.s - l.at.at

@@ -1,39 +1,33 @@
 -- The form of the row from the cursor on stays that of the rest, with what is next and the height; a token more takes a byte at least.
-use mathlib.Core.Path.{refl, sym, ◌∙◌}
+use mathlib.Core.Path.{sym, ◌∙◌}
 use native.Mathlib.Omega.{arith}
 use Rattle.expressions.proofs.Scans.{scan_ended, scan_wrong, scan-on, scan_moves}
 use Rattle.expressions.proofs.scanning.right_form.Goals as goal
 
-pub loop-kind-init : goal.loop-kind-init
-loop-kind-init c = (omega arith, omega arith, refl)
-
 pub returns-then-is_end : goal.returns-then-is_end
 returns-then-is_end c =
-    c.may_end.ensures
-    ∙ sym (c.loop-kind.invariant.2 ∙ scan_ended c.args.s.now c.loop-kind.at c.loop-kind.operand c.loop-kind.height c.next_token-t.ensures c.is_end.ensures c.if-is_end.true)
+    let l = c.loop-t in
+    c.may_end.ensures ∙ sym (l.invariant.2 ∙ scan_ended c.args.s.now l.at.at l.scan.operand l.scan.height c.next_token-t.ensures c.is_end.ensures c.if-is_end.true)
 
-pub returns-in-Wrong : goal.returns-in-Wrong
-returns-in-Wrong c =
+pub returns-in_default : goal.returns-in_default
+returns-in_default c =
+    let l = c.loop-t in
     sym
-    (c.loop-kind.invariant.2
-    ∙ scan_wrong c.args.s.now c.loop-kind.at c.loop-kind.operand c.loop-kind.height c.next_token-t.ensures c.is_end.ensures
-    c.symbol_of.ensures c.scan_step.ensures c.if-is_end.false c.in-Wrong.is)
+    (l.invariant.2
+    ∙ scan_wrong c.args.s.now l.at.at l.scan.operand l.scan.height c.next_token-t.ensures c.symbol_of.ensures c.scan_step.ensures
+    (sym c.is_end.ensures ∙ c.if-is_end.false) c.in_default.is)
 
-pub loop-kind-smaller : goal.loop-kind-smaller
-loop-kind-smaller c =
-    let m =
-    scan_moves c.args.s.now c.loop-kind.at c.loop-kind.operand c.loop-kind.height c.next_token-t.ensures c.is_end.ensures
-    c.symbol_of.ensures c.scan_step.ensures c.in-On.is in
+pub loop-t-smaller : goal.loop-t-smaller
+loop-t-smaller c =
+    let l = c.loop-t in
+    let m = scan_moves c.args.s.now l.at.at l.scan.operand l.scan.height c.next_token-t.ensures c.symbol_of.ensures c.scan_step.ensures c.in-Some.is in
     omega arith
 
-pub loop-kind-preserved : goal.loop-kind-preserved
-loop-kind-preserved c =
-    let m =
-    scan_moves c.args.s.now c.loop-kind.at c.loop-kind.operand c.loop-kind.height c.next_token-t.ensures c.is_end.ensures
-    c.symbol_of.ensures c.scan_step.ensures c.in-On.is in (
+pub loop-t-preserved : goal.loop-t-preserved
+loop-t-preserved c =
+    let l = c.loop-t in
+    let m = scan_moves c.args.s.now l.at.at l.scan.operand l.scan.height c.next_token-t.ensures c.symbol_of.ensures c.scan_step.ensures c.in-Some.is in (
       omega arith,
       omega arith,
-      c.loop-kind.invariant.2
-          ∙ scan-on c.args.s.now c.loop-kind.at c.loop-kind.operand c.loop-kind.height c.next_token-t.ensures c.is_end.ensures
-          c.symbol_of.ensures c.scan_step.ensures c.in-On.is,
+      l.invariant.2 ∙ scan-on c.args.s.now l.at.at l.scan.operand l.scan.height c.next_token-t.ensures c.symbol_of.ensures c.scan_step.ensures c.in-Some.is,
     )

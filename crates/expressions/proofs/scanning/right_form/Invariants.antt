@@ -7,8 +7,8 @@ use Rattle.tokens.specs.Reading.{tokens_from}
 use Rattle.expressions.specs.Inner.Scanning.{right_form}
 use Rattle.expressions.proofs.scanning.right_form.Given as goal
 
-abbrev pub invariant-loop-kind : goal.invariant-loop-kind
-invariant-loop-kind l = (l.height ≤ l.at) × (l.height ≤ length l.s) × (right_form (tokens_from l.s l.start) true 0 ≡ right_form (tokens_from l.s l.at) l.operand l.height)
+abbrev pub invariant-loop-t : goal.invariant-loop-t
+invariant-loop-t l = (l.scan.height ≤ l.at.at) × (l.scan.height ≤ length l.s) × (right_form (tokens_from l.s l.fn.from.at) true 0 ≡ right_form (tokens_from l.s l.at.at) l.scan.operand l.scan.height)
 
-abbrev pub decreases-loop-kind : goal.decreases-loop-kind
-decreases-loop-kind l = length l.s - l.at
+abbrev pub decreases-loop-t : goal.decreases-loop-t
+decreases-loop-t l = length l.s - l.at.at
