@@ -1,9 +1,9 @@
 -- First words: what one alone decides, and that 601 of them are allowed (01, "Layout"). Assumes nothing.
-use mathlib.Core.Path.{◌≡◌, refl, ap, ◌∙◌}
+use mathlib.Core.Path.{◌≡◌, refl}
 use mathlib.Core.Bool.{Bool, true, false, cond}
-use Prim.Native.Nat.{ℕ, ◌+◌, ◌/◌, ◌<◌, ◌≤◌}
+use Prim.Native.Nat.{ℕ, ◌+◌, ◌<◌, ◌≤◌}
 use native.Mathlib.Omega.{arith}
-use borrow.Author.Tests.{ltb-true, ltb-false, leb-true, leb-false, le-leb, lt-leb}
+use borrow.Author.Tests.{ltb-true, ltb-false, leb-true, leb-false}
 use lib.Dec.{ltb, leb}
 use Rattle.isa.specs.declared.Opcode.{Opcode}
 use Rattle.std.proofs.Common.{Some, None, Ok, Err}
@@ -11,7 +11,7 @@ use Rattle.isa.specs.declared.Undecoded.TheVariants.{NoOpcode, NoMode}
 use Rattle.isa.specs.Opcodes.{table, opcodes, opcode_of, found_of, count_of}
 use Rattle.isa.specs.Operands.{modes_of, one_of}
 use Rattle.isa.specs.Decoding.{opcode_in, mode1_in, mode2_in, modes_allowed, first_word_read, size_in, allowed_below}
-use Rattle.isa.proofs.Tests.{both_true, and-false}
+use Rattle.isa.proofs.Tests.{both_true}
 use Rattle.isa.proofs.Modes.{mode-present}
 
 known_by : (b : Bool) (x o : Opcode) → cond b (Some x) None ≡ Some o → (b ≡ true) × (x ≡ o)
@@ -30,20 +30,6 @@ found-known n o e = let k = known_by (ltb n 39) (opcode_of n) o e in (ltb-true n
 pub found-unknown : (n : ℕ) → found_of n ≡ None → 39 ≤ n
 unfolding found_of
 found-unknown n e = ltb-false n 39 (unknown_by (ltb n 39) (opcode_of n) e)
-
--- the three outcomes of a first word
-module _ (w : ℕ) where
-  pub opcode-unknown : 2496 ≤ w → first_word_read w ≡ Err NoOpcode
-  unfolding first_word_read
-  opcode-unknown h = rw (le-leb 2496 w h)
-
-  pub mode-unknown : w < 2496 → modes_allowed w ≡ false → first_word_read w ≡ Err NoMode
-  unfolding first_word_read
-  mode-unknown h n = rw (lt-leb 2496 w h, n)
-
-  pub both-known : w < 2496 → modes_allowed w ≡ true → first_word_read w ≡ Ok (opcode_in w)
-  unfolding first_word_read
-  both-known h t = rw (lt-leb 2496 w h, t)
 
 allowed_by : (b c : Bool) (x o : Opcode) → cond b (Err NoOpcode) (cond c (Ok x) (Err NoMode)) ≡ Ok o
     → (b ≡ false) × (c ≡ true) × (x ≡ o)
@@ -75,25 +61,6 @@ module _ (w : ℕ) where
   pub when_no_mode : first_word_read w ≡ Err NoMode → (w < 2496) × (modes_allowed w ≡ false)
   unfolding first_word_read
   when_no_mode e = let k = no_mode_by (leb 2496 w) (modes_allowed w) (opcode_in w) e in (leb-false 2496 w k.0, k.1)
-
--- the same by the opcode that the number in a first word finds
-module _ (w : ℕ) (o : Opcode) (found : found_of (w / 64) ≡ Some o) where
-  pub first_mode_unknown : one_of (modes_of (table o).first) (mode1_in w) ≡ false → first_word_read w ≡ Err NoMode
-  unfolding modes_allowed
-  first_mode_unknown n = let f = found-known (w / 64) o found in mode-unknown w (omega arith) (rw (f.1, n))
-
-  pub second_mode_unknown : one_of (modes_of (table o).second) (mode2_in w) ≡ false → first_word_read w ≡ Err NoMode
-  unfolding modes_allowed
-  second_mode_unknown n =
-      let f = found-known (w / 64) o found in
-      mode-unknown w (omega arith) (rw (f.1, n) (and-false (one_of (modes_of (table o).first) (mode1_in w))))
-
-  pub modes-known : one_of (modes_of (table o).first) (mode1_in w) ≡ true → one_of (modes_of (table o).second) (mode2_in w) ≡ true
-      → first_word_read w ≡ Ok o
-  unfolding modes_allowed
-  modes-known t u =
-      let f = found-known (w / 64) o found in
-      both-known w (omega arith) (rw (f.1, t, u)) ∙ ap Ok f.1
 
 size_by : (p q : Bool) → (1 ≤ 1 + cond p 1 0 + cond q 1 0) × (1 + cond p 1 0 + cond q 1 0 ≤ 3)
 size_by true true = omega arith

@@ -1,11 +1,11 @@
 -- Operands, their modes and their words. Assumes nothing.
 use mathlib.Core.Path.{◌≡◌, refl, sym, ap, ◌∙◌}
-use mathlib.Core.Bool.{Bool, true, false, cond, ◌&&◌, ◌||◌, false≢true}
-use mathlib.Core.List.{List, [], ◌∷◌}
-use Prim.Native.Nat.{ℕ, zero, suc, ◌+◌, ◌<◌, ◌≤◌}
+use mathlib.Core.Bool.{Bool, true, false, cond, false≢true}
+use mathlib.Core.List.{[], ◌∷◌}
+use Prim.Native.Nat.{ℕ, zero, suc, ◌<◌}
 use native.Mathlib.Omega.{arith}
-use borrow.Author.Tests.{lt-ltb, leb-true, leb-false, ne_eqb, eqb-false, not-true}
-use lib.Dec.{ltb, leb, eqb, eqb-suc-zero}
+use borrow.Author.Tests.{lt-ltb, not-true}
+use lib.Dec.{ltb, eqb, eqb-suc-zero}
 use Rattle.isa.specs.declared.Kinds.{Kinds}
 use Rattle.isa.specs.declared.Kinds.TheVariants.{Nothing, Source, Destination, Place, Target}
 use Rattle.isa.specs.declared.Operand.{Operand}
@@ -28,13 +28,6 @@ mode-below (IndexedY d) = omega arith
 mode-below (IndexedSp d) = omega arith
 mode-below (Relative d) = omega arith
 
-pub present_at_most : (k : Kinds) → present_in k ≤ 1
-present_at_most Nothing = omega arith
-present_at_most Source = omega arith
-present_at_most Destination = omega arith
-present_at_most Place = omega arith
-present_at_most Target = omega arith
-
 -- an operand has a word unless it is absent
 pub words-of : (o : Operand) → operand_words o ≡ cond (ltb 0 (mode_of o)) (word_of o ∷ []) []
 words-of Absent = refl
@@ -46,9 +39,6 @@ words-of (IndexedX d) = refl
 words-of (IndexedY d) = refl
 words-of (IndexedSp d) = refl
 words-of (Relative d) = refl
-
-pub no_words : (o : Operand) → mode_of o ≡ 0 → operand_words o ≡ []
-no_words o e = words-of o ∙ ap (λ (n : ℕ). cond (ltb 0 n) (word_of o ∷ []) []) e
 
 pub one_word : (o : Operand) → (mode_of o ≡ 0 → ⊥) → operand_words o ≡ word_of o ∷ []
 one_word o d = words-of o ∙ ap (λ (b : Bool). cond b (word_of o ∷ []) []) (lt-ltb 0 (mode_of o) (omega arith))
@@ -67,37 +57,6 @@ seventh-other Nothing d e = refl
 seventh-other Source d e = refl
 seventh-other Destination d e = refl
 seventh-other Place d e = refl
-
--- k numbers in a row, from a on
-abbrev run : ℕ → ℕ → List ℕ
-run a zero = []
-run a (suc k) = a ∷ run (suc a) k
-
-module _ (m : ℕ) where
-  before-run : (k a : ℕ) → m < a → one_of (run a k) m ≡ false
-  before-run zero a h = refl
-  before-run (suc k) a h = rw (ne_eqb m a (omega arith)) (before-run k (suc a) (omega arith))
-
-  past-run : (k a : ℕ) → a + k ≤ m → one_of (run a k) m ≡ false
-  past-run zero a h = refl
-  past-run (suc k) a h = rw (ne_eqb m a (omega arith)) (past-run k (suc a) (omega arith))
-
-  first_or_rest : (b : Bool) (a : ℕ) (rest : Bool) → eqb m a ≡ b → a ≤ m → (a < m → rest ≡ true) → (b || rest) ≡ true
-  first_or_rest true a rest e h then = refl
-  first_or_rest false a rest e h then = let d = eqb-false m a e in then (omega arith)
-
-  in_run : (k a : ℕ) → a ≤ m → m < a + k → one_of (run a k) m ≡ true
-  in_run zero a h l = absurd (omega arith)
-  in_run (suc k) a h l = first_or_rest (eqb m a) a (one_of (run (suc a) k) m) refl h (λ g. in_run k (suc a) g (omega arith))
-
-  by_ends : (k a : ℕ) (b c : Bool) → leb a m ≡ b → leb m (a + k) ≡ c → one_of (run a (suc k)) m ≡ (b && c)
-  by_ends k a false c e f = before-run (suc k) a (leb-false a m e)
-  by_ends k a true false e f = let g = leb-false m (a + k) f in past-run (suc k) a (omega arith)
-  by_ends k a true true e f = let g = leb-true a m e in let l = leb-true m (a + k) f in in_run (suc k) a g (omega arith)
-
-  -- to be one of k + 1 numbers in a row is to lie between the first and the last
-  pub one_of_run : (k a : ℕ) → one_of (run a (suc k)) m ≡ (leb a m && leb m (a + k))
-  one_of_run k a = by_ends k a (leb a m) (leb m (a + k)) refl refl
 
 -- a mode of a kind's list has a word unless the kind is Nothing
 pub mode-present : (k : Kinds) (mode : ℕ) → one_of (modes_of k) mode ≡ true → words_of_mode mode ≡ present_in k

@@ -23,6 +23,9 @@ use Rattle.isa.proofs.Numbers.{number-below, opcode_of_number, each}
 use Rattle.isa.proofs.Modes.{mode-below, words-of}
 use Rattle.isa.proofs.FirstWords.{size_by_count}
 
+-- the parts of a first word are small
+pub ruleset small_parts = (number-below, mode-below)
+
 -- what it is to be allowed, part by part: a mode of the opcode's list, mode 7 as it is meant there, and registers that are there
 pub record Parts (i : Instruction) : Type 0 where
   pub first-mode : one_of (modes_of (table i.op).first) (mode_of i.first) ≡ true

@@ -45,7 +45,10 @@ fn read_unless(i: Instruction, after: usize) -> Result<Decoded, Undecoded>
     if !register_there(i.first) || !register_there(i.second) {
         return Err(Undecoded::NoRegister);
     }
-    Ok(Decoded { instruction: i, next: Address(after) })
+    Ok(Decoded {
+        instruction: i,
+        next: Address(after),
+    })
 }
 
 // The operands of an opcode whose first word w stands at a place.

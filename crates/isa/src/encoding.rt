@@ -32,6 +32,7 @@ fn laid_out(first: u16, a: Operand, b: Operand) -> Encoded
 }
 
 // The words of an allowed instruction; any other is refused with 5.
+#[tactic(auto, using(crate::proofs::Words::small_parts), unfolding(crate::specs::Encoding::encode_of))]
 pub fn encode(i: Instruction) -> Option<Encoded>
     ensures { answered result ≡ encode_of i }
 {

@@ -17,7 +17,7 @@ pub mod operands; // modes, words, and what an opcode allows
 pub struct Address(pub usize);
 
 // The opcodes, named as the paper names them, in the order of their numbers.
-#[derive(Clone, Copy)]
+#[derive(Clone, Copy, Debug, PartialEq, Eq)]
 pub enum Opcode {
     NOP,
     HALT,
@@ -61,7 +61,7 @@ pub enum Opcode {
 }
 
 // What an opcode lets an operand be.
-#[derive(Clone, Copy)]
+#[derive(Clone, Copy, Debug, PartialEq, Eq)]
 pub enum Kinds {
     Nothing,
     Source,
@@ -71,7 +71,7 @@ pub enum Kinds {
 }
 
 // An operand, with its word: value, address, displacement or register code.
-#[derive(Clone, Copy)]
+#[derive(Clone, Copy, Debug, PartialEq, Eq)]
 pub enum Operand {
     Absent,
     Immediate(u16),
@@ -85,7 +85,7 @@ pub enum Operand {
 }
 
 // An opcode with its operands.
-#[derive(Clone, Copy)]
+#[derive(Clone, Copy, Debug, PartialEq, Eq)]
 pub struct Instruction {
     pub op: Opcode,
     pub first: Operand,
@@ -93,7 +93,7 @@ pub struct Instruction {
 }
 
 // An opcode's row of the table.
-#[derive(Clone, Copy)]
+#[derive(Clone, Copy, Debug, PartialEq, Eq)]
 pub struct Row {
     pub number: u16,
     pub first: Kinds,
@@ -101,7 +101,7 @@ pub struct Row {
 }
 
 // The encoder's words.
-#[derive(Clone, Copy)]
+#[derive(Clone, Copy, Debug, PartialEq, Eq)]
 pub enum Encoded {
     One(u16),
     Two(u16, u16),
@@ -109,7 +109,7 @@ pub enum Encoded {
 }
 
 // An instruction that was decoded, with the address after it.
-#[derive(Clone, Copy)]
+#[derive(Clone, Copy, Debug, PartialEq, Eq)]
 pub struct Decoded {
     pub instruction: Instruction,
     pub next: Address,

@@ -7,7 +7,11 @@ use super::{Kinds, Opcode, Row};
 fn made(number: u16, first: Kinds, second: Kinds) -> Row
     ensures { result ≡ record { number = number; first = first; second = second } }
 {
-    Row { number, first, second }
+    Row {
+        number,
+        first,
+        second,
+    }
 }
 
 // An opcode's number and what its operands may be.

@@ -3,46 +3,12 @@ use mathlib.Core.Path.{sym, ap, ◌∙◌}
 use Prim.Native.Nat.{ℕ, ◌+◌, ◌*◌}
 use native.Mathlib.Omega.{arith}
 use Rattle.isa.specs.declared.Row.{Row}
-use Rattle.isa.specs.Encoding.{first_word_of, encode_of, answered}
+use Rattle.isa.specs.Encoding.{first_word_of, answered}
 use Rattle.isa.proofs.Words.{encoded}
-use Rattle.isa.proofs.Modes.{mode-below}
-use Rattle.isa.proofs.Numbers.{number-below}
 use Rattle.isa.proofs.encoding.encode.Goals as goal
 
 abbrev number : Row → ℕ
 number r = r.number
-
-pub returns-then-not-is_allowed : goal.returns-then-not-is_allowed
-unfolding encode_of
-returns-then-not-is_allowed c = rw (← c.is_allowed.ensures, c.if-not-is_allowed.true)
-
-pub overflow_mul-its : goal.overflow_mul-its
-overflow_mul-its c = omega (arith, ap number c.row-its.ensures, number-below c.args.i.op)
-
-pub overflow_mul-mode : goal.overflow_mul-mode
-overflow_mul-mode c = omega (arith, c.mode.ensures, mode-below c.args.i.first)
-
-pub overflow_add-its : goal.overflow_add-its
-overflow_add-its c =
-    omega (
-      arith,
-      ap number c.row-its.ensures,
-      number-below c.args.i.op,
-      c.mode.ensures,
-      mode-below c.args.i.first,
-    )
-
-pub overflow_add-its-2 : goal.overflow_add-its-2
-overflow_add-its-2 c =
-    omega (
-      arith,
-      ap number c.row-its.ensures,
-      number-below c.args.i.op,
-      c.mode.ensures,
-      mode-below c.args.i.first,
-      c.mode-2.ensures,
-      mode-below c.args.i.second,
-    )
 
 pub returns : goal.returns
 unfolding first_word_of
