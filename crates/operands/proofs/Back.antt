@@ -171,4 +171,4 @@ module _ (i : Instruction) (t : allowed i ≡ true) where
   judged-back h k =
       judged-fitting i.op (written_in i) fits-back
       ∙ rw (first_back, second_back, word_back i.first h, word_back i.second k)
-      (ap₂ (Ok (record { first = (given_back i.first); second = (given_back i.second) })))
+      (ap₂ (λ (a b : Given). Ok (record { first = a; second = b })) (given_back i.first) (given_back i.second))

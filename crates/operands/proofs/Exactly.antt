@@ -1,5 +1,4 @@
 -- What is answered exactly when: each answer from a reading of the row, and back. Top.antt restates these.
-use Rattle.expressions.specs.Places.{Found}
 use Prim.Native.Nat.{ℕ, suc}
 use mathlib.Core.Bool.{Bool, true, false, cond, ◌&&◌}
 use mathlib.Core.List.{List}
@@ -227,7 +226,7 @@ module _ (line : List ℕ) (ts : List Token) where
     pub accepted-back : {a b : Given} → Accepted a b → instruction_read line op ts ≡ Ok (record { first = a; second = b })
     accepted-back h =
         with-reading (reads-exactly.1 h.reading) ∙ judged-fitting op h.operands h.fitting
-        ∙ rw (h.first_in_range, h.second_in_range) (ap₂ (Ok (record { first = (sym h.first-given); second = (sym h.second-given) })))
+        ∙ rw (h.first_in_range, h.second_in_range) (ap₂ (λ (a b : Given). Ok (record { first = a; second = b })) (sym h.first-given) (sym h.second-given))
 
     pub miscounted-back : Miscounted → instruction_read line op ts ≡ Err WrongCount
     miscounted-back h = with-reading (reads-exactly.1 h.reading) ∙ judged-miscounted op h.operands h.miscounted

@@ -96,23 +96,3 @@ module _ (op : Opcode) (all : FirstTwo) {n : ℕ} (counts : n ≡ count_of op) w
           → r ≡ judged_listed op all
       unfolding judged_listed
       both_fit e f = rw (counted, first-allowed ∙ fitting, second-allowed ∙ e) f
-
-pub given_is : (o : Written) (w : ℕ) {x : Operand} {l : Option Name} → x ≡ operand_with o w → l ≡ label_in o → record { operand = x; label = l } ≡ given o w
-given_is o w p q = rw (p, q)
-
-module _ (a b : Written) {k : Option ℕ} (first : k ≡ word_of a) where
-  pub first_out : k ≡ None → Err OutOfRange ≡ ranged a (word_of a) b (word_of b)
-  first_out e = let p : word_of a ≡ None = sym first ∙ e in rw p
-
-  module _ {l : Option ℕ} {x : ℕ} (second : l ≡ word_of b) (cell : k ≡ Some x) where
-    pub second-out : l ≡ None → Err OutOfRange ≡ ranged a (word_of a) b (word_of b)
-    second-out e =
-        let p : word_of a ≡ Some x = sym first ∙ cell in
-        let q : word_of b ≡ None = sym second ∙ e in
-        rw (p, q)
-
-    pub cells : {y : ℕ} {g h : Given} → l ≡ Some y → g ≡ given a x → h ≡ given b y → Ok (record { first = g; second = h }) ≡ ranged a (word_of a) b (word_of b)
-    cells {y} e f d =
-        let p : word_of a ≡ Some x = sym first ∙ cell in
-        let q : word_of b ≡ Some y = sym second ∙ e in
-        rw (p, q) (ap₂ (Ok (record { first = f; second = d })))

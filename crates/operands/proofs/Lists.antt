@@ -3,6 +3,7 @@ use Prim.Native.Nat.{ℕ, ◌≤◌, ◌<◌}
 use Prim.Native.Char.{code}
 use mathlib.Core.Bool.{Bool, true, false, cond}
 use mathlib.Core.List.{List, []}
+use mathlib.Core.Logic.{◌⊎◌, inl, inr}
 use mathlib.Core.Path.{◌≡◌, refl, sym, ap, subst, ◌∙◌}
 use native.Mathlib.Omega.{arith}
 use lib.Dec.{eqb}
@@ -22,7 +23,7 @@ use Rattle.values.proofs.Walks.{finished}
 use Rattle.operands.specs.Reading.{operand, done, RowRead, reads, wrong, cons, finish, step, walk, operands_of}
 use Rattle.operands.specs.Inner.Peeks.{Goes, keep, keep_all, none_listed, listed}
 use Rattle.std.proofs.Common.{Some, None}
-use Rattle.numerals.specs.Reading.{upto}
+use Rattle.numerals.specs.declared.Read.{Read}
 use Rattle.operands.specs.declared.FirstTwo.{FirstTwo}
 use Rattle.operands.specs.declared.Written.{Written}
 
@@ -42,37 +43,32 @@ module _ (s : List ℕ) (at : ℕ) where
   unfolding walk
   done-turn o = finished operand (step s) finish s at (done o) o refl refl
 
-  -- no operands, or some
+  -- the line's end and no operands, or neither
   abbrev Row : Follows → Type 0
-  Row Over = tokens_from s at ≡ []
-  Row Neither = operands_of s (tokens_from s at) ≡ walk s operand (tokens_from s at)
-  Row (Comma c) = operands_of s (tokens_from s at) ≡ walk s operand (tokens_from s at)
+  Row x = ((x ≡ Over) × (tokens_from s at ≡ [])) ⊎ ((x ≡ Over → ⊥) × (operands_of s (tokens_from s at) ≡ walk s operand (tokens_from s at)))
 
   row : Row (follows_of (token_at s at))
   unfolding operands_of
   row = go (token_at s at).kind refl
     where
       go : (k : Kind) → (token_at s at).kind ≡ k → Row (follows_by k (token_at s at).next)
-      go K.End q = row_of s at q
-      go K.Stray q = rw (row_of s at q)
-      go K.Word q = rw (row_of s at q)
-      go (K.Number v k) q = rw (row_of s at q)
-      go K.Text q = rw (row_of s at q)
-      go (K.Mark b) q = mark (eqb b (code ","))
+      go K.End q = inl (refl, row_of s at q)
+      go K.Stray q = inr (λ e. (cc), rw (row_of s at q))
+      go K.Word q = inr (λ e. (cc), rw (row_of s at q))
+      go (K.Number v k) q = inr (λ e. (cc), rw (row_of s at q))
+      go K.Text q = inr (λ e. (cc), rw (row_of s at q))
+      go (K.Mark b) q = inr (mark (eqb b (code ",")), rw (row_of s at q))
         where
-          mark : (y : Bool) → Row (cond y (Comma (token_at s at).next) Neither)
-          mark true = rw (row_of s at q)
-          mark false = rw (row_of s at q)
+          mark : (y : Bool) → cond y (Comma (token_at s at).next) Neither ≡ Over → ⊥
+          mark true e = cc
+          mark false e = cc
 
   pub none_at : follows_of (token_at s at) ≡ Over → listed none_listed (operands_of s (tokens_from s at)) ≡ Some none_listed
   unfolding operands_of keep_all
-  none_at e = let h : tokens_from s at ≡ [] = subst Row e row in ap (λ (l : List Token). listed none_listed (operands_of s l)) h
+  none_at e = elim row [ inl h ↦ ap (λ (l : List Token). listed none_listed (operands_of s l)) h.1 | inr h ↦ absurd (h.0 e) ]
 
-  pub neither_at : follows_of (token_at s at) ≡ Neither → operands_of s (tokens_from s at) ≡ walk s operand (tokens_from s at)
-  neither_at e = subst Row e row
-
-  pub comma_at : {c : Cursor} → follows_of (token_at s at) ≡ Comma c → operands_of s (tokens_from s at) ≡ walk s operand (tokens_from s at)
-  comma_at e = subst Row e row
+  pub some_at : (follows_of (token_at s at) ≡ Over → ⊥) → operands_of s (tokens_from s at) ≡ walk s operand (tokens_from s at)
+  some_at h = elim row [ inl e ↦ absurd (h e.0) | inr e ↦ e.1 ]
 
 -- ---- one turn
 
@@ -80,22 +76,22 @@ module _ (s : List ℕ) (all : FirstTwo) (at : ℕ) where
   pub some-wrong : Goes s operand at None → listed all (walk s operand (tokens_from s at)) ≡ None
   some-wrong g = ap (λ (r : RowRead). listed all r) g.same
 
-  module _ {o : Written} {c : Cursor} (g : Goes s operand at (Some (upto o c))) where
-    turned : {x : Follows} → follows_of (token_at s c.at) ≡ x → listed all (walk s operand (tokens_from s at)) ≡ listed all (follows_on s o x)
-    turned e = ap (λ (r : RowRead). listed all r) (g.same ∙ done-turn s c.at o ∙ ap (follows_on s o) e)
+  module _ {r : Read Written} (g : Goes s operand at (Some r)) where
+    turned : {x : Follows} → follows_of (token_at s r.next.at) ≡ x → listed all (walk s operand (tokens_from s at)) ≡ listed all (follows_on s r.value x)
+    turned e = ap (λ (r : RowRead). listed all r) (g.same ∙ done-turn s r.next.at r.value ∙ ap (follows_on s r.value) e)
 
-    pub some-over : follows_of (token_at s c.at) ≡ Over → listed all (walk s operand (tokens_from s at)) ≡ Some (keep all o)
+    pub some-over : follows_of (token_at s r.next.at) ≡ Over → listed all (walk s operand (tokens_from s at)) ≡ Some (keep all r.value)
     unfolding keep_all
     some-over e = turned e
 
-    pub some-neither : follows_of (token_at s c.at) ≡ Neither → listed all (walk s operand (tokens_from s at)) ≡ None
+    pub some-neither : follows_of (token_at s r.next.at) ≡ Neither → listed all (walk s operand (tokens_from s at)) ≡ None
     some-neither e = turned e
 
-    pub some-comma : {m : Cursor} {more : FirstTwo} → more ≡ keep all o → follows_of (token_at s c.at) ≡ Comma m
+    pub some-comma : {m : Cursor} {more : FirstTwo} → more ≡ keep all r.value → follows_of (token_at s r.next.at) ≡ Comma m
         → (listed all (walk s operand (tokens_from s at)) ≡ listed more (walk s operand (tokens_from s m.at))) × (at < m.at) × (m.at ≤ length s)
     unfolding walk
     some-comma {m} {more} q e =
-        let h = comma-moves s c.at e in
-        let r = walk s operand (tokens_from s m.at) in
-        let l : at ≤ c.at = g.on in
-        (turned e ∙ listed_cons all o r ∙ ap (λ (y : FirstTwo). listed y r) (sym q), omega (arith, h.0), h.1)
+        let h = comma-moves s r.next.at e in
+        let rest = walk s operand (tokens_from s m.at) in
+        let l : at ≤ r.next.at = g.on in
+        (turned e ∙ listed_cons all r.value rest ∙ ap (λ (y : FirstTwo). listed y rest) (sym q), omega (arith, h.0), h.1)

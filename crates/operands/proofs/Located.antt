@@ -12,7 +12,7 @@ use borrow.Author.Tests.{eq-eqb, ne_eqb}
 use Rattle.numerals.specs.Numbers.{kept_of}
 use Rattle.numerals.specs.declared.Cursor.{Cursor}
 use Rattle.std.proofs.Common.{Option, Some, None}
-use Rattle.numerals.specs.Reading.{upto}
+use Rattle.numerals.specs.declared.Read.{Read}
 use Rattle.numerals.specs.declared.Numeral.{Numeral}
 use Rattle.tokens.specs.Marks.{IsMark, mark_by, mark_of}
 use Rattle.tokens.specs.Reading.{token_at, after_kind, tokens_within, tokens_from}
@@ -40,31 +40,43 @@ use Rattle.operands.proofs.Turns.{mark-row}
 
 -- ---- what the code finds
 
-abbrev pub start_by : Kind → ℕ → ℕ
-start_by K.End p = 0
-start_by K.Stray p = p
-start_by K.Word p = p
-start_by (K.Number v k) p = p
-start_by K.Text p = p
-start_by (K.Mark b) p = p
-
-start-by : (k : Kind) (t : Token) (rest : ℕ → List Token) → start_by k t.start ≡ start_of (after_kind k t rest)
+start-after : (k : Kind) (t : Token) (rest : ℕ → List Token) → (k ≡ K.End → ⊥) → t.start ≡ start_of (after_kind k t rest)
 unfolding start_of
-start-by K.End t rest = refl
-start-by K.Stray t rest = refl
-start-by K.Word t rest = refl
-start-by (K.Number v k) t rest = refl
-start-by K.Text t rest = refl
-start-by (K.Mark b) t rest = refl
+start-after K.End t rest h = absurd (h refl)
+start-after K.Stray t rest h = refl
+start-after K.Word t rest h = refl
+start-after (K.Number v k) t rest h = refl
+start-after K.Text t rest h = refl
+start-after (K.Mark b) t rest h = refl
 
 -- what is left to search behind a token
-abbrev pub passed_by : List ℕ → Kind → ℕ → List Token
+abbrev passed_by : List ℕ → Kind → ℕ → List Token
 passed_by s K.End next = []
 passed_by s K.Stray next = []
 passed_by s K.Word next = after_comma (tokens_from s next)
 passed_by s (K.Number v k) next = after_comma (tokens_from s next)
 passed_by s K.Text next = after_comma (tokens_from s next)
 passed_by s (K.Mark b) next = cond (eqb b (code ",")) (tokens_from s next) (after_comma (tokens_from s next))
+
+-- a token behind which the search for a comma goes on
+abbrev pub GoesOn : Kind → Type 0
+GoesOn K.End = ⊥
+GoesOn K.Stray = ⊥
+GoesOn K.Word = Unit
+GoesOn (K.Number v k) = Unit
+GoesOn K.Text = Unit
+GoesOn (K.Mark b) = b ≡ code "," → ⊥
+
+pub mark_goes_on : {k : Kind} {b : ℕ} → k ≡ K.Mark b → (b ≡ code "," → ⊥) → GoesOn k
+mark_goes_on e h = subst GoesOn (sym e) h
+
+pub other_goes_on : (k : Kind) → (k ≡ K.End → ⊥) → (k ≡ K.Stray → ⊥) → ((b : ℕ) → k ≡ K.Mark b → ⊥) → GoesOn k
+other_goes_on K.End e t m = e refl
+other_goes_on K.Stray e t m = t refl
+other_goes_on K.Word e t m = tt
+other_goes_on (K.Number v k) e t m = tt
+other_goes_on K.Text e t m = tt
+other_goes_on (K.Mark b) e t m = absurd (m b refl)
 
 module _ (s : List ℕ) (at : ℕ) where
   passed-by : (k : Kind) → (token_at s at).kind ≡ k → after_comma (tokens_from s at) ≡ passed_by s k (token_at s at).next.at
@@ -76,42 +88,57 @@ module _ (s : List ℕ) (at : ℕ) where
   passed-by K.Text q = rw (row_of s at q, q)
   passed-by (K.Mark b) q = rw (row_of s at q, q)
 
-  module _ {t : Token} (its : t ≡ token_at s at) {k : Kind} (kind : t.kind ≡ k) where
-    its-kind : (token_at s at).kind ≡ k
-    its-kind = ap (λ (u : Token). u.kind) (sym its) ∙ kind
+  -- behind such a token is what is behind the first comma, and it lies further on in the line
+  abbrev Turn : ℕ → Type 0
+  Turn next = (after_comma (tokens_from s at) ≡ after_comma (tokens_from s next)) × (at < next) × (next ≤ length s)
 
-    pub token-starts : start_by k t.start ≡ start_of (tokens_from s at)
-    token-starts =
-        ap (λ (u : Token). start_by k u.start) its ∙ start-by k (token_at s at) (tokens_from s) ∙ ap start_of (sym (row_of s at its-kind))
+  turn-by : (k : Kind) → (token_at s at).kind ≡ k → GoesOn k → Turn (token_at s at).next.at
+  turn-by K.End q g = absurd g
+  turn-by K.Stray q g = absurd g
+  turn-by K.Word q g = let e = ends_of s at q in (passed-by K.Word q, omega (arith, (token_placed s at).starts), e.1)
+  turn-by (K.Number v k) q g = let e = ends_of s at q in (passed-by (K.Number v k) q, omega (arith, (token_placed s at).starts), e.1)
+  turn-by K.Text q g = let e = ends_of s at q in (passed-by K.Text q, omega (arith, (token_placed s at).starts), e.1)
+  turn-by (K.Mark b) q g =
+      let e = ends_of s at q in
+      (passed-by (K.Mark b) q ∙ rw (ne_eqb b (code ",") g), omega (arith, (token_placed s at).starts), e.1)
 
-    pub passed : after_comma (tokens_from s at) ≡ passed_by s k t.next.at
-    passed = passed-by k its-kind ∙ ap (λ (u : Token). passed_by s k u.next.at) (sym its)
+  module _ {t : Token} (its : t ≡ token_at s at) where
+    its-kind : {k : Kind} → t.kind ≡ k → (token_at s at).kind ≡ k
+    its-kind kind = ap (λ (u : Token). u.kind) (sym its) ∙ kind
 
-    pub moves : (at ≤ t.start) × EndsAt k (length s) t.start t.next.at
-    moves =
-        subst (λ (u : Token). (at ≤ u.start) × EndsAt k (length s) u.start u.next.at) (sym its) ((token_placed s at).starts, ends_of s at its-kind)
+    passed : {k : Kind} → t.kind ≡ k → after_comma (tokens_from s at) ≡ passed_by s k t.next.at
+    passed {k} kind = passed-by k (its-kind kind) ∙ ap (λ (u : Token). passed_by s k u.next.at) (sym its)
 
-  -- the line's end has no comma before it
-  pub over : {t : Token} → t ≡ token_at s at → t.kind ≡ K.End → tokens_from s at ≡ after_comma (tokens_from s at)
-  over its kind = row_of s at (its-kind its kind) ∙ sym (passed its kind)
+    -- where the row starts
+    pub token-starts : (t.kind ≡ K.End → ⊥) → t.start ≡ start_of (tokens_from s at)
+    token-starts h =
+        let e = start-after t.kind t (tokens_from s) h in
+        e ∙ ap (λ (u : Token). start_of (after_kind u.kind u (tokens_from s))) its ∙ ap start_of (sym (row_of s at refl))
 
-  pub stray : {t : Token} → t ≡ token_at s at → t.kind ≡ K.Stray → tokens_from s (length s) ≡ after_comma (tokens_from s at)
-  unfolding tokens_from tokens_within
-  stray its kind =
-      let z : length s - length s ≡ 0 = omega arith in
-      ap (λ (n : ℕ). tokens_within n s (length s)) z ∙ sym (passed its kind)
+    pub none-starts : t.kind ≡ K.End → 0 ≡ start_of (tokens_from s at)
+    unfolding start_of
+    none-starts kind = ap start_of (sym (row_of s at (its-kind kind)))
 
-  pub at-comma : {t : Token} {b : ℕ} → t ≡ token_at s at → t.kind ≡ K.Mark b → b ≡ code "," → tokens_from s t.next.at ≡ after_comma (tokens_from s at)
-  at-comma {t} {b} its kind e = sym (passed its kind ∙ rw (eq-eqb b (code ",") e))
+    -- the line's end has no comma before it
+    pub over : t.kind ≡ K.End → tokens_from s at ≡ after_comma (tokens_from s at)
+    over kind = row_of s at (its-kind kind) ∙ sym (passed kind)
 
-  pub past-mark : {t : Token} {b : ℕ} → t ≡ token_at s at → t.kind ≡ K.Mark b → (b ≡ code "," → ⊥)
-      → after_comma (tokens_from s at) ≡ after_comma (tokens_from s t.next.at)
-  past-mark {t} {b} its kind e = passed its kind ∙ rw (ne_eqb b (code ",") e)
+    pub stray : t.kind ≡ K.Stray → tokens_from s (length s) ≡ after_comma (tokens_from s at)
+    unfolding tokens_from tokens_within
+    stray kind =
+        let z : length s - length s ≡ 0 = omega arith in
+        ap (λ (n : ℕ). tokens_within n s (length s)) z ∙ sym (passed kind)
+
+    pub at-comma : {b : ℕ} → t.kind ≡ K.Mark b → b ≡ code "," → tokens_from s t.next.at ≡ after_comma (tokens_from s at)
+    at-comma {b} kind e = sym (passed kind ∙ rw (eq-eqb b (code ",") e))
+
+    pub turn : GoesOn t.kind → Turn t.next.at
+    turn g = subst (λ (u : Token). GoesOn u.kind → Turn u.next.at) (sym its) (turn-by (token_at s at).kind refl) g
 
   -- behind a mark
-  pub behind-mark : {b : ℕ} {c : Cursor} → mark_of (token_at s at) ≡ Some (upto b c) → number_start_in (tokens_from s at) ≡ start_of (tokens_from s c.at)
+  pub behind-mark : {r : Read ℕ} → mark_of (token_at s at) ≡ Some r → number_start_in (tokens_from s at) ≡ start_of (tokens_from s r.next.at)
   unfolding number_start_in
-  behind-mark {b} {c} e = let h = mark-row s at b c e in rw (h.0, h.1)
+  behind-mark {r} e = let h = mark-row s at r e in rw (h.0, h.1)
 
   pub no_mark : mark_of (token_at s at) ≡ None → 0 ≡ number_start_in (tokens_from s at)
   unfolding number_start_in

@@ -259,7 +259,7 @@ module _ (line line' : List ℕ) where
       pick true h g = h
       pick false h g = g
 
-  form-alike : (op : Opcode) {r r' : W.Result} → AlikeResult AlikeWritten r r' → AlikeRead (judged_form op r) (judged_form op r')
+  form-alike : (op : Opcode) {r r' : W.RowRead} → AlikeResult AlikeWritten r r' → AlikeRead (judged_form op r) (judged_form op r')
   form-alike op (reads l) = judged-alike op l
   form-alike op wrong = wrong-form
 

@@ -52,32 +52,34 @@ module _ (s : List ℕ) (at : ℕ) where
 
   -- ---- marks
 
-  marked : (k : Kind) (b : ℕ) (c n : Cursor) → mark_by k n ≡ Some (upto b c) → (k ≡ K.Mark b) × (n ≡ c)
-  marked K.End b c n e = let z : ◌≡◌ {A = ℕ} 0 1 = cc in absurd (omega arith)
-  marked K.Stray b c n e = let z : ◌≡◌ {A = ℕ} 0 1 = cc in absurd (omega arith)
-  marked K.Word b c n e = let z : ◌≡◌ {A = ℕ} 0 1 = cc in absurd (omega arith)
-  marked (K.Number v h) b c n e = let z : ◌≡◌ {A = ℕ} 0 1 = cc in absurd (omega arith)
-  marked K.Text b c n e = let z : ◌≡◌ {A = ℕ} 0 1 = cc in absurd (omega arith)
-  marked (K.Mark x) b c n e = let y : x ≡ b = cc in (ap K.Mark y, cc)
+  marked : (k : Kind) (n : Cursor) (r : Read ℕ) → mark_by k n ≡ Some r → (k ≡ K.Mark r.value) × (n ≡ r.next)
+  marked K.End n r e = let z : ◌≡◌ {A = ℕ} 0 1 = cc in absurd (omega arith)
+  marked K.Stray n r e = let z : ◌≡◌ {A = ℕ} 0 1 = cc in absurd (omega arith)
+  marked K.Word n r e = let z : ◌≡◌ {A = ℕ} 0 1 = cc in absurd (omega arith)
+  marked (K.Number v h) n r e = let z : ◌≡◌ {A = ℕ} 0 1 = cc in absurd (omega arith)
+  marked K.Text n r e = let z : ◌≡◌ {A = ℕ} 0 1 = cc in absurd (omega arith)
+  marked (K.Mark x) n r e =
+      let q : upto x n ≡ r = cc in
+      (ap (λ (r : Read ℕ). K.Mark r.value) q, ap (λ (r : Read ℕ). r.next) q)
 
   -- a mark: the row is it and the row after it
-  pub mark-row : (b : ℕ) (c : Cursor) → mark_of (token_at s at) ≡ Some (upto b c)
-      → (tokens_from s at ≡ token_at s at ∷ tokens_from s c.at) × ((token_at s at).kind ≡ K.Mark b) × (at < c.at) × (c.at ≤ length s)
-  mark-row b c e =
-      let m = marked (token_at s at).kind b c (token_at s at).next e in
-      let q : (token_at s at).next.at ≡ c.at = ap (λ (x : Cursor). x.at) m.1 in
+  pub mark-row : (r : Read ℕ) → mark_of (token_at s at) ≡ Some r
+      → (tokens_from s at ≡ token_at s at ∷ tokens_from s r.next.at) × ((token_at s at).kind ≡ K.Mark r.value) × (at < r.next.at) × (r.next.at ≤ length s)
+  mark-row r e =
+      let m = marked (token_at s at).kind (token_at s at).next r e in
+      let q : (token_at s at).next.at ≡ r.next.at = ap (λ (x : Cursor). x.at) m.1 in
       let g = ends_of s at m.0 in
       let p = (token_placed s at).starts in
       (row_of s at m.0 ∙ ap (λ (n : ℕ). token_at s at ∷ tokens_from s n) q, m.0, omega arith, omega arith)
 
   module _ (st : State) (f : ℕ → Step) (p : (u : Token) → step s st u ≡ on_mark halt f u.kind) where
-    pub on-mark : (b : ℕ) (c : Cursor) → mark_of (token_at s at) ≡ Some (upto b c)
-        → walk s st (tokens_from s at) ≡ stepped (f b) (λ x. walk s x (tokens_from s c.at))
+    pub on-mark : (r : Read ℕ) → mark_of (token_at s at) ≡ Some r
+        → walk s st (tokens_from s at) ≡ stepped (f r.value) (λ x. walk s x (tokens_from s r.next.at))
     unfolding walk
-    on-mark b c e =
-        let h = mark-row b c e in
-        let q : step s st (token_at s at) ≡ f b = p (token_at s at) ∙ ap (λ (k : Kind). on_mark halt f k) h.1 in
-        rw h.0 (ap (λ (x : Step). stepped x (λ y. walk s y (tokens_from s c.at))) q)
+    on-mark r e =
+        let h = mark-row r e in
+        let q : step s st (token_at s at) ≡ f r.value = p (token_at s at) ∙ ap (λ (k : Kind). on_mark halt f k) h.1 in
+        rw h.0 (ap (λ (x : Step). stepped x (λ y. walk s y (tokens_from s r.next.at))) q)
 
     -- no mark, where only a mark may be
     pub off_mark : finish st ≡ wrong → mark_of (token_at s at) ≡ None → walk s st (tokens_from s at) ≡ wrong
@@ -93,31 +95,35 @@ module _ (s : List ℕ) (at : ℕ) where
 
   -- ---- words, and registers' names
 
-  named_is : (k : Kind) (r x : ℕ) (c n : Cursor) → register_by r k n ≡ Some (upto x c) → (k ≡ K.Word) × (r ≡ x) × (n ≡ c) × (is_register x ≡ true)
-  named_is K.End r x c n e = let z : ◌≡◌ {A = ℕ} 0 1 = cc in absurd (omega arith)
-  named_is K.Stray r x c n e = let z : ◌≡◌ {A = ℕ} 0 1 = cc in absurd (omega arith)
-  named_is K.Word r x c n e = go (is_register r) refl e
+  named_is : (k : Kind) (x : ℕ) (n : Cursor) (r : Read ℕ) → register_by x k n ≡ Some r
+      → (k ≡ K.Word) × (x ≡ r.value) × (n ≡ r.next) × (is_register r.value ≡ true)
+  named_is K.End x n r e = let z : ◌≡◌ {A = ℕ} 0 1 = cc in absurd (omega arith)
+  named_is K.Stray x n r e = let z : ◌≡◌ {A = ℕ} 0 1 = cc in absurd (omega arith)
+  named_is K.Word x n r e = go (is_register x) refl e
     where
-      go : (b : Bool) → is_register r ≡ b → cond b (Some (upto r n)) None ≡ Some (upto x c)
-          → (K.Word ≡ K.Word) × (r ≡ x) × (n ≡ c) × (is_register x ≡ true)
-      go true q e = let y : r ≡ x = cc in (refl, y, cc, ap is_register (sym y) ∙ q)
+      go : (b : Bool) → is_register x ≡ b → cond b (Some (upto x n)) None ≡ Some r
+          → (K.Word ≡ K.Word) × (x ≡ r.value) × (n ≡ r.next) × (is_register r.value ≡ true)
+      go true q e =
+          let w : upto x n ≡ r = cc in
+          let y : x ≡ r.value = ap (λ (r : Read ℕ). r.value) w in
+          (refl, y, ap (λ (r : Read ℕ). r.next) w, ap is_register (sym y) ∙ q)
       go false q e = let z : ◌≡◌ {A = ℕ} 0 1 = cc in absurd (omega arith)
-  named_is (K.Number v h) r x c n e = let z : ◌≡◌ {A = ℕ} 0 1 = cc in absurd (omega arith)
-  named_is K.Text r x c n e = let z : ◌≡◌ {A = ℕ} 0 1 = cc in absurd (omega arith)
-  named_is (K.Mark b) r x c n e = let z : ◌≡◌ {A = ℕ} 0 1 = cc in absurd (omega arith)
+  named_is (K.Number v h) x n r e = let z : ◌≡◌ {A = ℕ} 0 1 = cc in absurd (omega arith)
+  named_is K.Text x n r e = let z : ◌≡◌ {A = ℕ} 0 1 = cc in absurd (omega arith)
+  named_is (K.Mark b) x n r e = let z : ◌≡◌ {A = ℕ} 0 1 = cc in absurd (omega arith)
 
   module _ (st : State) (f : ℕ → Step) (p : (u : Token) → step s st u ≡ on_word (f (code_at s u)) u.kind) where
-    pub on_name : (x : ℕ) (c : Cursor) → register_of s (token_at s at) ≡ Some (upto x c)
-        → (walk s st (tokens_from s at) ≡ stepped (f x) (λ y. walk s y (tokens_from s c.at))) × (at < c.at) × (is_register x ≡ true)
+    pub on_name : (r : Read ℕ) → register_of s (token_at s at) ≡ Some r
+        → (walk s st (tokens_from s at) ≡ stepped (f r.value) (λ y. walk s y (tokens_from s r.next.at))) × (at < r.next.at) × (is_register r.value ≡ true)
     unfolding walk
-    on_name x c e =
-        let m = named_is (token_at s at).kind (code_at s (token_at s at)) x c (token_at s at).next e in
-        let q : (token_at s at).next.at ≡ c.at = ap (λ (y : Cursor). y.at) m.2 in
-        let w : tokens_from s at ≡ token_at s at ∷ tokens_from s c.at = row_of s at m.0 ∙ ap (λ (n : ℕ). token_at s at ∷ tokens_from s n) q in
+    on_name r e =
+        let m = named_is (token_at s at).kind (code_at s (token_at s at)) (token_at s at).next r e in
+        let q : (token_at s at).next.at ≡ r.next.at = ap (λ (y : Cursor). y.at) m.2 in
+        let w : tokens_from s at ≡ token_at s at ∷ tokens_from s r.next.at = row_of s at m.0 ∙ ap (λ (n : ℕ). token_at s at ∷ tokens_from s n) q in
         let g = ends_of s at m.0 in
         let l = (token_placed s at).starts in
-        let z : step s st (token_at s at) ≡ f x = p (token_at s at) ∙ ap (λ (k : Kind). on_word (f (code_at s (token_at s at))) k) m.0 ∙ ap f m.1 in
-        (rw w (ap (λ (y : Step). stepped y (λ y. walk s y (tokens_from s c.at))) z), omega arith, m.3)
+        let z : step s st (token_at s at) ≡ f r.value = p (token_at s at) ∙ ap (λ (k : Kind). on_word (f (code_at s (token_at s at))) k) m.0 ∙ ap f m.1 in
+        (rw w (ap (λ (y : Step). stepped y (λ y. walk s y (tokens_from s r.next.at))) z), omega arith, m.3)
 
     -- no register's name, where only one may be
     pub off_name : finish st ≡ wrong → ((r : ℕ) → is_register r ≡ false → f r ≡ halt) → register_of s (token_at s at) ≡ None

@@ -96,7 +96,7 @@ abbrev pub given : Written → ℕ → Given
 given o w = record { operand = operand_with o w; label = label_in o }
 
 abbrev pub ranged : Written → Option ℕ → Written → Option ℕ → Result Operands OperandsFault
-ranged a (Some x) b (Some y) = Ok (record { first = (given a x); second = (given b y) })
+ranged a (Some x) b (Some y) = Ok (record { first = given a x; second = given b y })
 ranged a (Some x) b None = Err OutOfRange
 ranged a None b k = Err OutOfRange
 

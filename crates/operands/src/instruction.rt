@@ -25,44 +25,30 @@ fn given_with(o: Written, word: u16) -> Given
 fn in_range(a: Written, b: Written) -> Result<Operands, OperandsFault>
     ensures { result ≡ ranged a (word_of a) b (word_of b) }
 {
-    let first = word_of(a);
-    let second = word_of(b);
-    match first {
-        Some(x) => match second {
-            Some(y) => Ok(Operands { first: given_with(a, x), second: given_with(b, y) }),
-            None => Err(OperandsFault::OutOfRange),
-        },
-        None => Err(OperandsFault::OutOfRange),
-    }
+    let x = word_of(a).ok_or(OperandsFault::OutOfRange)?;
+    let y = word_of(b).ok_or(OperandsFault::OutOfRange)?;
+    Ok(Operands { first: given_with(a, x), second: given_with(b, y) })
 }
 
 // Number (15) before kinds (16), the first operand's before the second's, and kinds before ranges (6).
 fn judge(op: Opcode, all: FirstTwo) -> Result<Operands, OperandsFault>
     ensures { result ≡ judged_listed op all }
 {
-    let first = all.first;
-    let second = all.second;
     if all.count != operand_count(op) {
         return Err(OperandsFault::WrongCount);
     }
     let its = row(op);
-    let one = its.first;
-    let two = its.second;
-    if allowed_kind(one, operand_with(first, 0)) {
-        if allowed_kind(two, operand_with(second, 0)) {
-            return in_range(first, second);
-        }
+    if !allowed_kind(its.first, operand_with(all.first, 0)) {
+        return Err(OperandsFault::WrongKind(1));
+    }
+    if !allowed_kind(its.second, operand_with(all.second, 0)) {
         return Err(OperandsFault::WrongKind(2));
     }
-    Err(OperandsFault::WrongKind(1))
+    in_range(all.first, all.second)
 }
 
 pub fn instruction(s: &[u8], op: Opcode, from: Cursor) -> Result<Operands, OperandsFault>
     ensures { result ≡ instruction_read s.now op (tokens_from s.now from.at) }
 {
-    let read = operands(s, from);
-    match read {
-        Some(all) => judge(op, all),
-        None => Err(OperandsFault::WrongForm),
-    }
+    judge(op, operands(s, from).ok_or(OperandsFault::WrongForm)?)
 }

@@ -11,29 +11,14 @@ use numerals::{Cursor, Read};
 use tokens::Follows;
 use tokens::commas::follows;
 
+#[tactic(auto, unfolding(crate::specs::Inner::Peeks::keep))]
 fn with_operand(all: FirstTwo, o: Written) -> FirstTwo
     ensures { result ≡ keep all o }
 {
-    let first = all.first;
-    let second = all.second;
-    if all.count == 0 {
-        return FirstTwo {
-            count: 1,
-            first: o,
-            second: second,
-        };
-    }
-    if all.count == 1 {
-        return FirstTwo {
-            count: 2,
-            first: first,
-            second: o,
-        };
-    }
-    FirstTwo {
-        count: 3,
-        first: first,
-        second: second,
+    match all.count {
+        0 => FirstTwo { count: 1, first: o, ..all },
+        1 => FirstTwo { count: 2, second: o, ..all },
+        _ => FirstTwo { count: 3, ..all },
     }
 }
 
@@ -41,29 +26,15 @@ fn with_operand(all: FirstTwo, o: Written) -> FirstTwo
 fn some_operands(s: &[u8], from: Cursor, none: FirstTwo) -> Option<FirstTwo>
     ensures { result ≡ listed none (walk s.now W.operand (tokens_from s.now from.at)) }
 {
-    let mut at = from.at;
+    let mut at = from;
     let mut all = none;
     loop {
-        let read = operand(s, Cursor { at: at });
-        match read {
-            None => {
-                return None;
-            }
-            Some(Read { value: o, next }) => {
-                let end = next.at;
-                all = with_operand(all, o);
-                match follows(s, Cursor { at: end }) {
-                    Follows::Over => {
-                        return Some(all);
-                    }
-                    Follows::Neither => {
-                        return None;
-                    }
-                    Follows::Comma(after) => {
-                        at = after.at;
-                    }
-                }
-            }
+        let Read { value: o, next } = operand(s, at)?;
+        all = with_operand(all, o);
+        match follows(s, next) {
+            Follows::Over => return Some(all),
+            Follows::Neither => return None,
+            Follows::Comma(after) => at = after,
         }
     }
 }
@@ -72,15 +43,13 @@ fn some_operands(s: &[u8], from: Cursor, none: FirstTwo) -> Option<FirstTwo>
 pub(crate) fn operands(s: &[u8], from: Cursor) -> Option<FirstTwo>
     ensures { result ≡ listed none_listed (operands_of s.now (tokens_from s.now from.at)) }
 {
-    let at = from.at;
     let none = FirstTwo {
         count: 0,
         first: Written::Absent,
         second: Written::Absent,
     };
-    match follows(s, Cursor { at: at }) {
+    match follows(s, from) {
         Follows::Over => Some(none),
-        Follows::Neither => some_operands(s, Cursor { at: at }, none),
-        Follows::Comma(_) => some_operands(s, Cursor { at: at }, none),
+        _ => some_operands(s, from, none),
     }
 }

@@ -1,9 +1,10 @@
 // One operand (specs/Operands.antt): a function for each state of the walk (specs/Reading.antt) that the code passes.
 ghost use Rattle.std.specs.Prelude.{◌≡◌};
+ghost use Rattle.tokens.specs.Marks.{mark_of};
 ghost use Rattle.tokens.specs.Reading.{token_at};
 ghost use Rattle.operands.specs.Reading.{hash, slash, dollar};
 ghost use Rattle.operands.specs.Reading as W;
-ghost use Rattle.operands.specs.Inner.Peeks.{register_of, Goes};
+ghost use Rattle.operands.specs.Inner.Peeks.{register_of, behind_mark, Goes};
 
 use super::Written;
 use codes::registers::{IX, IY, REGISTER_COUNT, SP};
@@ -15,118 +16,83 @@ use tokens::Kind;
 use values::reading::value;
 use values::Value;
 
+// The register that a word names.
 fn register_at(s: &[u8], from: Cursor) -> Option<Read<u16>>
     ensures { result ≡ register_of s.now (token_at s.now from.at) }
 {
     let t = next_token(s, from);
-    let kind = t.kind;
-    let start = t.start;
-    let next = t.next;
-    match kind {
-        Kind::End => None,
-        Kind::Stray => None,
-        Kind::Word => {
-            let code = register_code(s, start, next.at);
-            if code < REGISTER_COUNT {
-                return Some(Read { value: code, next });
-            }
-            None
-        }
-        Kind::Number(_, _) => None,
-        Kind::Text => None,
-        Kind::Mark(_) => None,
-    }
+    let Kind::Word = t.kind else {
+        return None;
+    };
+    let code = register_code(s, t.start, t.next.at);
+    if code < REGISTER_COUNT { Some(Read { value: code, next: t.next }) } else { None }
+}
+
+// The cursor behind this mark, where it stands.
+fn behind(s: &[u8], mark: u8, from: Cursor) -> Option<Cursor>
+    ensures { result ≡ behind_mark mark (mark_of (token_at s.now from.at)) }
+{
+    let stands = mark_at(s, from)?;
+    if stands.value == mark { Some(stands.next) } else { None }
 }
 
 // After `/`.
 fn memory(s: &[u8], from: Cursor) -> Option<Read<Written>>
     ensures { Goes s.now (W.value slash) from.at result }
 {
-    let read = value(s, from);
-    match read {
-        Some(Read { value: v, next }) => Some(Read { value: Written::Memory(v), next }),
-        None => None,
-    }
+    let Read { value: v, next } = value(s, from)?;
+    Some(Read { value: Written::Memory(v), next })
 }
 
 // After `$`.
 fn relative(s: &[u8], from: Cursor) -> Option<Read<Written>>
     ensures { Goes s.now (W.value dollar) from.at result }
 {
-    let read = value(s, from);
-    match read {
-        Some(Read { value: v, next }) => Some(Read { value: Written::Relative(v), next }),
-        None => None,
-    }
+    let Read { value: v, next } = value(s, from)?;
+    Some(Read { value: Written::Relative(v), next })
 }
 
 // After `.`.
 fn register(s: &[u8], from: Cursor) -> Option<Read<Written>>
     ensures { Goes s.now W.register_name from.at result }
 {
-    let read = register_at(s, from);
-    match read {
-        Some(Read { value: r, next }) => Some(Read { value: Written::Register(r), next }),
-        None => None,
-    }
+    let Read { value: code, next } = register_at(s, from)?;
+    Some(Read { value: Written::Register(code), next })
 }
 
 // `]` after an operand that it ends.
 fn closed(s: &[u8], o: Written, from: Cursor) -> Option<Read<Written>>
     ensures { Goes s.now (W.closing o) from.at result }
 {
-    let read = mark_at(s, from);
-    match read {
-        Some(Read { value: b, next }) => {
-            if b == b']' {
-                return Some(Read { value: o, next });
-            }
-            None
-        }
-        None => None,
-    }
+    let next = behind(s, b']', from)?;
+    Some(Read { value: o, next })
 }
 
 // After `[.`.
 fn indirect_name(s: &[u8], from: Cursor) -> Option<Read<Written>>
     ensures { Goes s.now W.indirect_name from.at result }
 {
-    let read = register_at(s, from);
-    match read {
-        Some(Read { value: r, next }) => closed(s, Written::Indirect(r), next),
-        None => None,
-    }
+    let Read { value: code, next } = register_at(s, from)?;
+    closed(s, Written::Indirect(code), next)
 }
 
 // After `[`.
 fn indirect(s: &[u8], from: Cursor) -> Option<Read<Written>>
     ensures { Goes s.now W.indirect_dot from.at result }
 {
-    let read = mark_at(s, from);
-    match read {
-        Some(Read { value: b, next }) => {
-            if b == b'.' {
-                return indirect_name(s, next);
-            }
-            None
-        }
-        None => None,
-    }
+    indirect_name(s, behind(s, b'.', from)?)
 }
 
 // After `#v[.`: IX, IY or SP.
 fn index_name(s: &[u8], v: Value, from: Cursor) -> Option<Read<Written>>
     ensures { Goes s.now (W.index_name v) from.at result }
 {
-    let read = register_at(s, from);
-    match read {
-        Some(Read { value: r, next }) => match r as usize {
-            IX => closed(s, Written::IndexedX(v), next),
-            IY => closed(s, Written::IndexedY(v), next),
-            SP => closed(s, Written::IndexedSp(v), next),
-            _ => None,
-        },
-        None => None,
+    let Read { value: code, next } = register_at(s, from)?;
+    match code as usize {
+        IX => closed(s, Written::IndexedX(v), next),
+        IY => closed(s, Written::IndexedY(v), next),
+        SP => closed(s, Written::IndexedSp(v), next),
+        _ => None,
     }
 }
 
@@ -134,32 +100,16 @@ fn index_name(s: &[u8], v: Value, from: Cursor) -> Option<Read<Written>>
 fn index(s: &[u8], v: Value, from: Cursor) -> Option<Read<Written>>
     ensures { Goes s.now (W.index_dot v) from.at result }
 {
-    let read = mark_at(s, from);
-    match read {
-        Some(Read { value: b, next }) => {
-            if b == b'.' {
-                return index_name(s, v, next);
-            }
-            None
-        }
-        None => None,
-    }
+    index_name(s, v, behind(s, b'.', from)?)
 }
 
 // After `#v`: an index, or no more.
 fn after_hash(s: &[u8], v: Value, from: Cursor) -> Option<Read<Written>>
     ensures { Goes s.now (W.after_hash v) from.at result }
 {
-    let at = from.at;
-    let read = mark_at(s, Cursor { at: at });
-    match read {
-        Some(Read { value: b, next }) => {
-            if b == b'[' {
-                return index(s, v, next);
-            }
-            Some(Read { value: Written::Immediate(v), next: Cursor { at } })
-        }
-        None => Some(Read { value: Written::Immediate(v), next: Cursor { at } }),
+    match behind(s, b'[', from) {
+        Some(next) => index(s, v, next),
+        None => Some(Read { value: Written::Immediate(v), next: from }),
     }
 }
 
@@ -167,26 +117,20 @@ fn after_hash(s: &[u8], v: Value, from: Cursor) -> Option<Read<Written>>
 fn immediate(s: &[u8], from: Cursor) -> Option<Read<Written>>
     ensures { Goes s.now (W.value hash) from.at result }
 {
-    let read = value(s, from);
-    match read {
-        Some(Read { value: v, next }) => after_hash(s, v, next),
-        None => None,
-    }
+    let Read { value: v, next } = value(s, from)?;
+    after_hash(s, v, next)
 }
 
 pub(crate) fn operand(s: &[u8], from: Cursor) -> Option<Read<Written>>
     ensures { Goes s.now W.operand from.at result }
 {
-    let read = mark_at(s, from);
-    match read {
-        Some(Read { value: b, next }) => match b {
-            b'#' => immediate(s, next),
-            b'.' => register(s, next),
-            b'/' => memory(s, next),
-            b'[' => indirect(s, next),
-            b'$' => relative(s, next),
-            _ => None,
-        },
-        None => None,
+    let Read { value: mark, next } = mark_at(s, from)?;
+    match mark {
+        b'#' => immediate(s, next),
+        b'.' => register(s, next),
+        b'/' => memory(s, next),
+        b'[' => indirect(s, next),
+        b'$' => relative(s, next),
+        _ => None,
     }
 }

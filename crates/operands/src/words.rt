@@ -46,19 +46,15 @@ fn displacement_word(v: Value) -> Option<u16>
     }
 }
 
+#[tactic(auto, unfolding(crate::specs::Checks::word_of))]
 pub(crate) fn word_of(o: Written) -> Option<u16>
     ensures { result ≡ word_of o }
 {
     match o {
         Written::Absent => Some(0),
-        Written::Immediate(v) => number_word(v),
-        Written::Register(r) => Some(r),
-        Written::Memory(v) => number_word(v),
-        Written::Indirect(r) => Some(r),
-        Written::IndexedX(v) => displacement_word(v),
-        Written::IndexedY(v) => displacement_word(v),
-        Written::IndexedSp(v) => displacement_word(v),
-        Written::Relative(v) => displacement_word(v),
+        Written::Register(r) | Written::Indirect(r) => Some(r),
+        Written::Immediate(v) | Written::Memory(v) => number_word(v),
+        Written::IndexedX(v) | Written::IndexedY(v) | Written::IndexedSp(v) | Written::Relative(v) => displacement_word(v),
     }
 }
 
@@ -71,18 +67,13 @@ fn label_of(v: Value) -> Option<Name>
     }
 }
 
+#[tactic(auto, unfolding(crate::specs::Checks::label_in))]
 pub(crate) fn label_in(o: Written) -> Option<Name>
     ensures { result ≡ label_in o }
 {
     match o {
-        Written::Absent => None,
-        Written::Immediate(v) => label_of(v),
-        Written::Register(_) => None,
-        Written::Memory(v) => label_of(v),
-        Written::Indirect(_) => None,
-        Written::IndexedX(v) => label_of(v),
-        Written::IndexedY(v) => label_of(v),
-        Written::IndexedSp(v) => label_of(v),
-        Written::Relative(v) => label_of(v),
+        Written::Absent | Written::Register(_) | Written::Indirect(_) => None,
+        Written::Immediate(v) | Written::Memory(v) => label_of(v),
+        Written::IndexedX(v) | Written::IndexedY(v) | Written::IndexedSp(v) | Written::Relative(v) => label_of(v),
     }
 }

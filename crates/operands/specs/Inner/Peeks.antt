@@ -40,6 +40,11 @@ register_by r (K.Mark b) next = None
 abbrev pub register_of : List ℕ → Token → Option (Read ℕ)
 register_of line t = register_by (code_at line t) t.kind t.next
 
+-- the cursor behind a mark, where it is this one
+abbrev pub behind_mark : ℕ → Option (Read ℕ) → Option Cursor
+behind_mark mark None = None
+behind_mark mark (Some r) = cond (eqb r.value mark) (Some r.next) None
+
 -- ---- one operand
 
 -- where a step leads: after a comma, an operand begins

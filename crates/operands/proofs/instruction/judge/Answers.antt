@@ -1,28 +1,24 @@
 -- The tests are the definition's, one after the other (Judged).
+use mathlib.Core.Path.{sym}
 use Rattle.operands.proofs.Judged.{count-differs, first_unfit, second_unfit, both_fit}
 use Rattle.operands.proofs.instruction.judge.Goals as goal
 
 pub returns-then-all-operand_count : goal.returns-then-all-operand_count
-returns-then-all-operand_count c =
-    let a = c.args in
-    count-differs a.op a.all c.operand_count.ensures c.if-all-operand_count.true
+returns-then-all-operand_count c = count-differs c.args.op c.args.all c.operand_count.ensures c.if-all-operand_count.true
 
-pub returns-then-allowed_kind-2 : goal.returns-then-allowed_kind-2
-returns-then-allowed_kind-2 c =
-    let a = c.args in
-    both_fit a.op a.all c.operand_count.ensures c.if-all-operand_count.false c.row-its.ensures
-    c.operand_with.ensures c.allowed_kind.ensures c.if-allowed_kind.true
-    c.operand_with-then-allowed_kind.ensures c.allowed_kind-then-allowed_kind.ensures c.if-allowed_kind-2.true c.in_range.ensures
+pub returns-then-not-allowed_kind : goal.returns-then-not-allowed_kind
+returns-then-not-allowed_kind c =
+    first_unfit c.args.op c.args.all c.operand_count.ensures c.if-all-operand_count.false c.row-its.ensures
+    c.operand_with.ensures c.allowed_kind.ensures c.if-not-allowed_kind.true
 
-pub returns-then-allowed_kind : goal.returns-then-allowed_kind
-returns-then-allowed_kind c =
-    let a = c.args in
-    second_unfit a.op a.all c.operand_count.ensures c.if-all-operand_count.false c.row-its.ensures
-    c.operand_with.ensures c.allowed_kind.ensures c.if-allowed_kind.true
-    c.operand_with-then-allowed_kind.ensures c.allowed_kind-then-allowed_kind.ensures c.if-allowed_kind-2.false
+pub returns-then-not-allowed_kind-2 : goal.returns-then-not-allowed_kind-2
+returns-then-not-allowed_kind-2 c =
+    second_unfit c.args.op c.args.all c.operand_count.ensures c.if-all-operand_count.false c.row-its.ensures
+    c.operand_with.ensures c.allowed_kind.ensures c.if-not-allowed_kind.false
+    c.operand_with-2.ensures c.allowed_kind-2.ensures c.if-not-allowed_kind-2.true
 
 pub returns : goal.returns
 returns c =
-    let a = c.args in
-    first_unfit a.op a.all c.operand_count.ensures c.if-all-operand_count.false c.row-its.ensures
-    c.operand_with.ensures c.allowed_kind.ensures c.if-allowed_kind.false
+    both_fit c.args.op c.args.all c.operand_count.ensures c.if-all-operand_count.false c.row-its.ensures
+    c.operand_with.ensures c.allowed_kind.ensures c.if-not-allowed_kind.false
+    c.operand_with-2.ensures c.allowed_kind-2.ensures c.if-not-allowed_kind-2.false c.in_range.ensures

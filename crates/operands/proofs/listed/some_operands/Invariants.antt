@@ -8,7 +8,7 @@ use Rattle.operands.specs.Inner.Peeks.{listed}
 use Rattle.operands.proofs.listed.some_operands.Given as goal
 
 abbrev pub invariant-loop-o : goal.invariant-loop-o
-invariant-loop-o l = listed l.initial.all (walk l.s operand (tokens_from l.s l.initial.at)) ≡ listed l.all (walk l.s operand (tokens_from l.s l.at))
+invariant-loop-o l = listed l.initial.all (walk l.s operand (tokens_from l.s l.initial.at.at)) ≡ listed l.all (walk l.s operand (tokens_from l.s l.at.at))
 
 abbrev pub decreases-loop-o : goal.decreases-loop-o
-decreases-loop-o l = length l.s - l.at
+decreases-loop-o l = length l.s - l.at.at

@@ -7,7 +7,7 @@ use Rattle.operands.specs.Places.{after_comma}
 use Rattle.operands.proofs.places.behind_comma.Given as goal
 
 abbrev pub invariant-loop-at : goal.invariant-loop-at
-invariant-loop-at l = after_comma (tokens_from l.s l.at) ≡ after_comma (tokens_from l.s l.initial.at)
+invariant-loop-at l = after_comma (tokens_from l.s l.at.at) ≡ after_comma (tokens_from l.s l.initial.at.at)
 
 abbrev pub decreases-loop-at : goal.decreases-loop-at
-decreases-loop-at l = length l.s - l.at
+decreases-loop-at l = length l.s - l.at.at

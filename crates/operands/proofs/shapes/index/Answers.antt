@@ -1,24 +1,10 @@
 -- `.`, and what follows it is the callee's (Outcomes).
-use Prim.Native.Char.{code}
-use mathlib.Core.Path.{refl, sym, ◌∙◌}
-use Rattle.operands.specs.Reading.{index_dot, index_name}
-use Rattle.operands.proofs.Outcomes.{expect_is, expect_no, expect_not}
+use mathlib.Core.Path.{sym}
+use Rattle.operands.proofs.Outcomes.{index_dotted, index_undotted}
 use Rattle.operands.proofs.shapes.index.Goals as goal
 
-pub returns-then-b-eq46 : goal.returns-then-b-eq46
-returns-then-b-eq46 c =
-    let a = c.args in
-    let e = sym c.mark_at-read.ensures ∙ c.in-Is.is in
-    expect_is a.s.now a.from.at (index_dot a.v) (code ".") (index_name a.v) (λ u. refl) e c.if-b-eq46.true c.index_name.ensures
+pub returns-in_err-behind : goal.returns-in_err-behind
+returns-in_err-behind c = rw c.from_residual.ensures (index_undotted c.args.s.now c.args.from.at c.args.v (sym c.in_err-behind.ensures))
 
-pub returns-else-b-eq46 : goal.returns-else-b-eq46
-returns-else-b-eq46 c =
-    let a = c.args in
-    let e = sym c.mark_at-read.ensures ∙ c.in-Is.is in
-    expect_no a.s.now a.from.at (index_dot a.v) (code ".") (index_name a.v) (λ u. refl) e c.if-b-eq46.false
-
-pub returns-in-Absent : goal.returns-in-Absent
-returns-in-Absent c =
-    let a = c.args in
-    let e = sym c.mark_at-read.ensures ∙ c.in-Absent.is in
-    expect_not a.s.now a.from.at (index_dot a.v) (code ".") (index_name a.v) (λ u. refl) refl e
+pub returns : goal.returns
+returns c = index_dotted c.args.s.now c.args.from.at c.args.v (sym c.in_ok-behind.ensures) c.index_name.ensures

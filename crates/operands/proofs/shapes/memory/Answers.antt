@@ -1,17 +1,11 @@
 -- A value is a turn of the walk (Outcomes).
-use mathlib.Core.Path.{sym, ◌∙◌}
+use mathlib.Core.Path.{sym}
 use Rattle.operands.specs.Reading.{slash}
 use Rattle.operands.proofs.Outcomes.{memory_is, value_not}
 use Rattle.operands.proofs.shapes.memory.Goals as goal
 
-pub returns-in-Found : goal.returns-in-Found
-returns-in-Found c =
-    let a = c.args in
-    let e = sym c.value-read.ensures ∙ c.in-Found.is in
-    memory_is a.s.now a.from.at e
+pub returns-in_err-v : goal.returns-in_err-v
+returns-in_err-v c = rw c.from_residual.ensures (value_not c.args.s.now c.args.from.at slash (sym c.in_err-v.ensures))
 
-pub returns-in-Absent : goal.returns-in-Absent
-returns-in-Absent c =
-    let a = c.args in
-    let e = sym c.value-read.ensures ∙ c.in-Absent.is in
-    value_not a.s.now a.from.at slash e
+pub returns : goal.returns
+returns c = memory_is c.args.s.now c.args.from.at (sym c.in_ok-v.ensures)
