@@ -167,7 +167,7 @@ module _ (i : Instruction) (t : allowed i ≡ true) where
 
   -- and it is read as it is
   pub judged-back : isa.word_of i.first < 65536 → isa.word_of i.second < 65536
-      → judged i.op (written_in i) ≡ Ok (record { first = (plainly i.first); second = (plainly i.second) })
+      → judged i.op (written_in i) ≡ Ok (record { first = plainly i.first; second = plainly i.second })
   judged-back h k =
       judged-fitting i.op (written_in i) fits-back
       ∙ rw (first_back, second_back, word_back i.first h, word_back i.second k)

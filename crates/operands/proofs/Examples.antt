@@ -66,7 +66,7 @@ shown text o = record { text = text; is = o }
 -- each of these is that operand of PUSH, or of BR; with 7 for its label; or out of range
 abbrev pub Reads : Opcode → List Shown → Type 0
 Reads op [] = Unit {0}
-Reads op (x ∷ xs) = Says op x.text (Ok (record { first = (plain x.is); second = (plain Absent) })) × Reads op xs
+Reads op (x ∷ xs) = Says op x.text (Ok (record { first = plain x.is; second = plain Absent })) × Reads op xs
 
 abbrev pub EachSettles : Opcode → List Shown → Type 0
 EachSettles op [] = Unit {0}
@@ -98,18 +98,18 @@ pub record Examples : Type 0 where
   -- the first and the last register
   pub first_and_last : Reads PUSH (shown ".R0" (Register 0) ∷ shown ".PC" (Register PC) ∷ shown "[.R0]" (Indirect 0) ∷ shown "[.PC]" (Indirect PC) ∷ [])
   -- "blanks may stand between" tokens; "Labels keep case; other words don't"
-  pub blanks-between : Says MOVE "# -5 [ . ix ] , [ . A ]" (Ok (record { first = (plain (IndexedX 65531)); second = (plain (Indirect A)) }))
-  pub nothing : Says NOP " ; no operand" (Ok (record { first = (plain Absent); second = (plain Absent) }))
+  pub blanks-between : Says MOVE "# -5 [ . ix ] , [ . A ]" (Ok (record { first = plain (IndexedX 65531); second = plain (Indirect A) }))
+  pub nothing : Says NOP " ; no operand" (Ok (record { first = plain Absent; second = plain Absent }))
   -- a register's name without `.` is a label
-  pub label : Says PUSH "#R1" (Ok (record { first = (labelled (Immediate 0) 1 3); second = (plain Absent) }))
-  pub label-target : Says BR "$loop" (Ok (record { first = (labelled (Relative 0) 1 5); second = (plain Absent) }))
+  pub label : Says PUSH "#R1" (Ok (record { first = labelled (Immediate 0) 1 3; second = plain Absent }))
+  pub label-target : Says BR "$loop" (Ok (record { first = labelled (Relative 0) 1 5; second = plain Absent }))
   -- 3: form
   pub wrong-forms : WrongForms ("#- 5" ∷ "#5[.R1]" ∷ "#1," ∷ ",#1" ∷ "#1 #2" ∷ ".R10" ∷ "R1" ∷ "[R1]" ∷ "/1[.IX]" ∷ "#5[.IX" ∷ "#-0x5" ∷ "5" ∷ "#\"a\"" ∷ [])
   pub form-first : Says NOP ".A,.A,.X" (Err WrongForm)
   -- 5: number and kinds; "Testing mode 7 by code lets `INC $3` pass as SP-indexed"
   pub relative : Says INC "$3" (Err (WrongKind 1))
   pub indexed : Says BR "#3[.SP]" (Err (WrongKind 1))
-  pub indexed-there : Says INC "#3[.SP]" (Ok (record { first = (plain (IndexedSp 3)); second = (plain Absent) }))
+  pub indexed-there : Says INC "#3[.SP]" (Ok (record { first = plain (IndexedSp 3); second = plain Absent }))
   -- "Its `BZ .R3` is refused: the opcode's own list decides"
   pub branch : Says BZ ".R3" (Err (WrongKind 1))
   pub three : Says MOVE ".A,.A,.A" (Err WrongCount)
@@ -123,10 +123,10 @@ pub record Examples : Type 0 where
   pub second-alone : Says MOVE "#1,#2" (Err (WrongKind 2))
   -- 6: ranges; "A decimal displacement .. lies in -32768..32767; a hex one .. is a bit pattern"
   pub decimal_displacement : Says BR "$32768" (Err OutOfRange)
-  pub hexadecimal_displacement : Says BR "$0x8000" (Ok (record { first = (plain (Relative 32768)); second = (plain Absent) }))
+  pub hexadecimal_displacement : Says BR "$0x8000" (Ok (record { first = plain (Relative 32768); second = plain Absent }))
   pub indexed_displacement : Says PUSH "#40000[.IX]" (Err OutOfRange)
   pub second_out_of_range : Says MOVE "#1,/65536" (Err OutOfRange)
-  pub immediate : Says PUSH "#40000" (Ok (record { first = (plain (Immediate 40000)); second = (plain Absent) }))
+  pub immediate : Says PUSH "#40000" (Ok (record { first = plain (Immediate 40000); second = plain Absent }))
   -- a label's value takes its place, in order; no other word changes
   pub label-settled : Settles BR "/x" 7 8 (Memory 7) Absent
   pub target-settled : Settles BR "$x" 65531 8 (Relative 65531) Absent

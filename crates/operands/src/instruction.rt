@@ -6,7 +6,7 @@ ghost use Rattle.operands.specs.Inner.Peeks.{judged_listed};
 
 use super::listed::operands;
 use super::words::{label_in, operand_with, word_of};
-use super::{FirstTwo, Given, Written, OperandsFault, Operands};
+use super::{FirstTwo, Given, Operands, OperandsFault, Written};
 use isa::Opcode;
 use isa::opcodes::{operand_count, row};
 use isa::operands::allowed_kind;
@@ -27,7 +27,10 @@ fn in_range(a: Written, b: Written) -> Result<Operands, OperandsFault>
 {
     let x = word_of(a).ok_or(OperandsFault::OutOfRange)?;
     let y = word_of(b).ok_or(OperandsFault::OutOfRange)?;
-    Ok(Operands { first: given_with(a, x), second: given_with(b, y) })
+    Ok(Operands {
+        first: given_with(a, x),
+        second: given_with(b, y),
+    })
 }
 
 // Number (15) before kinds (16), the first operand's before the second's, and kinds before ranges (6).

@@ -4,7 +4,7 @@
 
 use isa::Operand;
 use numerals::Cursor;
-use values::{Value, Name};
+use values::{Name, Value};
 
 pub mod instruction; // the operands that follow an opcode
 mod listed; // what is kept of a list of operands

@@ -16,8 +16,16 @@ fn with_operand(all: FirstTwo, o: Written) -> FirstTwo
     ensures { result ≡ keep all o }
 {
     match all.count {
-        0 => FirstTwo { count: 1, first: o, ..all },
-        1 => FirstTwo { count: 2, second: o, ..all },
+        0 => FirstTwo {
+            count: 1,
+            first: o,
+            ..all
+        },
+        1 => FirstTwo {
+            count: 2,
+            second: o,
+            ..all
+        },
         _ => FirstTwo { count: 3, ..all },
     }
 }

@@ -4,13 +4,13 @@ ghost use Rattle.tokens.specs.Reading.{tokens_from};
 ghost use Rattle.operands.specs.Places.{start_of, after_comma, number_start_in, operand_start_in, out_by, number_out_in};
 ghost use Rattle.operands.specs.Checks.{word_of};
 
+use super::FirstTwo;
 use super::listed::operands;
 use super::words::word_of;
-use super::FirstTwo;
 use numerals::Cursor;
+use tokens::Kind;
 use tokens::marks::mark_at;
 use tokens::tokens::next_token;
-use tokens::Kind;
 
 // Where the token at a cursor starts; 0 at the line's end.
 fn start_at(s: &[u8], from: Cursor) -> usize
@@ -44,7 +44,11 @@ fn behind_comma(s: &[u8], from: Cursor) -> Cursor
 pub fn operand_start(s: &[u8], from: Cursor, second: bool) -> usize
     ensures { result ≡ operand_start_in (tokens_from s.now from.at) (cond second 2 1) }
 {
-    if second { start_at(s, behind_comma(s, from)) } else { start_at(s, from) }
+    if second {
+        start_at(s, behind_comma(s, from))
+    } else {
+        start_at(s, from)
+    }
 }
 
 // Where the number of the operand at a cursor starts: behind its first mark.

@@ -10,11 +10,11 @@ use super::Written;
 use codes::registers::{IX, IY, REGISTER_COUNT, SP};
 use names::lookup::register_code;
 use numerals::{Cursor, Read};
+use tokens::Kind;
 use tokens::marks::mark_at;
 use tokens::tokens::next_token;
-use tokens::Kind;
-use values::reading::value;
 use values::Value;
+use values::reading::value;
 
 // The register that a word names.
 fn register_at(s: &[u8], from: Cursor) -> Option<Read<u16>>
@@ -25,7 +25,14 @@ fn register_at(s: &[u8], from: Cursor) -> Option<Read<u16>>
         return None;
     };
     let code = register_code(s, t.start, t.next.at);
-    if code < REGISTER_COUNT { Some(Read { value: code, next: t.next }) } else { None }
+    if code < REGISTER_COUNT {
+        Some(Read {
+            value: code,
+            next: t.next,
+        })
+    } else {
+        None
+    }
 }
 
 // The cursor behind this mark, where it stands.
@@ -33,7 +40,11 @@ fn behind(s: &[u8], mark: u8, from: Cursor) -> Option<Cursor>
     ensures { result ≡ behind_mark mark (mark_of (token_at s.now from.at)) }
 {
     let stands = mark_at(s, from)?;
-    if stands.value == mark { Some(stands.next) } else { None }
+    if stands.value == mark {
+        Some(stands.next)
+    } else {
+        None
+    }
 }
 
 // After `/`.
@@ -41,7 +52,10 @@ fn memory(s: &[u8], from: Cursor) -> Option<Read<Written>>
     ensures { Goes s.now (W.value slash) from.at result }
 {
     let Read { value: v, next } = value(s, from)?;
-    Some(Read { value: Written::Memory(v), next })
+    Some(Read {
+        value: Written::Memory(v),
+        next,
+    })
 }
 
 // After `$`.
@@ -49,7 +63,10 @@ fn relative(s: &[u8], from: Cursor) -> Option<Read<Written>>
     ensures { Goes s.now (W.value dollar) from.at result }
 {
     let Read { value: v, next } = value(s, from)?;
-    Some(Read { value: Written::Relative(v), next })
+    Some(Read {
+        value: Written::Relative(v),
+        next,
+    })
 }
 
 // After `.`.
@@ -57,7 +74,10 @@ fn register(s: &[u8], from: Cursor) -> Option<Read<Written>>
     ensures { Goes s.now W.register_name from.at result }
 {
     let Read { value: code, next } = register_at(s, from)?;
-    Some(Read { value: Written::Register(code), next })
+    Some(Read {
+        value: Written::Register(code),
+        next,
+    })
 }
 
 // `]` after an operand that it ends.
@@ -109,7 +129,10 @@ fn after_hash(s: &[u8], v: Value, from: Cursor) -> Option<Read<Written>>
 {
     match behind(s, b'[', from) {
         Some(next) => index(s, v, next),
-        None => Some(Read { value: Written::Immediate(v), next: from }),
+        None => Some(Read {
+            value: Written::Immediate(v),
+            next: from,
+        }),
     }
 }
 

@@ -8,7 +8,7 @@ use super::Written;
 use isa::Operand;
 use numerals::reading::kept;
 use values::ranges::displacement;
-use values::{Value, Name};
+use values::{Name, Value};
 
 pub(crate) fn operand_with(o: Written, word: u16) -> Operand
     ensures { result ≡ operand_with o word }
@@ -54,7 +54,10 @@ pub(crate) fn word_of(o: Written) -> Option<u16>
         Written::Absent => Some(0),
         Written::Register(r) | Written::Indirect(r) => Some(r),
         Written::Immediate(v) | Written::Memory(v) => number_word(v),
-        Written::IndexedX(v) | Written::IndexedY(v) | Written::IndexedSp(v) | Written::Relative(v) => displacement_word(v),
+        Written::IndexedX(v)
+        | Written::IndexedY(v)
+        | Written::IndexedSp(v)
+        | Written::Relative(v) => displacement_word(v),
     }
 }
 
@@ -74,6 +77,9 @@ pub(crate) fn label_in(o: Written) -> Option<Name>
     match o {
         Written::Absent | Written::Register(_) | Written::Indirect(_) => None,
         Written::Immediate(v) | Written::Memory(v) => label_of(v),
-        Written::IndexedX(v) | Written::IndexedY(v) | Written::IndexedSp(v) | Written::Relative(v) => label_of(v),
+        Written::IndexedX(v)
+        | Written::IndexedY(v)
+        | Written::IndexedSp(v)
+        | Written::Relative(v) => label_of(v),
     }
 }

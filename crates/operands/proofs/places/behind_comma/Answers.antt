@@ -20,16 +20,16 @@ returns-in-Mark c = at-comma c.args.s.now c.loop-at.at.at c.next_token-t.ensures
 pub loop-at-smaller : goal.loop-at-smaller
 loop-at-smaller c =
     let goes : GoesOn c.next_token-t.result.kind = elim c.in_default.branch [
-          in_default-via-in-Mark+else-b-eq44 w ↦ mark_goes_on w.in-Mark.is w.if-b-eq44.false
-        | in_default-via-in_default w ↦ other_goes_on _ w.in_default.not-End w.in_default.not-Stray w.in_default.not-Mark
-        ] in
+      | in_default-via-in-Mark+else-b-eq44 w ↦ mark_goes_on w.in-Mark.is w.if-b-eq44.false
+      | in_default-via-in_default w ↦ other_goes_on _ w.in_default.not-End w.in_default.not-Stray w.in_default.not-Mark
+    ] in
     let h = turn c.args.s.now c.loop-at.at.at c.next_token-t.ensures goes in
     omega (arith, h.1)
 
 pub loop-at-preserved : goal.loop-at-preserved
 loop-at-preserved c =
     let goes : GoesOn c.next_token-t.result.kind = elim c.in_default.branch [
-          in_default-via-in-Mark+else-b-eq44 w ↦ mark_goes_on w.in-Mark.is w.if-b-eq44.false
-        | in_default-via-in_default w ↦ other_goes_on _ w.in_default.not-End w.in_default.not-Stray w.in_default.not-Mark
-        ] in
+      | in_default-via-in-Mark+else-b-eq44 w ↦ mark_goes_on w.in-Mark.is w.if-b-eq44.false
+      | in_default-via-in_default w ↦ other_goes_on _ w.in_default.not-End w.in_default.not-Stray w.in_default.not-Mark
+    ] in
     sym (turn c.args.s.now c.loop-at.at.at c.next_token-t.ensures goes).0 ∙ c.loop-at.invariant
