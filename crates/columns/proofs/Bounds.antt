@@ -8,7 +8,6 @@ use lib.Dec.{leb, eqb}
 use lib.ListN.{length, length-append}
 use Rattle.codes.specs.Limits.{deepest}
 use Rattle.std.proofs.Common.{Option, Some, None, Ok, Err}
-use Rattle.expressions.specs.declared.Fault.{Fault}
 use Rattle.expressions.specs.declared.Fault.TheVariants.{OutOfRange, ByZero}
 use Rattle.tokens.specs.Commas.{on_comma}
 use Rattle.tokens.specs.Marks.{on_mark}
@@ -77,10 +76,8 @@ module _ (n : ℕ) where
   fault-of : (at : ℕ) (o : Operation) (a b : Found) → at ≤ n → fault_place a ≤ n → fault_place b ≤ n → fault_place (evaluate at o a b) ≤ n
   unfolding evaluate
   fault-of at o (Ok a) (Ok b) l h g = fault_at at (operation o a b) l
-  fault-of at o (Ok a) (Err (record { fault = OutOfRange; at = right })) l h g = g
-  fault-of at o (Ok a) (Err (record { fault = ByZero; at = right })) l h g = g
-  fault-of at o (Err (record { fault = OutOfRange; at = left })) b l h g = h
-  fault-of at o (Err (record { fault = ByZero; at = left })) b l h g = h
+  fault-of at o (Ok a) (Err right) l h g = g
+  fault-of at o (Err left) b l h g = h
 
   pub fault_below : (p : Placed) → Bounded p → fault_place (found_of p) ≤ n
   unfolding found_of

@@ -52,19 +52,17 @@ module _ (s : List ℕ) where
   start-within zero from l = l
   start-within (suc i) from l = start-within i (next_start s from) (next-within from)
 
-  pub start-more : (left from : ℕ) → 1 < left → start_after s (left - 1) from ≡ start_after s (left - 1 - 1) (next_start s from)
+  pub start-more : (left from : ℕ) → 0 < left → start_after s left from ≡ start_after s (left - 1) (next_start s from)
   unfolding start_after
-  start-more zero from l = absurd (omega arith)
-  start-more (suc zero) from l = absurd (omega arith)
-  start-more (suc (suc i)) from l =
-      let a : suc (suc i) - 1 ≡ suc i = omega arith in
-      let b : suc i - 1 ≡ i = omega arith in
-      rw (a, b)
+  start-more zero from l = absurd (omega (arith, l))
+  start-more (suc i) from l =
+      let a : suc i - 1 ≡ i = omega arith in
+      rw a
 
-  pub start-there : (left from : ℕ) → left ≤ 1 → start_after s (left - 1) from ≡ from
+  pub start-there : (left from : ℕ) → left ≤ 0 → start_after s left from ≡ from
   unfolding start_after
   start-there left from l =
-      let a : left - 1 ≡ 0 = omega arith in
+      let a : left ≡ 0 = omega (arith, l) in
       rw a
 
   -- ---- the line there

@@ -8,25 +8,21 @@ use super::{Column, Pointed};
 use tokens::lines::line_end;
 
 // Where the line behind that at a place starts: behind its LF, or at the source's end.
+#[tactic(auto, unfolding(crate::specs::Columns::next_start))]
 fn next_start(source: &[u8], from: usize) -> usize
     ensures { result ≡ next_start source.now from }
 {
     let end = line_end(source, from);
-    if end < source.len() {
-        return end + 1;
-    }
-    source.len()
+    if end < source.len() { end + 1 } else { source.len() }
 }
 
 // Where the line of a number starts; behind the last line, the source's end.
 pub fn line_start(source: &[u8], number: usize) -> usize
     ensures { result ≡ line_start source.now number }
 {
-    let mut from: usize = 0;
-    let mut left: usize = number;
-    while 1 < left {
+    let mut from = 0;
+    for _ in 1..number {
         from = next_start(source, from);
-        left -= 1;
     }
     from
 }

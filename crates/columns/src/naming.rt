@@ -12,15 +12,7 @@ use statements::Statement;
 fn name_by(a: Option<Name>, b: Option<Name>, second: bool) -> Option<Name>
     ensures { result ≡ name_by a b second }
 {
-    match a {
-        None => b,
-        Some(n) => {
-            if second {
-                return b;
-            }
-            Some(n)
-        }
-    }
+    if second { b } else { a.or(b) }
 }
 
 // 13 points at the name, 14 at its operand's mark.
@@ -28,14 +20,9 @@ fn name_column_at(line: &[u8], number: u8, name: Option<Name>) -> Column
     ensures { result.0 ≡ name_column_at line.now number name }
 {
     match name {
+        Some(n) if number == 14 => column_at(line, mark_before(line, n.start)),
+        Some(n) => column_at(line, n.start),
         None => Column(0),
-        Some(n) => {
-            let start = n.start;
-            if number == 14 {
-                return column_at(line, mark_before(line, start));
-            }
-            column_at(line, start)
-        }
     }
 }
 
@@ -43,28 +30,18 @@ fn name_column_in(line: &[u8], number: u8, second: bool, says: Statement) -> Col
     ensures { result.0 ≡ name_column_in line.now number second says }
 {
     match says {
-        Statement::Nothing => Column(0),
-        Statement::Instruction(_, a, b) => {
-            let first = a.label;
-            let other = b.label;
-            name_column_at(line, number, name_by(first, other, second))
-        }
-        Statement::Org(_) => Column(0),
-        Statement::Equ(_) => Column(0),
-        Statement::Res(_) => Column(0),
-        Statement::Data(_) => Column(0),
-        Statement::End => Column(0),
+        Statement::Instruction(_, a, b) => name_column_at(line, number, name_by(a.label, b.label, second)),
+        _ => Column(0),
     }
 }
 
 // The column of a line's first or second name in operands, which is refused with a number.
+#[tactic(auto, unfolding(crate::specs::Columns::name_column))]
 pub(crate) fn name_column(line: &[u8], number: u8, second: bool) -> Column
     ensures { result.0 ≡ name_column line.now number second }
 {
-    let read = read_line(line);
-    let statement = read.statement;
-    match statement {
-        Err(_) => Column(0),
+    match read_line(line).statement {
         Ok(says) => name_column_in(line, number, second, says),
+        Err(_) => Column(0),
     }
 }

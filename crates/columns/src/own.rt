@@ -8,24 +8,21 @@ use statements::labels::{is_word, label};
 use tokens::tokens::is_blank;
 
 // The column of a place, which stands in the line or directly behind it; any other has none.
+#[tactic(auto, unfolding(crate::specs::Columns::column_at))]
 pub(crate) fn column_at(line: &[u8], place: usize) -> Column
     ensures { result.0 ≡ column_at line.now place }
 {
-    if line.len() < place {
-        return Column(0);
-    }
-    Column(place + 1)
+    if place <= line.len() { Column(place + 1) } else { Column(0) }
 }
 
 // The label's column; 0 where the line has none.
+#[tactic(auto, unfolding(crate::specs::Columns::label_column))]
 pub fn label_column(line: &[u8]) -> Column
     ensures { result.0 ≡ label_column line.now }
 {
-    let found = label(line);
-    let named = found.label;
-    match named {
-        None => Column(0),
+    match label(line).label {
         Some(n) => column_at(line, n.start),
+        None => Column(0),
     }
 }
 
@@ -33,34 +30,23 @@ pub fn label_column(line: &[u8]) -> Column
 pub fn word_column(line: &[u8]) -> Column
     ensures { result.0 ≡ word_column line.now }
 {
-    let found = label(line);
-    let w = found.word;
-    let kind = w.kind;
-    let start = w.start;
-    if !is_word(kind) {
-        return Column(0);
-    }
-    column_at(line, start)
+    let w = label(line).word;
+    if is_word(w.kind) { column_at(line, w.start) } else { Column(0) }
 }
 
 // Whether a blank stands at a place; past the line's end none does.
+#[tactic(auto, unfolding(tokens::specs::Bytes::is_blank))]
 fn blank_at(line: &[u8], at: usize) -> bool
     ensures { result ≡ is_blank (get_or line.now at 0) }
 {
-    if at < line.len() {
-        is_blank(line[at])
-    } else {
-        false
-    }
+    at < line.len() && is_blank(line[at])
 }
 
 // The place, from 0, of what stands before the name that starts at a place: its operand's mark, with blanks between or none.
 pub fn mark_before(line: &[u8], name: usize) -> usize
     ensures { result ≡ mark_before line.now name }
 {
-    let mut at = name;
-    while 0 < at {
-        at -= 1;
+    for at in (0..name).rev() {
         if !blank_at(line, at) {
             return at;
         }

@@ -24,12 +24,9 @@ fn out_place(line: &[u8], word: Word, from: Cursor) -> usize
 {
     match word {
         Word::Instructs(_) => operands::places::number_out(line, from),
-        Word::Org => fault(line, from),
-        Word::Equ => fault(line, from),
-        Word::Res => fault(line, from),
+        Word::Org | Word::Equ | Word::Res => fault(line, from),
         Word::Data => items::places::number_out(line, from),
-        Word::End => 0,
-        Word::Unknown => 0,
+        Word::End | Word::Unknown => 0,
     }
 }
 
@@ -38,14 +35,12 @@ fn place_by(line: &[u8], why: Failure, at: usize, word: Word, from: Cursor) -> u
     ensures { result ≡ place_by line.now why at word (tokens_from line.now from.at) }
 {
     match why {
-        Failure::UnknownWord => at,
+        Failure::UnknownWord | Failure::WrongCount | Failure::ResultOut => at,
         Failure::WrongForm => place(line),
-        Failure::WrongCount => at,
         Failure::WrongKind(i) => operand_start(line, from, i == 2),
         Failure::TooDeep => too_deep(line, from),
         Failure::OutOfRange => out_place(line, word, from),
         Failure::ByZero => fault(line, from),
-        Failure::ResultOut => at,
     }
 }
 
@@ -53,21 +48,16 @@ fn place_by(line: &[u8], why: Failure, at: usize, word: Word, from: Cursor) -> u
 fn place_in(line: &[u8], why: Failure, w: Token) -> usize
     ensures { result ≡ place_in line.now why (begun_by line.now w) }
 {
-    let kind = w.kind;
-    let start = w.start;
-    let next = w.next;
-    if !is_word(kind) {
+    if !is_word(w.kind) {
         return place(line);
     }
-    place_by(line, why, start, statement_word(line, start, next.at), next)
+    place_by(line, why, w.start, statement_word(line, w.start, w.next.at), w.next)
 }
 
 fn failure_column(line: &[u8], why: Failure) -> Column
     ensures { result.0 ≡ column_of line.now why }
 {
-    let found = label(line);
-    let w = found.word;
-    column_at(line, place_in(line, why, w))
+    column_at(line, place_in(line, why, label(line).word))
 }
 
 // The place of the operand that is wrong in kind.
@@ -75,33 +65,22 @@ fn operand_of(why: Failure) -> u8
     ensures { result ≡ operand_of why }
 {
     match why {
-        Failure::UnknownWord => 0,
-        Failure::WrongForm => 0,
-        Failure::WrongCount => 0,
         Failure::WrongKind(i) => i,
-        Failure::TooDeep => 0,
-        Failure::OutOfRange => 0,
-        Failure::ByZero => 0,
-        Failure::ResultOut => 0,
+        _ => 0,
     }
 }
 
 fn beside(column: Column) -> Pointed
     ensures { result ≡ pointed_at column.0 0 }
 {
-    Pointed {
-        column: column,
-        place: 0,
-    }
+    Pointed { column, place: 0 }
 }
 
 // By the line's reading: a line that passes its own checks was refused for an address.
 fn read_again(line: &[u8]) -> Pointed
     ensures { result ≡ read_again line.now }
 {
-    let read = read_line(line);
-    let statement = read.statement;
-    match statement {
+    match read_line(line).statement {
         Ok(_) => beside(word_column(line)),
         Err(why) => Pointed {
             column: failure_column(line, why),
@@ -115,10 +94,8 @@ pub fn pointed(line: &[u8], number: u8) -> Pointed
     ensures { result ≡ pointed line.now number }
 {
     match number {
-        9 => beside(label_column(line)),
-        10 => beside(label_column(line)),
-        11 => beside(word_column(line)),
-        12 => beside(word_column(line)),
+        9 | 10 => beside(label_column(line)),
+        11 | 12 => beside(word_column(line)),
         _ => read_again(line),
     }
 }

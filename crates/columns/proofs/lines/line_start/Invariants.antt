@@ -4,8 +4,5 @@ use mathlib.Core.Path.{◌≡◌}
 use Rattle.columns.specs.Columns.{start_after}
 use Rattle.columns.proofs.lines.line_start.Given as goal
 
-abbrev pub invariant-loop-left : goal.invariant-loop-left
-invariant-loop-left l = start_after l.source (l.number - 1) 0 ≡ start_after l.source (l.left - 1) l.from
-
-abbrev pub decreases-loop-left : goal.decreases-loop-left
-decreases-loop-left l = l.left
+abbrev pub invariant-loop : goal.invariant-loop
+invariant-loop l = start_after l.source (l.number - 1) 0 ≡ start_after l.source (l.number - l.counter) l.from

@@ -1,11 +1,8 @@
 -- The loop's invariant: what stands before the name stands before the place that the loop has come to (Found).
-use mathlib.Core.Path.{refl, sym, ◌∙◌}
+use mathlib.Core.Path.{sym, ◌∙◌}
 use native.Mathlib.Omega.{arith}
 use Rattle.columns.proofs.Found.{blank-before, mark-stands, none_before}
 use Rattle.columns.proofs.own.mark_before.Goals as goal
-
-pub loop-at-init : goal.loop-at-init
-loop-at-init c = refl
 
 pub returns-then-not-blank_at : goal.returns-then-not-blank_at
 returns-then-not-blank_at c =

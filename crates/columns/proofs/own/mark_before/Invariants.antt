@@ -5,6 +5,3 @@ use Rattle.columns.proofs.own.mark_before.Given as goal
 
 abbrev pub invariant-loop-at : goal.invariant-loop-at
 invariant-loop-at l = mark_before l.line l.name ≡ mark_before l.line l.at
-
-abbrev pub decreases-loop-at : goal.decreases-loop-at
-decreases-loop-at l = l.at
