@@ -1,5 +1,4 @@
 -- The columns of Columns.antt are those of Points.antt. Top.antt restates it.
-use Rattle.expressions.specs.Worths.{Worth}
 use Prim.Native.Nat.{ℕ, ◌+◌, ◌≤◌, ◌<◌}
 use mathlib.Core.Bool.{Bool, true, false, cond, ◌||◌}
 use mathlib.Core.List.{List, [], ◌∷◌}
@@ -23,6 +22,7 @@ use Rattle.names.specs.Names.{word_of}
 use Rattle.names.specs.declared.Word.{Word}
 use Rattle.names.specs.declared.Word.TheVariants as W
 use Rattle.values.specs.declared.Name.{Name}
+use Rattle.expressions.specs.Worths.{Worth}
 use Rattle.expressions.specs.Places.{found_of, fault_place, fault_in, place_or, Place}
 use Rattle.expressions.specs.Reading as Expressions
 use Rattle.expressions.specs.Reading.{expression_read}

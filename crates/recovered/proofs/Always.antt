@@ -12,7 +12,6 @@ use Rattle.codes.specs.Marks.{free, code_mark, largest_mark}
 use Rattle.isa.specs.Encoding.{words_of, allowed}
 use Rattle.isa.specs.Decoding.{decode_of, stop_of}
 use Rattle.std.proofs.Common.{Option, Result, Ok, Err}
-use Rattle.numerals.specs.declared.Read.{Read}
 use Rattle.statements.specs.declared.Failure.{Failure}
 use Rattle.operands.specs.declared.Operands.{Operands}
 use Rattle.values.specs.declared.Name.{Name}

@@ -10,7 +10,6 @@ use Rattle.statements.specs.Statements.{Reading, Says}
 use Rattle.statements.specs.FirstFailing.{Pass}
 use Rattle.statements.specs.Judging.{judged}
 use Rattle.std.proofs.Common.{Result, Ok}
-use Rattle.numerals.specs.declared.Read.{Read}
 use Rattle.statements.specs.declared.Statement.{Statement}
 use Rattle.statements.specs.declared.Failure.{Failure}
 use Rattle.statements.proofs.Top as statements

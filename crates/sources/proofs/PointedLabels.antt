@@ -1,6 +1,5 @@
 -- Where 13 and 14 point: labels and their columns go line by line in step, and the refused one is its line's second exactly where the label
 -- before it has the same line.
-use Rattle.expressions.specs.Places.{Found}
 use Prim.Native.Nat.{ℕ, suc, ◌+◌, ◌-◌, ◌<◌}
 use mathlib.Core.Bool.{Bool, true, false}
 use mathlib.Core.List.{List, [], ◌∷◌, ◌++◌, map}

@@ -18,7 +18,6 @@ use Rattle.codes.specs.Limits.{most_cells, deepest}
 use Rattle.codes.specs.Marks.{free, reserved_mark}
 use Rattle.numerals.specs.Numbers.{value_of, in_range, kept_of}
 use Rattle.std.proofs.Common.{Option, Some, None, Result, Ok, Err}
-use Rattle.numerals.specs.declared.Read.{Read}
 use Rattle.operands.specs.declared.Operands.{Operands}
 use Rattle.values.specs.declared.Name.{Name}
 use Rattle.statements.specs.declared.Failure.{Failure}

@@ -1,5 +1,4 @@
 -- A line that passes its own checks has whole tokens, unless its word is END: so a comment may be added to any line of an accepted source.
-use Rattle.expressions.specs.Worths.{Worth}
 use Prim.Native.Nat.{ℕ}
 use mathlib.Core.Bool.{cond, not}
 use mathlib.Core.List.{List, [], ◌∷◌}
@@ -18,6 +17,7 @@ use Rattle.values.specs.Walks.{Step, to, emit, halt, RowRead, reads, wrong, step
 use Rattle.values.specs.Walks as Walks
 use Rattle.values.proofs.Walks.{un_cons}
 use Rattle.std.proofs.Common.{Result, Ok, Err}
+use Rattle.expressions.specs.Worths.{Worth}
 use Rattle.expressions.specs.declared.Malformed.{Malformed}
 use Rattle.expressions.specs.declared.Malformed.TheVariants.{TooDeep, WrongForm}
 use Rattle.expressions.specs.Reading.{expression_read}
@@ -98,7 +98,7 @@ instruction-whole : (line : List ℕ) (op : Opcode) (ts : List Token) {s : State
 unfolding instruction_read
 instruction-whole line op ts {s} e = go (O.operands_of line ts) refl e
   where
-    go : (r : O.Result) → O.operands_of line ts ≡ r → instruction_result op (judged_form op r) ≡ Ok s → NoStray ts
+    go : (r : RowRead Written) → O.operands_of line ts ≡ r → instruction_result op (judged_form op r) ≡ Ok s → NoStray ts
     go (reads os) q e = operands-whole line ts q
     go wrong q e = never (cc e)
 
@@ -116,7 +116,7 @@ data_whole : (line : List ℕ) (ts : List Token) {s : Statement} → items_resul
 unfolding I.items_read
 data_whole line ts {s} e = go (I.walk line I.item ts) refl e
   where
-    go : (r : I.Result) → I.walk line I.item ts ≡ r → items_result (I.judged r) ≡ Ok s → NoStray ts
+    go : (r : RowRead Item) → I.walk line I.item ts ≡ r → items_result (I.judged r) ≡ Ok s → NoStray ts
     go (reads is) q e = items-whole line ts q
     go wrong q e = never (cc e)
 
