@@ -17,11 +17,9 @@ use Rattle.tokens.specs.declared.Kind.TheVariants as K
 use Rattle.tokens.specs.declared.Token.{Token}
 use Rattle.tokens.proofs.Places.{InOrder, row_ordered}
 use Rattle.expressions.specs.Grammar.{one_product, sum, one_factor, product, literal as numeral, parentheses}
-use Rattle.expressions.specs.Places.{Placed, literal, node, enclosed, PlacedExpression, found_at, evaluate, found_of, fault_place, Place, here, nowhere, leftmost, deep_from, place_or}
-use Rattle.expressions.specs.Worths.{of_number, operation}
-use Rattle.expressions.specs.Places.{Found}
+use Rattle.expressions.specs.Places.{Placed, literal, node, enclosed, PlacedExpression, found_at, evaluate, found_of, fault_place, Place, here, nowhere, leftmost, deep_from, place_or, Found}
+use Rattle.expressions.specs.Worths.{of_number, operation, Worth}
 use Rattle.expressions.specs.declared.Operation.{Operation}
-use Rattle.expressions.specs.Worths.{Worth}
 use Rattle.operands.specs.Checks.{operand_at, word_of}
 use Rattle.operands.specs.Places as Operands
 use Rattle.operands.specs.Places.{start_of, after_comma, after_commas, operand_start_in, number_start_in, out_by, out_of}

@@ -1,12 +1,11 @@
 -- The columns as functions of a line, which is read once more; `proofs/Top.antt` shows that they are those of Points.antt.
-use Rattle.std.specs.Prelude.{ℕ, zero, suc, ◌+◌, ◌-◌, min, Bool, cond, ◌||◌, List, [], ◌∷◌, eqb, leb, length, get_or, drop}
+use Rattle.std.specs.Prelude.{ℕ, zero, suc, ◌+◌, ◌-◌, min, Bool, cond, ◌||◌, List, [], ◌∷◌, eqb, leb, length, get_or, drop, Option, Some, None, Result, Ok, Err}
 use Rattle.tokens.specs.Bytes.{is_blank}
 use Rattle.tokens.specs.Reading.{tokens_from, line_length, lines_of}
 use Rattle.tokens.specs.declared.Token.{Token}
 use Rattle.names.specs.Names.{word_of}
 use Rattle.names.specs.declared.Word.{Word}
 use Rattle.names.specs.declared.Word.TheVariants as W
-use Rattle.std.specs.Prelude.{Option, Some, None, Result, Ok, Err}
 use Rattle.values.specs.declared.Name.{Name}
 use Rattle.expressions.specs.Places.{fault_in, too_deep_in}
 use Rattle.operands.specs.Operands.{word_at}

@@ -1,6 +1,6 @@
 -- What the failure of a line's check points at (02, K4: "the 1-based place in its line where the fault starts"), without a reader, over the
 -- rules of writing.
-use Rattle.std.specs.Prelude.{ℕ, ◌+◌, List, ◌∷◌, ◌⊎◌, ◌≡◌}
+use Rattle.std.specs.Prelude.{ℕ, ◌+◌, List, ◌∷◌, ◌⊎◌, ◌≡◌, Err}
 use Rattle.isa.specs.declared.Opcode.{Opcode}
 use Rattle.tokens.specs.Rows.{RowOf}
 use Rattle.tokens.specs.declared.Token.{Token}
@@ -8,7 +8,6 @@ use Rattle.names.specs.declared.Word.{Word}
 use Rattle.names.specs.declared.Word.TheVariants as W
 use Rattle.values.specs.declared.Name.{Name}
 use Rattle.expressions.specs.Places.{Placed, PlacedExpression, found_of, here, deep_at}
-use Rattle.std.specs.Prelude.{Err}
 use Rattle.expressions.specs.declared.Fault.TheVariants.{OutOfRange, ByZero}
 use Rattle.operands.specs.Places as Operands
 use Rattle.operands.specs.Places.{OperandStart}

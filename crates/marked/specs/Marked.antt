@@ -1,7 +1,7 @@
 -- Document 01, "Table to prove, marked set", in its order: "One table, one statement." The rows of source are read as text and assembled:
 -- they speak of `Accepted`, which the promise of `assemble` cites. The rows of arithmetic speak of the operations, which the promises of
 -- `arithmetic` cite and the machine's step stands on. The proof is `proofs/Top.antt`.
-use Rattle.std.specs.Prelude.{ℕ, suc, ◌+◌, List, [], ◌∷◌, ◌++◌, ◌≡◌, pos, neg_ℤ, length, replicate}
+use Rattle.std.specs.Prelude.{ℕ, suc, ◌+◌, List, [], ◌∷◌, ◌++◌, ◌≡◌, pos, neg_ℤ, length, replicate, Some}
 use Prim.Native.String.{String}
 use Rattle.codes.specs.Flags.{for_z, for_c, for_v, for_p, for_s}
 use Rattle.codes.specs.Marks.{free, code_mark, data_mark}
@@ -9,7 +9,6 @@ use Rattle.numerals.specs.Bytes.{bytes}
 use Rattle.arithmetic.specs.Cells.{cell}
 use Rattle.arithmetic.specs.Operations.{ADD, SUB, MUL, DIV}
 use Rattle.arithmetic.specs.declared.Outcome.{Outcome}
-use Rattle.std.specs.Prelude.{Some}
 use Rattle.sources.specs.Image.{Accepted}
 
 -- ---- rows of source

@@ -16,7 +16,6 @@ use Rattle.statements.specs.declared.Failure.{Failure}
 use Rattle.operands.specs.declared.Operands.{Operands}
 use Rattle.values.specs.declared.Name.{Name}
 use Rattle.operands.specs.declared.OperandsFault.{OperandsFault}
-use Rattle.operands.specs.declared.OperandsFault.TheVariants.{WrongForm, WrongCount, WrongKind, OutOfRange}
 use Rattle.isa.specs.declared.Instruction.{Instruction}
 use Rattle.isa.specs.declared.Opcode.{Opcode}
 use Rattle.isa.proofs.Top as isa
@@ -56,10 +55,7 @@ module _ (bs : List Bound) (bytes : List ℕ) (next : ℕ) where
       let v = word_in bs bytes next r.first in
       let w = word_in bs bytes next r.second in
       inr (settled_instruction op r.first r.second v w, settled-allowed bytes f v w, refl)
-  code_read_lem op os x (Err WrongForm) e = inl refl
-  code_read_lem op os x (Err WrongCount) e = inl refl
-  code_read_lem op os x (Err (WrongKind place)) e = inl refl
-  code_read_lem op os x (Err OutOfRange) e = inl refl
+  code_read_lem op os x (Err why) e = inl refl
 
   code-given : {l : Option Name} (r : Reading) → Says bytes l r → (does_read (judged r)).mark ≡ code_mark → IsCode (given_by bs bytes next r)
   unfolding judged does

@@ -27,8 +27,7 @@ use Rattle.sources.specs.Image.{Block, blocks_of, Has, Image, Accepted}
 use Rattle.sources.specs.Inner.Assembling.{Verdict, passes, first_of, label_out, reserves_too_far, past_end, taken, act_verdict, read_line, line_verdict}
 use Rattle.sources.proofs.Verdicts.{Tells}
 use Rattle.sources.proofs.LineDecided.{line-tells}
-use Rattle.sources.proofs.Stores.{sets-other}
-use Rattle.sources.proofs.Stores.{zero-there}
+use Rattle.sources.proofs.Stores.{sets-other, zero-there}
 use Rattle.sources.proofs.Walk.{read-line}
 use Rattle.listing.specs.Lines.{line_of, text_of_lines}
 use Rattle.listing.specs.Runs.{HoldCells, Free}

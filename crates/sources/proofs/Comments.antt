@@ -23,10 +23,9 @@ use Rattle.expressions.specs.declared.Fault.TheVariants.{OutOfRange, ByZero}
 use Rattle.operands.specs.declared.OperandsFault.{OperandsFault}
 use Rattle.operands.specs.declared.OperandsFault.TheVariants.{WrongForm, WrongCount, WrongKind, OutOfRange}
 use Rattle.values.proofs.Spacing.{none, some}
-use Rattle.codes.specs.Limits.{deepest}
+use Rattle.codes.specs.Limits.{deepest, most_cells, longest_source}
 use Rattle.expressions.specs.Trees.{Tree, depth}
-use Rattle.expressions.specs.Worths.{worth_of}
-use Rattle.expressions.specs.Worths.{Worth}
+use Rattle.expressions.specs.Worths.{worth_of, Worth}
 use Rattle.operands.specs.Checks as Operands
 use Rattle.items.specs.Items.{cells_of, all_in_range}
 use Rattle.statements.specs.Checks.{result_in, least_unsigned, least_signed}
@@ -40,7 +39,6 @@ use Rattle.statements.specs.declared.Statement.TheVariants as S
 use Rattle.statements.proofs.Labelling.{never}
 use Rattle.statements.proofs.Spacing.{ReadAlike, alike_read}
 use Rattle.statements.proofs.Top.{says-exactly}
-use Rattle.codes.specs.Limits.{most_cells, longest_source}
 use Rattle.sources.specs.Placing.{does_read, Place, start, labelled, after}
 use Rattle.sources.specs.Order.{Refusal, ◌on◌}
 use Rattle.sources.specs.Inner.Assembling.{Verdict, passes, refused, first_of, and_then, read_line, ends_it, up_to_end, loan_verdict, label_verdict, own_verdict, act_verdict, line_verdict, walk_lines, work_of, verdict_of, late_verdict, memory_of, assembled_by, accepted, assemble_of}

@@ -8,9 +8,7 @@ use Rattle.statements.specs.Cells.{body_cells, cells_in}
 use Rattle.items.specs.Writing.{cells_from}
 use Rattle.sources.specs.Placing.{does, start, names, bound_to, acted, after, bindings}
 use Rattle.sources.specs.Uses.{value_of, uses_by}
-use Rattle.sources.specs.Inner.Assembling.{first_of, up_to_end, loan_verdict, among, name_verdict, taken, act_verdict, line_verdict, walk_lines}
-use Rattle.sources.specs.Inner.Assembling.{start_work, worked, work_after, end_verdict, use_verdict, uses_verdict, filled, late_verdict}
-use Rattle.sources.specs.Inner.Assembling.{verdict_of, memory_of, Assembled, assemble_of}
+use Rattle.sources.specs.Inner.Assembling.{first_of, up_to_end, loan_verdict, among, name_verdict, taken, act_verdict, line_verdict, walk_lines, start_work, worked, work_after, end_verdict, use_verdict, uses_verdict, filled, late_verdict, verdict_of, memory_of, Assembled, assemble_of}
 use Rattle.statements.proofs.Computing.{computed_line}
 
 unfoldable pub computed_source : ℕ → ℕ → List ℕ → Assembled

@@ -27,8 +27,7 @@ use Rattle.operands.specs.declared.OperandsFault.{OperandsFault}
 use Rattle.operands.specs.declared.OperandsFault.TheVariants.{WrongForm, WrongCount, WrongKind, OutOfRange}
 use Rattle.codes.specs.Limits.{deepest}
 use Rattle.expressions.specs.Trees.{Tree, depth}
-use Rattle.expressions.specs.Worths.{worth_of}
-use Rattle.expressions.specs.Worths.{Worth}
+use Rattle.expressions.specs.Worths.{worth_of, Worth}
 use Rattle.operands.specs.Checks.{operand_at, label_in, given}
 use Rattle.operands.specs.Checks as Operands
 use Rattle.operands.specs.Settling.{settled_by, settled_operand, settled_instruction}

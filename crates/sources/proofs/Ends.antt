@@ -11,8 +11,7 @@ use mir.Val.{of_z}
 use Rattle.isa.specs.declared.Opcode.{Opcode}
 use Rattle.codes.specs.Limits.{deepest}
 use Rattle.expressions.specs.Trees.{Tree, depth}
-use Rattle.expressions.specs.Worths.{worth_of}
-use Rattle.expressions.specs.Worths.{Worth}
+use Rattle.expressions.specs.Worths.{worth_of, Worth}
 use Rattle.std.proofs.Common.{Result, Ok, Err}
 use Rattle.operands.specs.declared.Operands.{Operands}
 use Rattle.expressions.specs.declared.Fault.TheVariants.{OutOfRange, ByZero}

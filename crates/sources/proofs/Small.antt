@@ -39,8 +39,7 @@ use Rattle.values.specs.Ranges.{displacement_in, displacement_of}
 use Rattle.values.specs.declared.Value.{Value}
 use Rattle.values.specs.declared.Value.TheVariants as Values
 use Rattle.expressions.specs.Trees.{Tree, depth}
-use Rattle.expressions.specs.Worths.{worth_of}
-use Rattle.expressions.specs.Worths.{Worth}
+use Rattle.expressions.specs.Worths.{worth_of, Worth}
 use Rattle.operands.specs.Checks.{operand_with, operand_at, cell_of, word_of, label_in, given}
 use Rattle.operands.specs.Settling.{settled_by, settled_operand, settled_instruction}
 use Rattle.operands.specs.declared.Given.{Given}

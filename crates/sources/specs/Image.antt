@@ -1,15 +1,13 @@
 -- What an accepted source leaves in memory and map: exactly the cells that its statements give, and zero in every other (01, "Layout",
 -- "What is lent").
-use Rattle.std.specs.Prelude.{ℕ, suc, ◌+◌, ◌<◌, cond, ◌≡◌, eqb, length, get_or, replicate}
+use Rattle.std.specs.Prelude.{ℕ, suc, ◌+◌, ◌<◌, cond, ◌≡◌, eqb, length, get_or, replicate, Option, Some, None, Result, Ok, Err}
 use mathlib.Core.List.{List, [], ◌∷◌, Memᴰ}
 use Rattle.isa.specs.Encoding.{words_of}
 use Rattle.isa.specs.declared.Opcode.{Opcode}
 use Rattle.isa.specs.declared.Operand.{Operand}
-use Rattle.std.specs.Prelude.{Option, Some, None, Result, Ok, Err}
 use Rattle.operands.specs.declared.Operands.{Operands}
 use Rattle.values.specs.declared.Name.{Name}
 use Rattle.operands.specs.declared.OperandsFault.{OperandsFault}
-use Rattle.operands.specs.declared.OperandsFault.TheVariants.{WrongForm, WrongCount, WrongKind, OutOfRange}
 use Rattle.operands.specs.Checks as Operands
 use Rattle.operands.specs.Settling.{settled_instruction}
 use Rattle.operands.specs.declared.Given.{Given}
@@ -40,10 +38,7 @@ module _ (bs : List Bound) (bytes : List ℕ) (next : ℕ) where
 
   abbrev pub code_read : Opcode → Result Operands OperandsFault → List ℕ
   code_read op (Ok r) = code_of op r.first r.second
-  code_read op (Err WrongForm) = []
-  code_read op (Err WrongCount) = []
-  code_read op (Err (WrongKind place)) = []
-  code_read op (Err OutOfRange) = []
+  code_read op (Err why) = []
 
   -- ---- what each line gives: an instruction its words, DATA its items' cells; RES the cells that it claims, "holding 0" (02, K2)
 

@@ -1,8 +1,7 @@
 -- The checks in the paper's order, and the first that fails (01, "Refusing a source").
-use Rattle.std.specs.Prelude.{ℕ, ◌+◌, ◌≤◌, ◌<◌, ◌⊎◌, ◌≡◌, length, get_or}
+use Rattle.std.specs.Prelude.{ℕ, ◌+◌, ◌≤◌, ◌<◌, ◌⊎◌, ◌≡◌, length, get_or, Option, Ok}
 use mathlib.Core.List.{List, [], ◌∷◌, ◌++◌, map, Memᴰ}
 use Rattle.tokens.specs.Lines.{Lines}
-use Rattle.std.specs.Prelude.{Option, Ok}
 use Rattle.values.specs.declared.Name.{Name}
 use Rattle.statements.specs.Statements.{Reading, Says, Labelled, UnknownWord, NoReading}
 use Rattle.statements.specs.FirstFailing.{Check, check, Pass, First}
@@ -63,7 +62,7 @@ module _ (bytes : List ℕ) where
   OfLabel P = (n : Name) × Labelled bytes n × P (spelled bytes n)
 
   -- the line has a reading that passes its own checks, and of whose label and act this holds
-  abbrev pub OfAct : ((Option Name) → Act → Type 0) → Type 0
+  abbrev pub OfAct : (Option Name → Act → Type 0) → Type 0
   OfAct P = (l : Option Name) × (r : Reading) × (s : Statement) × Says bytes l r × (judged r ≡ Ok s) × P l (does s)
 
 module _ (M k : ℕ) (p : Place) (bytes : List ℕ) where

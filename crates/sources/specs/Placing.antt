@@ -1,7 +1,6 @@
 -- Addresses, labels and cells, line by line (01, "Rules of writing": "Addresses start at 0. A label waits for the next statement ..").
-use Rattle.std.specs.Prelude.{ℕ, ◌+◌, List, [], ◌∷◌, ◌++◌, map, replicate}
+use Rattle.std.specs.Prelude.{ℕ, ◌+◌, List, [], ◌∷◌, ◌++◌, map, replicate, Option, Some, None, Result, Ok, Err}
 use Rattle.std.proofs.lemmas.List.Edits.{sets}
-use Rattle.std.specs.Prelude.{Option, Some, None, Result, Ok, Err}
 use Rattle.statements.specs.declared.Failure.{Failure}
 use Rattle.values.specs.declared.Name.{Name}
 use Rattle.statements.specs.Judging.{judged, claim_of}

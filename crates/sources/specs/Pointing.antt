@@ -1,8 +1,7 @@
 -- Where the first check that fails points (02, K4: "Give every refusal from 3 on a column .., the 1-based place in its line where the fault
 -- starts"), without a reader.
-use Rattle.std.specs.Prelude.{ℕ, ◌+◌, List, [], ◌∷◌, ◌++◌, map, ◌≡◌, length}
+use Rattle.std.specs.Prelude.{ℕ, ◌+◌, List, [], ◌∷◌, ◌++◌, map, ◌≡◌, length, Option, Some, None, Result, Ok, Err}
 use Rattle.tokens.specs.Lines.{Lines}
-use Rattle.std.specs.Prelude.{Option, Some, None, Result, Ok, Err}
 use Rattle.statements.specs.declared.Failure.{Failure}
 use Rattle.values.specs.declared.Name.{Name}
 use Rattle.statements.specs.FirstFailing.{Check, check, Pass, First}

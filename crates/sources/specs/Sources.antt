@@ -1,8 +1,7 @@
 -- The reading of a source, without a reader: its lines, and what each says up to END (01, "Rules of writing").
-use Rattle.std.specs.Prelude.{ℕ, List, [], ◌∷◌, ◌≡◌}
+use Rattle.std.specs.Prelude.{ℕ, List, [], ◌∷◌, ◌≡◌, Option}
 use Rattle.std.proofs.Math.Seq.{slice}
 use Rattle.tokens.specs.Lines.{Lines}
-use Rattle.std.specs.Prelude.{Option}
 use Rattle.values.specs.declared.Name.{Name}
 use Rattle.statements.specs.Statements.{Reading, end, Says}
 

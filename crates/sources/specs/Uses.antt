@@ -1,11 +1,10 @@
 -- The labels that operands name, in the order of lines and of operands, and the word that each stands for (01, "Rules of writing":
 -- "`$label` is the label's value less the address after the instruction, as plain numbers").
-use Rattle.std.specs.Prelude.{ℕ, ◌+◌, ◌-◌, ◌%◌, cond, List, [], ◌∷◌, ◌++◌, length}
+use Rattle.std.specs.Prelude.{ℕ, ◌+◌, ◌-◌, ◌%◌, cond, List, [], ◌∷◌, ◌++◌, length, Option, Some, None, Result, Ok, Err}
 use Rattle.isa.specs.Operands.{operand_words}
 use Rattle.isa.specs.declared.Operand.{Operand}
 use Rattle.isa.specs.declared.Operand.TheVariants as O
 use Rattle.names.specs.Names.{same}
-use Rattle.std.specs.Prelude.{Option, Some, None, Result, Ok, Err}
 use Rattle.statements.specs.declared.Failure.{Failure}
 use Rattle.values.specs.declared.Name.{Name}
 use Rattle.operands.specs.declared.Given.{Given}

@@ -1,12 +1,11 @@
 -- The assembler as a function, in the order in which code does it: each line is read once, its cells are written with 0 in the places of
 -- labels, and those places are filled once every line has passed. `proofs/Top.antt` shows that it accepts exactly what Order.antt accepts,
 -- with the image of Image.antt, and refuses as Order.antt refuses.
-use Rattle.std.specs.Prelude.{ℕ, ◌+◌, Bool, true, false, cond, not, ◌&&◌, ◌||◌, List, [], ◌∷◌, ◌++◌, map, eqb, leb, ltb, length, get_or, replicate, set}
+use Rattle.std.specs.Prelude.{ℕ, ◌+◌, Bool, true, false, cond, not, ◌&&◌, ◌||◌, List, [], ◌∷◌, ◌++◌, map, eqb, leb, ltb, length, get_or, replicate, set, Option, Some, None, Result, Ok, Err}
 use Rattle.std.proofs.lemmas.List.Edits.{sets}
 use Rattle.isa.specs.Encoding.{words_of}
 use Rattle.tokens.specs.Reading.{lines_of}
 use Rattle.names.specs.Names.{same}
-use Rattle.std.specs.Prelude.{Option, Some, None, Result, Ok, Err}
 use Rattle.statements.specs.declared.Failure.{Failure}
 use Rattle.values.specs.declared.Name.{Name}
 use Rattle.statements.specs.Judging.{number_of}
