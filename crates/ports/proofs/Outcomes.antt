@@ -51,12 +51,12 @@ module _ {w : Written} (x : ℕ) (cell : x < 65536) (is : w ≡ written (signed_
   pub places : (drop w.start w.bytes ≡ signed_decimal x) × (length w.bytes ≡ 11)
   places = rw is (written-text (signed_decimal x) (omega (arith, signed-length x cell)))
 
-  pub places-start : w.start ≤ 11
+  pub places-start : w.start ≤ length w.bytes
   places-start = omega (arith, places.1, ap length places.0, length-drop w.start w.bytes, signed-length x cell)
 
-  pub places-text : take (11 - w.start) (drop w.start w.bytes) ≡ signed_decimal x
+  pub places-text : take (length w.bytes - w.start) (drop w.start w.bytes) ≡ signed_decimal x
   places-text =
-      rw places.0 (take_all (11 - w.start) (signed_decimal x) (omega (arith, places.1, ap length places.0, length-drop w.start w.bytes)))
+      rw places.0 (take_all (length w.bytes - w.start) (signed_decimal x) (omega (arith, places.1, ap length places.0, length-drop w.start w.bytes)))
 
 -- INCHAR, ININT
 module _ (input : List ℕ) (at : ℕ) where
@@ -81,17 +81,16 @@ pub string-none : (m : List ℕ) (to : ℕ) (input : List ℕ) (at : ℕ) → le
 unfolding string_taken
 string-none m to input at h = rw (le-ltb _ _ h)
 
--- where the line at the position ends at `end`
-module _ (m : List ℕ) (to : ℕ) (input : List ℕ) (at end : ℕ) (here : at < length input) (ends : end ≡ at + length (line_at input at)) where
-  room_is : leb (to + length (line_at input at) + 1) (length m) ≡ leb (to + (end - at + 1)) (length m)
+module _ (m : List ℕ) (to : ℕ) (input : List ℕ) (at : ℕ) (here : at < length input) where
+  room_is : leb (to + length (line_at input at) + 1) (length m) ≡ leb (to + (length (line_at input at) + 1)) (length m)
   room_is = ap (λ (k : ℕ). leb k (length m)) (omega arith)
 
-  pub string-taken : leb (to + (end - at + 1)) (length m) ≡ true
-      → string_taken m to input at ≡ passed (Ok (after_line input at)) (overwrite m to (take (end - at) (drop at input) ++ (0 ∷ [])))
+  pub string-taken : leb (to + (length (line_at input at) + 1)) (length m) ≡ true
+      → string_taken m to input at ≡ passed (Ok (after_line input at)) (overwrite m to (line_at input at ++ (0 ∷ [])))
   unfolding string_taken
-  string-taken e = rw (up_to_part LF input at end ends, lt-ltb _ _ here, room_is, e)
+  string-taken e = rw (lt-ltb _ _ here, room_is, e)
 
-  pub string-long : leb (to + (end - at + 1)) (length m) ≡ false → string_taken m to input at ≡ passed (Err memory_end) m
+  pub string-long : leb (to + (length (line_at input at) + 1)) (length m) ≡ false → string_taken m to input at ≡ passed (Err memory_end) m
   unfolding string_taken
   string-long e = rw (lt-ltb _ _ here, room_is, e)
 

@@ -5,10 +5,14 @@ use mathlib.Core.List.{List, [], ◌∷◌, ◌++◌}
 use Prim.Native.Nat.{ℕ, zero, suc, ◌+◌, ◌-◌, ◌≤◌, ◌<◌}
 use native.Mathlib.Numerals.{add-one}
 use native.Mathlib.Omega.{arith}
-use borrow.Author.Tests.{eq-eqb, ne_eqb, eqb-true, eqb-false, lt-ltb, not-true}
+use borrow.Author.Tests.{eq-eqb, ne_eqb, eqb-true, eqb-false, lt-ltb, ltb-false, not-true}
 use lib.Dec.{eqb, ltb, leb-suc-suc}
 use lib.ListN.{length, get_or, take, drop, drop_of_length-le, length-drop}
 use lib.Seq.{take_all, drop-cons}
+use Rattle.std.proofs.Common.{Some, None}
+use Rattle.std.specs.Option.{unwrap_or}
+use Rattle.std.specs.List.{position, position_or_len}
+use Rattle.std.proofs.lemmas.List.Recursion.{is_position_or_len}
 use Rattle.ports.specs.Searching.{up_to, meets}
 use Rattle.ports.specs.Rules.{Free}
 
@@ -90,6 +94,26 @@ module _ (x : ℕ) where
           → cond b true (meets x s) ≡ ltb (length (cond b [] (y ∷ up_to x s))) (suc (length s))
       go true h = sym (lt-ltb 0 (suc (length s)) (omega arith))
       go false h = h ∙ sym (leb-suc-suc (suc (length (up_to x s))) (length s))
+
+  -- its length is the place of the first, and that of the list where there is none
+  up_to_none : length (up_to x []) ≡ 0
+  unfolding up_to
+  up_to_none = refl
+
+  up_to_each : (y : ℕ) (r : List ℕ) → length (up_to x (y ∷ r)) ≡ cond (eqb y x) 0 (1 + length (up_to x r))
+  unfolding up_to
+  up_to_each y r = go (eqb y x)
+    where
+      go : (b : Bool) → length (cond b [] (y ∷ up_to x r)) ≡ cond b 0 (1 + length (up_to x r))
+      go true = refl
+      go false = omega arith
+
+  pub search_is : (s : List ℕ) → unwrap_or (position (λ (y : ℕ). eqb y x) s) (length s) ≡ length (up_to x s)
+  search_is s = rw (← is_position_or_len (λ (q : List ℕ). length (up_to x q)) (λ (y : ℕ). eqb y x) up_to_none up_to_each s) (go (ltb (length (up_to x s)) (length s)) refl)
+    where
+      go : (b : Bool) → ltb (length (up_to x s)) (length s) ≡ b → unwrap_or (cond b (Some (length (up_to x s))) None) (length s) ≡ length (up_to x s)
+      go true e = refl
+      go false e = omega (arith, ltb-false _ _ e, up_to-within s)
 
   -- from a place on, it ends within the list
   pub up_to-ends : (s : List ℕ) (i : ℕ) → i ≤ length s → i + length (up_to x (drop i s)) ≤ length s

@@ -1,26 +1,30 @@
 // What is taken of the input (specs/Input.antt).
-ghost use Rattle.std.specs.Prelude.{◌≡◌, [], ◌∷◌, ◌++◌, ◌+◌, ◌≤◌, length, take, drop};
+ghost use Rattle.std.specs.Prelude.{◌≡◌, [], ◌∷◌, ◌++◌, ◌+◌, ◌≤◌, length};
 ghost use Rattle.ports.specs.Overwriting.{overwrite};
-ghost use Rattle.ports.specs.Input.{line_at, after_line, byte_taken, number_taken, passed, string_taken};
+ghost use Rattle.ports.specs.Input.{line_of, line_at, after_line, byte_taken, number_taken, passed, string_taken};
 
 use super::{Taken, has_room};
 use codes::stops::{INPUT_END, MEMORY_END};
 
-// The end of the line at a position: its LF, or the input's end.
-fn line_end(input: &[u8], at: usize) -> usize
-    ensures { result ≡ at + length (line_at input.now at) }
+// The length of the line that a text begins with: up to its LF, or all of it.
+fn line_length(text: &[u8]) -> usize
+    ensures { result ≡ length (line_of text.now) }
 {
-    let mut i = at;
-    while i < input.len() {
-        if input[i] == b'\n' {
-            return i;
-        }
-        i += 1;
-    }
-    i
+    text.iter()
+        .position(|b| *b == b'\n')
+        .unwrap_or(text.len())
 }
 
-// The position after a line that ends at `end`.
+// The line at a position, its LF not kept.
+fn line_at(input: &[u8], at: usize) -> &[u8]
+    requires { at ≤ length input.now }
+    ensures { result.now ≡ line_at input.now at }
+{
+    let rest = &input[at..];
+    &rest[..line_length(rest)]
+}
+
+// The position after a line that ends at `end`, its LF taken.
 fn after(input: &[u8], at: usize, end: usize) -> usize
     requires { end ≡ at + length (line_at input.now at) }
     ensures { result ≡ after_line input.now at }
@@ -29,14 +33,12 @@ fn after(input: &[u8], at: usize, end: usize) -> usize
 }
 
 // INCHAR: the byte at the position.
+#[tactic(auto, unfolding(crate::specs::Input::byte_taken))]
 pub fn take_byte(input: &[u8], at: usize) -> Result<Taken, u8>
     ensures { result ≡ byte_taken input.now at }
 {
-    if at < input.len() {
-        Ok(Taken { value: input[at] as u16, after: at + 1 })
-    } else {
-        Err(INPUT_END)
-    }
+    let byte = input.get(at).copied().ok_or(INPUT_END)?;
+    Ok(Taken { value: u16::from(byte), after: at + 1 })
 }
 
 // ININT: the number that the line is, or 0.
@@ -46,22 +48,20 @@ pub fn take_number(input: &[u8], at: usize) -> Result<Taken, u8>
     if input.len() <= at {
         return Err(INPUT_END);
     }
-    let end = line_end(input, at);
-    let x = numerals::reading::line_number(&input[at..end]);
-    Ok(Taken { value: x, after: after(input, at, end) })
+    let line = line_at(input, at);
+    let value = numerals::reading::line_number(line);
+    Ok(Taken { value, after: after(input, at, at + line.len()) })
 }
 
-// n bytes from `from` on as cells from `to` on, and a 0 cell.
-fn fill(m: &mut [u16], to: usize, input: &[u8], from: usize, n: usize)
-    requires { (to + n + 1 ≤ length m.old) × (from + n ≤ length input.now) }
-    ensures { m.new ≡ overwrite m.old to (take n (drop from input.now) ++ (0 ∷ [])) }
+// A text's bytes from a cell on, and a 0 cell.
+fn fill(m: &mut [u16], to: usize, text: &[u8])
+    requires { to + length text.now + 1 ≤ length m.old }
+    ensures { m.new ≡ overwrite m.old to (text.now ++ (0 ∷ [])) }
 {
-    let mut k = 0;
-    while k < n {
-        m[to + k] = input[from + k] as u16;
-        k += 1;
+    for k in 0..text.len() {
+        m[to + k] = u16::from(text[k]);
     }
-    m[to + n] = 0;
+    m[to + text.len()] = 0;
 }
 
 // INSTR: the line's bytes and a 0 cell, from a cell on.
@@ -71,12 +71,11 @@ pub fn take_string(m: &mut [u16], to: u16, input: &[u8], at: usize) -> Result<us
     if input.len() <= at {
         return Err(INPUT_END);
     }
-    let end = line_end(input, at);
-    let n = end - at;
+    let line = line_at(input, at);
     let first = to as usize;
-    if has_room(m.len(), first, n + 1) {
-        fill(m, first, input, at, n);
-        return Ok(after(input, at, end));
+    if !has_room(m.len(), first, line.len() + 1) {
+        return Err(MEMORY_END);
     }
-    Err(MEMORY_END)
+    fill(m, first, line);
+    Ok(after(input, at, at + line.len()))
 }

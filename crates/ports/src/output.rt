@@ -1,5 +1,5 @@
 // What is written to the output (specs/Output.antt).
-ghost use Rattle.std.specs.Prelude.{◌≡◌, true, map, ◌+◌, ◌≤◌, length, take, drop};
+ghost use Rattle.std.specs.Prelude.{◌≡◌, true, map, ◌+◌, ◌≤◌, length, drop};
 ghost use Rattle.ports.specs.Overwriting.{overwrite};
 ghost use Rattle.ports.specs.Input.{passed};
 ghost use Rattle.ports.specs.Output.{low_byte, string_of, text_put, byte_put, number_put, string_put};
@@ -11,34 +11,23 @@ use codes::stops::{MEMORY_END, OUTPUT_SHORT};
 pub fn put_byte(out: &mut [u8], at: usize, x: u16) -> Result<usize, u8>
     ensures { passed result out.new ≡ byte_put out.old at x }
 {
-    if at < out.len() {
-        out[at] = (x % 256) as u8;
-        return Ok(at + 1);
+    if out.len() <= at {
+        return Err(OUTPUT_SHORT);
     }
-    Err(OUTPUT_SHORT)
-}
-
-// A whole text, for which there is room.
-fn copy(out: &mut [u8], at: usize, text: &[u8])
-    requires { at + length text.now ≤ length out.old }
-    ensures { out.new ≡ overwrite out.old at text.now }
-{
-    let mut k = 0;
-    while k < text.len() {
-        out[at + k] = text[k];
-        k += 1;
-    }
+    out[at] = (x % 256) as u8;
+    Ok(at + 1)
 }
 
 // A text, if there is room for all of it.
 pub fn put_text(out: &mut [u8], at: usize, text: &[u8]) -> Result<usize, u8>
     ensures { passed result out.new ≡ text_put out.old at text.now }
 {
-    if has_room(out.len(), at, text.len()) {
-        copy(out, at, text);
-        return Ok(at + text.len());
+    if !has_room(out.len(), at, text.len()) {
+        return Err(OUTPUT_SHORT);
     }
-    Err(OUTPUT_SHORT)
+    let next = at + text.len();
+    out[at..next].copy_from_slice(text);
+    Ok(next)
 }
 
 // WRINT: the signed decimal.
@@ -46,9 +35,7 @@ pub fn put_number(out: &mut [u8], at: usize, x: u16) -> Result<usize, u8>
     ensures { passed result out.new ≡ number_put out.old at x }
 {
     let text = numerals::writing::signed_decimal(x);
-    let bytes = text.bytes;
-    let start = text.start;
-    put_text(out, at, &bytes[start..])
+    put_text(out, at, &text.bytes[text.start..])
 }
 
 // Whether none of eight cells from a place on is 0. `|` looks at all eight with no branch between, so they are tested as one vector.
@@ -97,15 +84,13 @@ fn zero_at(m: &[u16], from: usize) -> usize
     i
 }
 
-// The low bytes of n cells from `from` on.
-fn print(out: &mut [u8], at: usize, m: &[u16], from: usize, n: usize)
-    requires { (at + n ≤ length out.old) × (from + n ≤ length m.now) }
-    ensures { out.new ≡ overwrite out.old at (map low_byte (take n (drop from m.now))) }
+// The low bytes of some cells.
+fn print(out: &mut [u8], at: usize, cells: &[u16])
+    requires { at + length cells.now ≤ length out.old }
+    ensures { out.new ≡ overwrite out.old at (map low_byte cells.now) }
 {
-    let mut k = 0;
-    while k < n {
-        out[at + k] = (m[from + k] % 256) as u8;
-        k += 1;
+    for k in 0..cells.len() {
+        out[at + k] = (cells[k] % 256) as u8;
     }
 }
 
@@ -119,9 +104,9 @@ pub fn put_string(out: &mut [u8], at: usize, m: &[u16], from: u16) -> Result<usi
         return Err(MEMORY_END);
     }
     let n = end - first;
-    if has_room(out.len(), at, n) {
-        print(out, at, m, first, n);
-        return Ok(at + n);
+    if !has_room(out.len(), at, n) {
+        return Err(OUTPUT_SHORT);
     }
-    Err(OUTPUT_SHORT)
+    print(out, at, &m[first..end]);
+    Ok(at + n)
 }

@@ -3,32 +3,36 @@ use mathlib.Core.Path.{sym, ◌∙◌}
 use Prim.Native.Nat.{◌+◌, ◌-◌, ◌≤◌}
 use native.Mathlib.Omega.{arith}
 use borrow.Author.Tests.{leb-true}
-use lib.ListN.{length}
+use lib.ListN.{length, drop, length-drop}
+use lib.Seq.{length-take-le}
 use Rattle.ports.proofs.Outcomes.{string-unended, string-put, string-short}
+use Rattle.ports.proofs.output.put_string.Goals.{Else-not-has_room}
 use Rattle.ports.proofs.output.put_string.Goals as goal
+
+fits : (c : Else-not-has_room) → c.args.at + (c.zero_at-end.result - c.args.from) ≤ length c.args.out.now
+fits c = leb-true _ _ (sym c.has_room.ensures ∙ c.if-not-has_room.false)
 
 pub returns-then-m-end : goal.returns-then-m-end
 returns-then-m-end c =
     let unended : length c.args.m.now ≤ c.zero_at-end.result = omega arith in
     sym (string-unended _ _ _ _ _ c.zero_at-end.ensures unended)
 
+pub returns-then-not-has_room : goal.returns-then-not-has_room
+returns-then-not-has_room c =
+    let room = sym c.has_room.ensures ∙ c.if-not-has_room.true in
+    sym (string-short _ _ _ _ _ c.zero_at-end.ensures c.if-m-end.false room)
+
 pub print-requires : goal.print-requires
 print-requires c =
     let a = c.args in
-    omega (arith, leb-true (a.at + (c.zero_at-end.result - a.from)) (length a.out.now) (sym c.has_room.ensures ∙ c.if-has_room.true))
+    let l = length-take-le (c.zero_at-end.result - a.from) (drop a.from a.m.now) (omega (arith, length-drop a.from a.m.now)) in
+    omega (arith, l, fits (goal.at.print-requires c).Else-not-has_room)
 
 pub overflow_add-result : goal.overflow_add-result
-overflow_add-result c =
-    let a = c.args in
-    omega (arith, leb-true (a.at + (c.zero_at-end.result - a.from)) (length a.out.now) (sym c.has_room.ensures ∙ c.if-has_room.true))
-
-pub returns-then-has_room : goal.returns-then-has_room
-returns-then-has_room c =
-    let room = sym c.has_room.ensures ∙ c.if-has_room.true in
-    rw c.print.ensures
-    (sym (string-put _ _ _ _ _ c.zero_at-end.ensures c.if-m-end.false room))
+overflow_add-result c = omega (arith, fits (goal.at.overflow_add-result c).Else-not-has_room)
 
 pub returns : goal.returns
 returns c =
-    let room = sym c.has_room.ensures ∙ c.if-has_room.false in
-    sym (string-short _ _ _ _ _ c.zero_at-end.ensures c.if-m-end.false room)
+    let room = sym c.has_room.ensures ∙ c.if-not-has_room.false in
+    rw c.print.ensures
+    (sym (string-put _ _ _ _ _ c.zero_at-end.ensures c.if-m-end.false room))
