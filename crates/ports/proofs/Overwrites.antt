@@ -7,7 +7,7 @@ use native.Mathlib.Numerals.{add-one}
 use native.Mathlib.Omega.{arith}
 use lib.ListN.{length, get_or, set, take, drop, length-append, length-take, length-drop, take-append-drop, length-set}
 use borrow.Rule.Slice.PartMut.{put_mid}
-use lib.Seq.{set_at, take_at, drop_at, drop-cons, take-suc, take_all, length-take-le, drop-drop}
+use lib.Seq.{set_at, take_at, drop_at, drop-cons, take-suc, length-take-le, drop-drop}
 use Rattle.ports.specs.Overwriting.{overwrite}
 
 pub overwrite-none : (xs : List ℕ) (at : ℕ) → overwrite xs at [] ≡ xs
@@ -54,25 +54,27 @@ pub overwrite_part : (xs : List ℕ) (at k : ℕ) (ys zs : List ℕ) → zs ≡ 
 unfolding overwrite
 overwrite_part xs at k ys zs e l = rw (e, l) (ap (λ (r : List ℕ). take at xs ++ (ys ++ r)) (drop-drop (length ys) at xs))
 
--- a row `ms` after k turns of a loop that copies `s` to a place of `xs`
-abbrev pub Copied : List ℕ → ℕ → List ℕ → List ℕ → ℕ → Type 0
-Copied xs at s ms k = (length ms ≡ length xs) × (ms ≡ overwrite xs at (take k s))
+-- a row `ms` after k turns of a loop that copies the first n elements of `s` to a place of `xs`
+abbrev pub Copied : List ℕ → ℕ → List ℕ → ℕ → List ℕ → ℕ → Type 0
+Copied xs at s n ms k = (k ≤ n) × (length ms ≡ length xs) × (ms ≡ overwrite xs at (take k s))
 
-module _ (xs : List ℕ) (at : ℕ) (s : List ℕ) where
-  pub copy_none : Copied xs at s xs 0
-  copy_none = (refl, sym (overwrite-none xs at))
+module _ (xs : List ℕ) (at : ℕ) (s : List ℕ) (n : ℕ) where
+  pub copy_none : Copied xs at s n xs 0
+  copy_none = (omega arith, refl, sym (overwrite-none xs at))
 
-  pub copy_more : (ms : List ℕ) (k y : ℕ) → Copied xs at s ms k → k < length s → at + length s ≤ length xs → y ≡ get_or s k 0
-      → Copied xs at s (set ms (at + k) y) (k + 1)
-  copy_more ms k y done h room e =
+  pub copy_more : (ms : List ℕ) (k y : ℕ) → Copied xs at s n ms k → k < n → at + n ≤ length xs → n ≤ length s → y ≡ get_or s k 0
+      → Copied xs at s n (set ms (at + k) y) (k + 1)
+  copy_more ms k y done h room has e =
       let l : length (take k s) ≡ k = length-take-le k s (omega arith) in
       let r = overwrite-more xs at (take k s) (get_or s k 0) (omega arith) in
-      (length-set ms (at + k) y ∙ done.0, rw (e, done.1, add-one k, take-suc s k 0 h) (rw l at r))
+      (omega arith, length-set ms (at + k) y ∙ done.1, rw (e, done.2, add-one k, take-suc s k 0 (omega arith)) (rw l at r))
 
-  pub copy_end : (ms : List ℕ) (k : ℕ) → Copied xs at s ms k → length s ≤ k → ms ≡ overwrite xs at s
-  copy_end ms k done h = rw (take_all k s h) at done.1
+  pub copy_end : (ms : List ℕ) (k : ℕ) → Copied xs at s n ms k → n ≤ k → ms ≡ overwrite xs at (take n s)
+  copy_end ms k done h = let e : k ≡ n = omega arith in rw e at done.2
 
   -- and one element more
-  pub copy_last : (ms : List ℕ) (k y : ℕ) → Copied xs at s ms k → length s ≤ k → at + length s < length xs
-      → set ms (at + length s) y ≡ overwrite xs at (s ++ (y ∷ []))
-  copy_last ms k y done h room = rw (copy_end ms k done h) (overwrite-more xs at s y room)
+  pub copy_last : (ms : List ℕ) (k y : ℕ) → Copied xs at s n ms k → n ≤ k → at + n < length xs → n ≤ length s
+      → set ms (at + n) y ≡ overwrite xs at (take n s ++ (y ∷ []))
+  copy_last ms k y done h room has =
+      let l : length (take n s) ≡ n = length-take-le n s has in
+      rw (copy_end ms k done h) (rw l at (overwrite-more xs at (take n s) y (omega arith)))
