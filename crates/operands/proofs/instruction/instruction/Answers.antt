@@ -1,8 +1,5 @@
 -- What is kept of the list is judged as the list is (Judged).
-use mathlib.Core.Path.{sym}
 use Rattle.std.proofs.Common.{rules}
-use Rattle.tokens.specs.Reading.{tokens_from}
-use Rattle.operands.specs.Reading.{operands_of}
 use Rattle.operands.specs.Checks.{instruction_read}
 use Rattle.operands.proofs.Judged.{read-judged, wrong-judged}
 use Rattle.operands.proofs.instruction.instruction.Goals as goal

@@ -1,5 +1,4 @@
 -- The tests are the definition's, one after the other (Judged).
-use mathlib.Core.Path.{sym}
 use Rattle.operands.proofs.Judged.{count-differs, first_unfit, second_unfit, both_fit}
 use Rattle.operands.proofs.instruction.judge.Goals as goal
 
