@@ -1,11 +1,11 @@
 // What an operand's word is (specs/Checks.antt), and the operand with it.
 ghost use Rattle.std.specs.Prelude.{◌≡◌};
-ghost use Rattle.numerals.specs.Numbers.{kept_of};
-ghost use Rattle.values.specs.Ranges.{displacement_of};
-ghost use Rattle.operands.specs.Checks.{operand_with, cell_of, word_of, label_of, label_in};
+ghost use Rattle.operands.specs.Checks.{operand_with, word_of, label_of, label_in};
+ghost use Rattle.operands.specs.Inner.Peeks.{numeral_of};
 
 use super::Written;
 use isa::Operand;
+use numerals::Numeral;
 use numerals::reading::kept;
 use values::ranges::displacement;
 use values::{Name, Value};
@@ -26,26 +26,16 @@ pub(crate) fn operand_with(o: Written, word: u16) -> Operand
     }
 }
 
-// The cell of an immediate or an address; 0 in a label's place.
-fn number_word(v: Value) -> Option<u16>
-    ensures { result ≡ cell_of kept_of v }
+fn numeral_of(v: Value) -> Option<Numeral>
+    ensures { result ≡ numeral_of v }
 {
     match v {
-        Value::Number(n) => kept(n),
-        Value::Label(_) => Some(0),
+        Value::Number(n) => Some(n),
+        Value::Label(_) => None,
     }
 }
 
-// The cell of a displacement; 0 in a label's place.
-fn displacement_word(v: Value) -> Option<u16>
-    ensures { result ≡ cell_of displacement_of v }
-{
-    match v {
-        Value::Number(n) => displacement(n),
-        Value::Label(_) => Some(0),
-    }
-}
-
+// The cell of a number, in its range; 0 in a label's place.
 #[tactic(auto, unfolding(crate::specs::Checks::word_of))]
 pub(crate) fn word_of(o: Written) -> Option<u16>
     ensures { result ≡ word_of o }
@@ -53,11 +43,11 @@ pub(crate) fn word_of(o: Written) -> Option<u16>
     match o {
         Written::Absent => Some(0),
         Written::Register(r) | Written::Indirect(r) => Some(r),
-        Written::Immediate(v) | Written::Memory(v) => number_word(v),
+        Written::Immediate(v) | Written::Memory(v) => numeral_of(v).map_or(Some(0), kept),
         Written::IndexedX(v)
         | Written::IndexedY(v)
         | Written::IndexedSp(v)
-        | Written::Relative(v) => displacement_word(v),
+        | Written::Relative(v) => numeral_of(v).map_or(Some(0), displacement),
     }
 }
 

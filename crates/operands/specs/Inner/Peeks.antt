@@ -2,6 +2,7 @@
 -- kept of a list.
 use Rattle.std.specs.Prelude.{ℕ, ◌≤◌, cond, List, [], ◌∷◌, ◌≡◌, eqb}
 use Rattle.numerals.specs.declared.Cursor.{Cursor}
+use Rattle.numerals.specs.declared.Numeral.{Numeral}
 use Rattle.isa.specs.Opcodes.{table, count_of}
 use Rattle.isa.specs.Operands.{allows}
 use Rattle.codes.specs.Registers.{is_register}
@@ -11,6 +12,8 @@ use Rattle.tokens.specs.declared.Kind.{Kind}
 use Rattle.tokens.specs.declared.Kind.TheVariants as K
 use Rattle.tokens.specs.declared.Token.{Token}
 use Rattle.values.specs.Walks as Walks
+use Rattle.values.specs.declared.Value.{Value}
+use Rattle.values.specs.declared.Value.TheVariants.{Number, Label}
 use Rattle.operands.specs.Reading.{State, operand, done, Step, RowRead, reads, wrong, code_at, walk}
 use Rattle.operands.specs.Checks.{operand_with, word_of, ranged}
 use Rattle.std.specs.Prelude.{Option, Some, None, Result, Err}
@@ -44,6 +47,13 @@ register_of line t = register_by (code_at line t) t.kind t.next
 abbrev pub behind_mark : ℕ → Option (Read ℕ) → Option Cursor
 behind_mark mark None = None
 behind_mark mark (Some r) = cond (eqb r.value mark) (Some r.next) None
+
+-- ---- a value
+
+-- a value's number, where it is one
+abbrev pub numeral_of : Value → Option Numeral
+numeral_of (Number n) = Some n
+numeral_of (Label name) = None
 
 -- ---- one operand
 
