@@ -23,10 +23,10 @@ use Rattle.values.specs.Reading.{value_at}
 use Rattle.values.specs.declared.Value.{Value}
 use Rattle.tokens.proofs.Heads.{row_of}
 use Rattle.operands.specs.Operands.{Index}
-use Rattle.operands.specs.Reading.{Shape, hash, slash, dollar, State, operand, value, after_hash, index_dot, index_name, register_name, indirect_dot, indirect_name, closing, done, Step, to, emit, halt, wrong, on_word, starts, index_step, finish, code_at, step, walk}
+use Rattle.operands.specs.Reading.{Shape, hash, put, State, operand, value, after_hash, index_dot, index_name, register_name, indirect_dot, indirect_name, closing, done, Step, to, emit, halt, wrong, on_word, starts, index_step, finish, code_at, step, walk}
 use Rattle.operands.specs.Inner.Peeks.{register_of, behind_mark, stepped, Onward, Goes}
 use Rattle.operands.specs.declared.Written.{Written}
-use Rattle.operands.specs.declared.Written.TheVariants.{Immediate, Register, Memory, Indirect, Relative}
+use Rattle.operands.specs.declared.Written.TheVariants.{Immediate, Register, Indirect}
 use Rattle.operands.proofs.Readings.{index_steps}
 use Rattle.operands.proofs.Turns.{ValueOnward, value_on, value-turn, mark-row, on-mark, off_mark, on_name, off_name}
 
@@ -72,11 +72,9 @@ module _ (s : List ℕ) (at : ℕ) where
       let h = value-turn s at k in
       (h.0 ∙ ap (λ (o : Option (Read Value)). value_on s k o) e, subst (λ (o : Option (Read Value)). ValueOnward at o) e h.1)
 
-  pub memory_is : {r : Read Value} → value_at s at ≡ Some r → Goes s (value slash) at (Some (upto (Memory r.value) r.next))
-  memory_is e = let h = found_on slash e in record { same = h.0; on = h.1 }
-
-  pub relative_is : {r : Read Value} → value_at s at ≡ Some r → Goes s (value dollar) at (Some (upto (Relative r.value) r.next))
-  relative_is e = let h = found_on dollar e in record { same = h.0; on = h.1 }
+  pub value_ends : (k : Shape) {r : Read Value} {o : Written} → value_at s at ≡ Some r → put k r.value ≡ done o
+      → Goes s (value k) at (Some (upto o r.next))
+  value_ends k {r} e w = let h = found_on k e in record { same = h.0 ∙ ap (λ (x : State). walk s x (tokens_from s r.next.at)) w; on = h.1 }
 
   pub hash_is : {r : Read Value} {o : Option (Read Written)} → value_at s at ≡ Some r → Goes s (after_hash r.value) r.next.at o → Goes s (value hash) at o
   hash_is {r} {o} e g = let h = found_on hash e in record { same = h.0 ∙ g.same; on = later at r.next.at o h.1 g.on }

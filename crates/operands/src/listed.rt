@@ -36,6 +36,7 @@ fn some_operands(s: &[u8], from: Cursor, none: FirstTwo) -> Option<FirstTwo>
 {
     let mut at = from;
     let mut all = none;
+    // no iterator: where the next operand starts is known only when this one is read
     loop {
         let Read { value: o, next } = operand(s, at)?;
         all = with_operand(all, o);

@@ -28,6 +28,7 @@ fn behind_comma(s: &[u8], from: Cursor) -> Cursor
     ensures { tokens_from s.now result.at ≡ after_comma (tokens_from s.now from.at) }
 {
     let mut at = from;
+    // no iterator: where the next token starts is known only when this one is read
     loop {
         let t = next_token(s, at);
         match t.kind {

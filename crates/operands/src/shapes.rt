@@ -2,7 +2,9 @@
 ghost use Rattle.std.specs.Prelude.{◌≡◌};
 ghost use Rattle.tokens.specs.Marks.{mark_of};
 ghost use Rattle.tokens.specs.Reading.{token_at};
-ghost use Rattle.operands.specs.Reading.{hash, slash, dollar};
+ghost use Rattle.operands.specs.Reading.{Shape, hash, put, done};
+ghost use Rattle.operands.specs.declared.Written.{Written};
+ghost use Rattle.values.specs.declared.Value.{Value};
 ghost use Rattle.operands.specs.Reading as W;
 ghost use Rattle.operands.specs.Inner.Peeks.{register_of, behind_mark, Goes};
 
@@ -47,24 +49,18 @@ fn behind(s: &[u8], mark: u8, from: Cursor) -> Option<Cursor>
     }
 }
 
-// After `/`.
-fn memory(s: &[u8], from: Cursor) -> Option<Read<Written>>
-    ensures { Goes s.now (W.value slash) from.at result }
+// After `/` or `$`: a value alone, and the operand that is made of it.
+fn value_alone<F: FnOnce(Value) -> Written>(
+    s: &[u8],
+    from: Cursor,
+    made: F,
+) -> Option<Read<Written>>
+    requires { F.IsAlwaysCallable made }
+    ensures { (k : Shape) → ((v : Value) (o : Written) → F.post made v o → put k v ≡ done o) → Goes s.now (W.value k) from.at result }
 {
     let Read { value: v, next } = value(s, from)?;
     Some(Read {
-        value: Written::Memory(v),
-        next,
-    })
-}
-
-// After `$`.
-fn relative(s: &[u8], from: Cursor) -> Option<Read<Written>>
-    ensures { Goes s.now (W.value dollar) from.at result }
-{
-    let Read { value: v, next } = value(s, from)?;
-    Some(Read {
-        value: Written::Relative(v),
+        value: made(v),
         next,
     })
 }
@@ -151,9 +147,9 @@ pub(crate) fn operand(s: &[u8], from: Cursor) -> Option<Read<Written>>
     match mark {
         b'#' => immediate(s, next),
         b'.' => register(s, next),
-        b'/' => memory(s, next),
+        b'/' => value_alone(s, next, Written::Memory),
         b'[' => indirect(s, next),
-        b'$' => relative(s, next),
+        b'$' => value_alone(s, next, Written::Relative),
         _ => None,
     }
 }

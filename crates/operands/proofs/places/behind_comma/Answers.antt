@@ -2,8 +2,15 @@
 use mathlib.Core.Path.{refl, sym, ◌∙◌}
 use native.Mathlib.Omega.{arith}
 use Rattle.operands.proofs.Located.{GoesOn, mark_goes_on, other_goes_on, over, stray, at-comma, turn}
-use Rattle.operands.proofs.places.behind_comma.Goals.{in_default-via-in-Mark+else-b-eq44, in_default-via-in_default}
+use Rattle.operands.proofs.places.behind_comma.Goals.{In_default, in_default-via-in-Mark+else-b-eq44, in_default-via-in_default}
 use Rattle.operands.proofs.places.behind_comma.Goals as goal
+
+goes_on : (c : In_default) → GoesOn c.next_token-t.result.kind
+goes_on c =
+    elim c.in_default.branch [
+      | in_default-via-in-Mark+else-b-eq44 w ↦ mark_goes_on w.in-Mark.is w.if-b-eq44.false
+      | in_default-via-in_default w ↦ other_goes_on _ w.in_default.not-End w.in_default.not-Stray w.in_default.not-Mark
+    ]
 
 pub loop-at-init : goal.loop-at-init
 loop-at-init c = refl
@@ -19,17 +26,10 @@ returns-in-Mark c = at-comma c.args.s.now c.loop-at.at.at c.next_token-t.ensures
 
 pub loop-at-smaller : goal.loop-at-smaller
 loop-at-smaller c =
-    let goes : GoesOn c.next_token-t.result.kind = elim c.in_default.branch [
-      | in_default-via-in-Mark+else-b-eq44 w ↦ mark_goes_on w.in-Mark.is w.if-b-eq44.false
-      | in_default-via-in_default w ↦ other_goes_on _ w.in_default.not-End w.in_default.not-Stray w.in_default.not-Mark
-    ] in
-    let h = turn c.args.s.now c.loop-at.at.at c.next_token-t.ensures goes in
+    let h = turn c.args.s.now c.loop-at.at.at c.next_token-t.ensures (goes_on (goal.at.loop-at-smaller c).In_default) in
     omega (arith, h.1)
 
 pub loop-at-preserved : goal.loop-at-preserved
 loop-at-preserved c =
-    let goes : GoesOn c.next_token-t.result.kind = elim c.in_default.branch [
-      | in_default-via-in-Mark+else-b-eq44 w ↦ mark_goes_on w.in-Mark.is w.if-b-eq44.false
-      | in_default-via-in_default w ↦ other_goes_on _ w.in_default.not-End w.in_default.not-Stray w.in_default.not-Mark
-    ] in
-    sym (turn c.args.s.now c.loop-at.at.at c.next_token-t.ensures goes).0 ∙ c.loop-at.invariant
+    let h = turn c.args.s.now c.loop-at.at.at c.next_token-t.ensures (goes_on (goal.at.loop-at-preserved c).In_default) in
+    sym h.0 ∙ c.loop-at.invariant

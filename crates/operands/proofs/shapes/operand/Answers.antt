@@ -2,6 +2,7 @@
 use mathlib.Core.Path.{sym}
 use native.Mathlib.Omega.{arith}
 use borrow.Author.Tests.{ne_eqb}
+use Rattle.std.proofs.Common.{rules}
 use Rattle.operands.specs.Reading.{hash, slash, dollar, value, register_name, indirect_dot, starts}
 use Rattle.operands.proofs.Outcomes.{operand_is, operand_no, operand-not}
 use Rattle.operands.proofs.shapes.operand.Goals as goal
@@ -19,7 +20,7 @@ returns-in-46 c = operand_is c.args.s.now c.args.from.at register_name (sym c.in
 
 pub returns-in-47 : goal.returns-in-47
 unfolding starts
-returns-in-47 c = operand_is c.args.s.now c.args.from.at (value slash) (sym c.in_ok-mark.ensures) (rw c.in-47.is) c.memory.ensures
+returns-in-47 c = operand_is c.args.s.now c.args.from.at (value slash) (sym c.in_ok-mark.ensures) (rw c.in-47.is) (c.value_alone.ensures slash (λ v o p. search rules))
 
 pub returns-in-91 : goal.returns-in-91
 unfolding starts
@@ -27,7 +28,7 @@ returns-in-91 c = operand_is c.args.s.now c.args.from.at indirect_dot (sym c.in_
 
 pub returns-in-36 : goal.returns-in-36
 unfolding starts
-returns-in-36 c = operand_is c.args.s.now c.args.from.at (value dollar) (sym c.in_ok-mark.ensures) (rw c.in-36.is) c.relative.ensures
+returns-in-36 c = operand_is c.args.s.now c.args.from.at (value dollar) (sym c.in_ok-mark.ensures) (rw c.in-36.is) (c.value_alone-in-36.ensures dollar (λ v o p. search rules))
 
 pub returns-in_default : goal.returns-in_default
 unfolding starts
