@@ -1,17 +1,20 @@
 -- A word is a name exactly where their numbers are the same: packing is one to one on digits from 1 to 255, and a byte is a name's
 -- where its digit is.
-use Prim.Native.Nat.{ℕ, zero, suc, ◌+◌, ◌*◌, ◌-◌, ◌≤◌, ◌<◌}
+use Prim.Native.Nat.{ℕ, zero, suc, min, ◌+◌, ◌*◌, ◌-◌, ◌≤◌, ◌<◌}
 use mathlib.Core.Bool.{Bool, true, false, cond, ◌&&◌}
 use mathlib.Core.List.{List, [], ◌∷◌, map}
 use mathlib.Core.Path.{◌≡◌, refl, sym, ap, ◌∙◌}
 use Prim.Native.String.{String}
-use native.Mathlib.Numerals.{add-one}
+use Rattle.std.proofs.Common.{Option, Some, None}
+use Rattle.std.proofs.lemmas.List.Recursion.{is_position_or_len}
+use Rattle.std.specs.List.{position}
+use Rattle.std.specs.Option.{unwrap_or}
 use native.Mathlib.Omega.{arith}
 use lib.Dec.{leb, ltb, eqb, T, ltb→lt}
 use lib.Ieee.Fits.{and_l, and_r}
 use lib.ListN.{length, get_or, take, drop, length-map, drop_of_length-le}
-use lib.Seq.{drop-cons, slice, slice-cons, length-slice, length-take-le, take_all, take-length}
-use borrow.Author.Tests.{lt-ltb, le-ltb, ltb-true, leb-true, leb-false, lt-leb, eq-eqb, ne_eqb, eqb-true, eqb-false}
+use lib.Seq.{slice, slice-cons, length-slice, length-take-le, take_all, take-length}
+use borrow.Author.Tests.{lt-ltb, le-ltb, ltb-true, ltb-false, leb-true, leb-false, lt-leb, eq-eqb, ne_eqb, eqb-true, eqb-false}
 use Rattle.isa.proofs.Tests.{and-false, both_true}
 use Rattle.numerals.specs.Bytes.{bytes, between}
 use Rattle.names.specs.Names.{capital, same, is_named, place_in}
@@ -19,18 +22,6 @@ use Rattle.names.specs.Inner.Packing.{pack, digit, number_of, place_of}
 use Rattle.names.proofs.Same.{same_other_by}
 
 -- ---- a search
-
-pub place-more : (n : ℕ) (ms : List ℕ) (i : ℕ) → i < length ms → (get_or ms i 0 ≡ n → ⊥) → place_of n (drop i ms) ≡ suc (place_of n (drop (i + 1) ms))
-unfolding place_of
-place-more n ms i h d = rw (add-one, drop-cons ms i 0, ne_eqb (get_or ms i 0) n d)
-
-pub place_here : (n : ℕ) (ms : List ℕ) (i : ℕ) → i < length ms → get_or ms i 0 ≡ n → place_of n (drop i ms) ≡ 0
-unfolding place_of
-place_here n ms i h e = rw (drop-cons ms i 0, eq-eqb (get_or ms i 0) n e)
-
-pub place_end : (n : ℕ) (ms : List ℕ) (i : ℕ) → length ms ≤ i → place_of n (drop i ms) ≡ 0
-unfolding place_of
-place_end n ms i h = rw (drop_of_length-le ms h)
 
 place-within : (n : ℕ) (ms : List ℕ) → place_of n ms ≤ length ms
 unfolding place_of
@@ -41,15 +32,45 @@ place-within n (m ∷ ms) = go (eqb m n) (place-within n ms)
     go true h = omega arith
     go false h = omega arith
 
--- a place that was found is at most the table's length, whatever the table holds
-pub place-most : {r : ℕ} (n : ℕ) (ms : List ℕ) → r ≡ place_of n ms → r ≤ length ms
-place-most n ms e = omega (arith, place-within n ms)
+-- std's position, and the length where there is none
+place-unwrapped : (n : ℕ) (ms : List ℕ) → place_of n ms ≡ unwrap_or (position (λ (m : ℕ). eqb m n) ms) (length ms)
+unfolding place_of
+place-unwrapped n ms =
+    let e = is_position_or_len (place_of n) (λ (m : ℕ). eqb m n) refl one_more ms in
+    rw (← e) (go (ltb (place_of n ms) (length ms)) refl)
+  where
+    one_more : (m : ℕ) (rest : List ℕ) → cond (eqb m n) 0 (suc (place_of n rest)) ≡ cond (eqb m n) 0 (1 + place_of n rest)
+    one_more m rest = let one : suc (place_of n rest) ≡ 1 + place_of n rest = omega arith in ap (λ (k : ℕ). cond (eqb m n) 0 k) one
+
+    go : (b : Bool) → ltb (place_of n ms) (length ms) ≡ b → place_of n ms ≡ unwrap_or (cond b (Some (place_of n ms)) None) (length ms)
+    go true e = refl
+    go false e = omega (arith, ltb-false (place_of n ms) (length ms) e, place-within n ms)
+
+pub place_by_position : (r : Option ℕ) (n : ℕ) (ms : List ℕ) → r ≡ position (λ (m : ℕ). eqb m n) ms → unwrap_or r (length ms) ≡ place_of n ms
+place_by_position r n ms e = rw e (sym (place-unwrapped n ms))
+
+-- a place is at most the table's length, whatever the table holds
+pub place-most : (r : Option ℕ) (n : ℕ) (ms : List ℕ) → r ≡ position (λ (m : ℕ). eqb m n) ms → unwrap_or r (length ms) ≤ length ms
+place-most r n ms e = omega (arith, place_by_position r n ms e, place-within n ms)
 
 -- ---- the number of a word
 
 -- no more bytes count than there are
-pub number-within : (s : List ℕ) (i e : ℕ) → length s ≤ e → number_of (slice i (length s) s) ≡ number_of (slice i e s)
+number-within : (s : List ℕ) (i e : ℕ) → length s ≤ e → number_of (slice i (length s) s) ≡ number_of (slice i e s)
 number-within s i e h = ap (λ (w : List ℕ). number_of (drop i w)) (take-length s ∙ sym (take_all e s h))
+
+pub number_cut : (s : List ℕ) (i e m : ℕ) → m ≡ min e (length s) → number_of (slice i m s) ≡ number_of (slice i e s)
+number_cut s i e m q = go (leb (length s) e) refl
+  where
+    go : (b : Bool) → leb (length s) e ≡ b → number_of (slice i m s) ≡ number_of (slice i e s)
+    go true h =
+        let past = leb-true (length s) e h in
+        let all : m ≡ length s = omega arith in
+        rw all (number-within s i e past)
+    go false h =
+        let inside = leb-false (length s) e h in
+        let its : m ≡ e = omega arith in
+        rw its
 
 -- none at all, where the end comes first
 pub number-none : (s : List ℕ) (i e : ℕ) → e < i → e ≤ length s → number_of (slice i e s) ≡ 0

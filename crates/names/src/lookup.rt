@@ -1,9 +1,9 @@
 // A word of the line among the names (specs/Names.antt): its capitals packed into a number, and that number searched among the
 // names' own (specs/Inner/Packing.antt).
-ghost use Rattle.std.specs.Prelude.{◌≡◌, ◌≤◌, length};
+ghost use Rattle.std.specs.Prelude.{◌≡◌, ◌≤◌, ◌==◌, position};
 ghost use Rattle.std.proofs.Math.Seq.{slice};
-ghost use Rattle.names.specs.Names.{capital, word_of, register_code};
-ghost use Rattle.names.specs.Inner.Packing.{digit, number_of, place_of, word_at, directive_at};
+ghost use Rattle.names.specs.Names.{word_of, register_code};
+ghost use Rattle.names.specs.Inner.Packing.{digit, number_of, word_at, directive_at};
 
 use super::Word;
 use isa::opcodes::opcode;
@@ -80,87 +80,52 @@ pub(crate) const REGISTERS: [u64; 16] = [
 pub fn statement_word(s: &[u8], start: usize, end: usize) -> Word
     ensures { result ≡ word_of (slice start end s.now) }
 {
-    let table = STATEMENT_WORDS;
-    word_at(place(packed(s, start, end), &table))
+    match place(packed(s, start, end), &STATEMENT_WORDS) {
+        Some(at) => word_at(at),
+        None => Word::Unknown,
+    }
 }
 
 // The code of the register that the word from `start` to `end` names, or 16.
 pub fn register_code(s: &[u8], start: usize, end: usize) -> u16
     ensures { result ≡ register_code (slice start end s.now) }
 {
-    let table = REGISTERS;
-    place(packed(s, start, end), &table) as u16
+    // 16, not None: specs/Names.antt counts a name's place so, and Top.antt speaks of the number
+    place(packed(s, start, end), &REGISTERS).unwrap_or(16) as u16
 }
 
-// A small letter as its capital, any other byte as itself.
-fn capital_of(b: u8) -> u8
-    ensures { result ≡ capital b }
-{
-    if b < 97 {
-        return b;
-    }
-    if 122 < b {
-        return b;
-    }
-    b - 32
-}
-
-// The digit of a byte in a word's number.
+// The digit of a byte in a word's number: a small letter counts as its capital.
+#[tactic(auto, unfolding(crate::specs::Inner::Packing::digit, crate::specs::Names::capital))]
 fn digit_of(b: u8) -> u8
     ensures { result ≡ digit b }
 {
-    if b < 1 {
-        return 1;
+    if 1 <= b && b <= 127 {
+        b.to_ascii_uppercase()
+    } else {
+        1
     }
-    if 127 < b {
-        return 1;
-    }
-    capital_of(b)
 }
 
 // The number of the word from `start` to `end`, of which no more counts than there is.
 fn packed(s: &[u8], start: usize, end: usize) -> u64
     ensures { result ≡ number_of (slice start end s.now) }
 {
-    let len = s.len();
-    if len < end {
-        return packed_within(s, start, len);
-    }
-    packed_within(s, start, end)
-}
-
-// The same for an end within the bytes.
-fn packed_within(s: &[u8], start: usize, end: usize) -> u64
-    requires { end ≤ length s.now }
-    ensures { result ≡ number_of (slice start end s.now) }
-{
-    if end < start {
-        return 0;
-    }
-    if 6 < end - start {
+    let end = end.min(s.len());
+    if end < start || 6 < end - start {
         return 0;
     }
     let mut number: u64 = 0;
-    let mut i = end;
-    while start < i {
-        i -= 1;
-        number = number * 256 + digit_of(s[i]) as u64;
+    for i in (start..end).rev() {
+        number = number * 256 + u64::from(digit_of(s[i]));
     }
     number
 }
 
-// The place of a number in a table, or the table's length.
-fn place(number: u64, table: &[u64]) -> usize
-    ensures { result ≡ place_of number table.now }
+// The place of a number in a table.
+fn place(number: u64, table: &[u64]) -> Option<usize>
+    ensures { result ≡ position (λ known. known == number) table.now }
 {
-    let mut i: usize = 0;
-    while i < table.len() {
-        if table[i] == number {
-            return i;
-        }
-        i += 1;
-    }
-    i
+    table.iter().position(|known| *known == number)
 }
 
 // What stands at a place of the statements' words.
@@ -175,6 +140,7 @@ fn word_at(place: usize) -> Word
 }
 
 // The directive at a place after the opcodes.
+#[tactic(auto, unfolding(crate::specs::Inner::Packing::directive_at, crate::specs::Inner::Packing::directives))]
 fn directive(place: usize) -> Word
     ensures { result ≡ directive_at place }
 {

@@ -8,15 +8,15 @@ use Rattle.names.proofs.lookup.word_at.Goals as goal
 
 pub overflow_sub-place : goal.overflow_sub-place
 overflow_sub-place c =
-    let none = found-unknown c.args.place (sym c.opcode.ensures ∙ c.in-Unknown.is) in
+    let none = found-unknown c.args.place (sym c.opcode.ensures ∙ c.in-None.is) in
     omega arith
 
-pub returns-in-Known : goal.returns-in-Known
-returns-in-Known c =
-    let found = found-known c.args.place _ (sym c.opcode.ensures ∙ c.in-Known.is) in
+pub returns-in-Some : goal.returns-in-Some
+returns-in-Some c =
+    let found = found-known c.args.place _ (sym c.opcode.ensures ∙ c.in-Some.is) in
     sym (word-opcode c.args.place found.0 ∙ ap Instructs found.1)
 
-pub returns-in-Unknown : goal.returns-in-Unknown
-returns-in-Unknown c =
-    let none = found-unknown c.args.place (sym c.opcode.ensures ∙ c.in-Unknown.is) in
+pub returns-in-None : goal.returns-in-None
+returns-in-None c =
+    let none = found-unknown c.args.place (sym c.opcode.ensures ∙ c.in-None.is) in
     c.directive.ensures ∙ sym (word_directive c.args.place none)

@@ -12,11 +12,11 @@ use Rattle.names.proofs.Packs.{numbers}
 use Rattle.names.proofs.Places.{statement_names, opcode-number}
 use Rattle.names.proofs.spelling.opcode_name.Goals as goal
 
-pub bounds-words-place : goal.bounds-words-place
-bounds-words-place c =
-    omega (arith, ap (λ (l : Row). l.number) c.row-place.ensures, number-below c.args.op)
+pub bounds-row : goal.bounds-row
+bounds-row c =
+    omega (arith, ap (λ (l : Row). l.number) c.row.ensures, number-below c.args.op)
 
 pub returns : goal.returns
 unfolding statement_names statement_words opcodes table pack
 returns c =
-    ap (λ (l : Row). get_or (numbers statement_names) l.number 0) c.row-place.ensures ∙ opcode-number c.args.op
+    ap (λ (l : Row). get_or (numbers statement_names) l.number 0) c.row.ensures ∙ opcode-number c.args.op

@@ -5,10 +5,7 @@ use mathlib.Core.Path.{◌≡◌}
 use lib.Seq.{slice}
 use Rattle.names.specs.Inner.Packing.{pack, digit}
 use Rattle.names.proofs.Packs.{room}
-use Rattle.names.proofs.lookup.packed_within.Given as goal
+use Rattle.names.proofs.lookup.packed.Given as goal
 
 abbrev pub invariant-loop-i : goal.invariant-loop-i
-invariant-loop-i l = (l.start ≤ l.i) × (l.i ≤ l.end) × (l.number < room (l.end - l.i)) × (l.number ≡ pack (map digit (slice l.i l.end l.s)))
-
-abbrev pub decreases-loop-i : goal.decreases-loop-i
-decreases-loop-i l = l.i
+invariant-loop-i l = (l.start ≤ l.i) × (l.number < room (l.end - l.i)) × (l.number ≡ pack (map digit (slice l.i l.end l.s)))
