@@ -5,6 +5,7 @@ use mathlib.Core.Bool.{Bool, true, false, cond, ◌&&◌, and-false}
 use mathlib.Core.List.{List, [], ◌∷◌}
 use mathlib.Core.Path.{◌≡◌, ap, ◌∙◌}
 use native.Mathlib.Omega.{arith}
+use mathlib.Core.Logic.{◌⊎◌, inl, inr}
 use lib.Dec.{eqb}
 use lib.ListN.{length}
 use borrow.Author.Tests.{lt-ltb, le-ltb, eq-eqb, ne_eqb}
@@ -77,13 +78,11 @@ module _ (st : State) (w : List ℕ) (b : ℕ) where
     pub word_open : opens then < 18446744073709551615
     word_open = omega (arith, ap opens e, word-opens st w 0)
 
-    pub word-other : (b ≡ code ":" → ⊥) → begin then b ≡ word_end st w b
+    -- the word is no label
+    pub word-off : ((is_start st ≡ true) × (b ≡ code ":" → ⊥)) ⊎ (is_start st ≡ false) → begin then b ≡ word_end st w b
     unfolding word_end
-    word-other n = ap (λ (s : State). begin s b) e ∙ rw (ne_eqb b (code ":") n, and-false (is_start st))
-
-    pub word-inner : is_start st ≡ false → begin then b ≡ word_end st w b
-    unfolding word_end
-    word-inner n = ap (λ (s : State). begin s b) e ∙ rw n
+    word-off (inl p) = ap (λ (s : State). begin s b) e ∙ rw (ne_eqb b (code ":") p.1, and-false (is_start st))
+    word-off (inr n) = ap (λ (s : State). begin s b) e ∙ rw n
 
 module _ (st : State) (k : Radix) (b : ℕ) where
   pub number-letter : rank b < 17 → number_end st k b ≡ between Dead

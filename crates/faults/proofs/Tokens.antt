@@ -412,7 +412,7 @@ module _ (line : List ℕ) where
   operands-sound : (ts : List Token) → finishes line At.Field ts ≡ true → (os : List Written) × OperandField line ts os
   operands-sound ts f = go (O.operands_of line ts) refl (sym (field_finishes line ts) ∙ f)
     where
-      go : (r : O.Result) → O.operands_of line ts ≡ r → is_read r ≡ true → (os : List Written) × OperandField line ts os
+      go : (r : O.RowRead) → O.operands_of line ts ≡ r → is_read r ≡ true → (os : List Written) × OperandField line ts os
       go (reads os) e g = (os, (reads-exactly line ts).0 e)
       go wrong e g = never (cc)
 
@@ -428,7 +428,7 @@ module _ (line : List ℕ) where
   items-sound : (ts : List Token) → InLine line ts → finishes line At.Item ts ≡ true → (is : List Item) × Items line ts is
   items-sound ts w f = go (I.walk line I.item ts) refl (sym (items-finish line ts I.item) ∙ f)
     where
-      go : (r : I.Result) → I.walk line I.item ts ≡ r → is_read r ≡ true → (is : List Item) × Items line ts is
+      go : (r : I.RowRead) → I.walk line I.item ts ≡ r → is_read r ≡ true → (is : List Item) × Items line ts is
       go (reads is) e g = (is, sound line w e)
       go wrong e g = never (cc)
 

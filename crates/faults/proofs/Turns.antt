@@ -21,7 +21,7 @@ use Rattle.faults.specs.declared.State.{State}
 use Rattle.faults.specs.declared.State.TheVariants.{Start, Body, Ended}
 use Rattle.faults.specs.declared.Stage.{Stage}
 use Rattle.faults.specs.declared.Stage.TheVariants as G
-use Rattle.faults.specs.declared.Turn.TheVariants.{Goes, Stops}
+use Rattle.std.proofs.Common.{Ok, Err}
 use Rattle.faults.proofs.Opening.{step-opens}
 use Rattle.faults.proofs.Places.{place-grows, place_dead, place_on, place-stops}
 
@@ -127,7 +127,7 @@ module _ (line : List ℕ) (x : Stage) (began at : ℕ) (h : at < length line) w
   grows-here e = ap (λ (z : Bool). z && ltb (rank b) 17) (same_word x (slice began at line) []) ∙ e
 
   -- the word goes on
-  pub turn-grows : began ≤ at → opens_in here ≤ at → grows (spelt x []) b ≡ true → Turned line x began at (Goes x began)
+  pub turn-grows : began ≤ at → opens_in here ≤ at → grows (spelt x []) b ≡ true → Turned line x began at (Ok (record { stage = x; began = began }))
   turn-grows l o e =
       let g = grows-here e in
       let w = longer x (slice began at line) b g ∙ ap (spelt x) (sym (slice-more line began at l h)) in (
@@ -138,7 +138,7 @@ module _ (line : List ℕ) (x : Stage) (began at : ℕ) (h : at < length line) w
       )
 
   -- the word that ends here may not stand
-  pub turn_dead : grows (spelt x []) b ≡ false → live here ≡ false → Turned line x began at (Stops began)
+  pub turn_dead : grows (spelt x []) b ≡ false → live here ≡ false → Turned line x began at (Err began)
   turn_dead e l = at_byte ∙ place_dead (length line) here began at b (drop (at + 1) line) (grows-here e) l
 
   module _ (y : Stage) (e : grows (spelt x []) b ≡ false) (l : live here ≡ true) (s : spelt y (b ∷ []) ≡ step here b) where
@@ -146,7 +146,7 @@ module _ (line : List ℕ) (x : Stage) (began at : ℕ) (h : at < length line) w
     goes-there g = ap goes (sym s) ∙ same-goes y (b ∷ []) [] ∙ g
 
     -- the byte may stand
-    pub turn_on : opens_in here ≤ at → goes (spelt y []) ≡ true → Turned line x began at (Goes y at)
+    pub turn_on : opens_in here ≤ at → goes (spelt y []) ≡ true → Turned line x began at (Ok (record { stage = y; began = at }))
     turn_on o g =
         let w = sym s ∙ ap (spelt y) (sym (slice-one line at h)) in (
           at_byte ∙ place_on (length line) here began at b (drop (at + 1) line) (grows-here e) l (goes-there g)
@@ -156,7 +156,7 @@ module _ (line : List ℕ) (x : Stage) (began at : ℕ) (h : at < length line) w
         )
 
     -- it may not
-    pub turn-ends : {p : ℕ} → goes (spelt y []) ≡ false → p ≡ stops_at line x began at b → Turned line x began at (Stops p)
+    pub turn-ends : {p : ℕ} → goes (spelt y []) ≡ false → p ≡ stops_at line x began at b → Turned line x began at (Err p)
     turn-ends g q = at_byte ∙ place-stops (length line) here began at b (drop (at + 1) line) (grows-here e) l (goes-there g) ∙ sym q
 
 -- ---- the whole line
@@ -166,6 +166,9 @@ unfolding place
 from_start line = refl
 
 -- at the line's end
-pub at-end : (line : List ℕ) (x : Stage) (began at : ℕ) → length line ≤ at → place_at line x began at ≡ cond (live (lex_at line x began at)) (length line) began
+pub at-end : (line : List ℕ) (x : Stage) (began at : ℕ) → length line ≤ at → at ≤ length line
+    → place_at line x began at ≡ cond (live (lex_at line x began (length line))) (length line) began
 unfolding place_from
-at-end line x began at h = rw (drop_of_length-le line h)
+at-end line x began at h l =
+    let e : at ≡ length line = omega arith in
+    rw (drop_of_length-le line h) (ap (λ (n : ℕ). cond (live (lex_at line x began n)) (length line) began) e)

@@ -69,10 +69,8 @@ accepts (between st) = final st
 accepts (word st w) = final (word_step st w)
 accepts (zero st) = final (number_step st Decimal)
 accepts (decimal st) = final (number_step st Decimal)
-accepts (prefixed st) = false
 accepts (hexadecimal st) = final (number_step st Hexadecimal)
-accepts (quoted st) = false
-accepts (escaped st) = false
+accepts _ = false
 
 unfoldable pub run : Lex → List ℕ → Lex
 run x [] = x
@@ -84,14 +82,8 @@ first = between Start
 -- ---- the place
 
 abbrev pub in_word : Lex → Bool
-in_word (between st) = false
 in_word (word st w) = true
-in_word (zero st) = false
-in_word (decimal st) = false
-in_word (prefixed st) = false
-in_word (hexadecimal st) = false
-in_word (quoted st) = false
-in_word (escaped st) = false
+in_word _ = false
 
 -- a byte goes on the word that the walk is in
 abbrev pub grows : Lex → ℕ → Bool

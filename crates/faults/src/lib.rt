@@ -45,9 +45,9 @@ pub enum Stage {
     Escaped(State), // behind a string's backslash
 }
 
-// A byte more of the walk: the stage behind it and where the word there began, or the place where it stops.
+// Where the walk stands: its stage, and where the word there began.
 #[derive(Clone, Copy)]
-pub enum Turn {
-    Goes(Stage, usize),
-    Stops(usize),
+pub struct Walk {
+    pub stage: Stage,
+    pub began: usize,
 }

@@ -6,7 +6,7 @@ ghost use Rattle.faults.specs.Inner.Stages.{spelt, opens_in};
 ghost use Rattle.faults.specs.Inner.Turns.{stops_at, Turned};
 
 use super::stages::{goes, grows, live, step};
-use super::{Stage, State, Turn};
+use super::{Stage, State, Walk};
 
 // Where the walk stops at a byte that no line of right form has there: at the byte, or at the line's end where something is missing
 // before a comment.
@@ -14,54 +14,38 @@ fn stopped(line: &[u8], x: Stage, began: usize, at: usize, b: u8) -> usize
     requires { opens_in (spelt x (slice began at line.now)) < 18446744073709551615 }
     ensures { result ≡ stops_at line.now x began at b }
 {
-    if b != b';' {
-        return at;
-    }
-    if goes(line, step(line, x, began, at, b' ')) {
-        return line.len();
-    }
-    at
+    if b == b';' && goes(line, step(line, x, began, at, b' ')) { line.len() } else { at }
 }
 
-// One byte more.
-fn turn(line: &[u8], x: Stage, began: usize, at: usize) -> Turn
+// One byte more: where the walk stands behind it, or the place where it stops.
+fn turn(line: &[u8], x: Stage, began: usize, at: usize) -> Result<Walk, usize>
     requires { (at < length line.now) × (began ≤ at) × (opens_in (spelt x (slice began at line.now)) ≤ at) }
     ensures { Turned line.now x began at result }
 {
     let b = line[at];
     if grows(x, b) {
-        return Turn::Goes(x, began);
+        return Ok(Walk { stage: x, began });
     }
     if !live(line, x, began, at) {
-        return Turn::Stops(began);
+        return Err(began);
     }
     let next = step(line, x, began, at, b);
     if goes(line, next) {
-        return Turn::Goes(next, at);
+        Ok(Walk { stage: next, began: at })
+    } else {
+        Err(stopped(line, x, began, at, b))
     }
-    Turn::Stops(stopped(line, x, began, at, b))
 }
 
 pub fn place(line: &[u8]) -> usize
     ensures { result ≡ place line.now }
 {
-    let mut x = Stage::Between(State::Start);
-    let mut began: usize = 0;
-    let mut at: usize = 0;
-    while at < line.len() {
-        match turn(line, x, began, at) {
-            Turn::Goes(next, start) => {
-                x = next;
-                began = start;
-                at += 1;
-            }
-            Turn::Stops(p) => {
-                return p;
-            }
+    let mut walk = Walk { stage: Stage::Between(State::Start), began: 0 };
+    for at in 0..line.len() {
+        match turn(line, walk.stage, walk.began, at) {
+            Ok(next) => walk = next,
+            Err(stop) => return stop,
         }
     }
-    if !live(line, x, began, at) {
-        return began;
-    }
-    line.len()
+    if live(line, walk.stage, walk.began, line.len()) { line.len() } else { walk.began }
 }

@@ -20,20 +20,14 @@ use tokens::tokens::is_blank;
 fn first_digit(st: State, b: u8) -> Stage
     ensures { spelt result (b ∷ []) ≡ first_digit st b }
 {
-    if b == b'0' {
-        return Stage::Zero(st);
-    }
-    Stage::Decimal(st)
+    if b == b'0' { Stage::Zero(st) } else { Stage::Decimal(st) }
 }
 
 // A comment, where the line may end.
 fn comment(st: State) -> State
     ensures { result ≡ cond (final st) Ended Dead }
 {
-    if is_final(st) {
-        return State::Ended;
-    }
-    State::Dead
+    if is_final(st) { State::Ended } else { State::Dead }
 }
 
 // A byte between tokens.
@@ -67,17 +61,14 @@ fn begin(st: State, b: u8) -> Stage
 }
 
 // The byte behind the word from `start` to `end`.
+#[tactic(auto, unfolding(crate::specs::Walk::word_end))]
 fn word_end(s: &[u8], st: State, start: usize, end: usize, b: u8) -> Stage
     ensures { spelt result (b ∷ []) ≡ word_end st (slice start end s.now) b }
 {
-    let then = by_word(st, s, start, end);
-    if b != b':' {
-        return begin(then, b);
-    }
-    if is_start(st) {
+    if is_start(st) && b == b':' {
         return Stage::Between(State::Body);
     }
-    begin(then, b)
+    begin(by_word(st, s, start, end), b)
 }
 
 // The byte behind a number.
@@ -120,10 +111,7 @@ fn decimal(st: State, b: u8) -> Stage
 fn prefixed(st: State, b: u8) -> Stage
     ensures { spelt result (b ∷ []) ≡ step (L.prefixed st) b }
 {
-    if rank_of(b) < 16 {
-        return Stage::Hexadecimal(st);
-    }
-    Stage::Between(State::Dead)
+    if rank_of(b) < 16 { Stage::Hexadecimal(st) } else { Stage::Between(State::Dead) }
 }
 
 // A byte behind hexadecimal digits.
@@ -141,29 +129,19 @@ fn hexadecimal(st: State, b: u8) -> Stage
 fn quoted(st: State, b: u8) -> Stage
     ensures { spelt result (b ∷ []) ≡ step (L.quoted st) b }
 {
-    if b == b'"' {
-        return Stage::Between(by_text(st));
+    match b {
+        b'"' => Stage::Between(by_text(st)),
+        b'\\' => Stage::Escaped(st),
+        b' '..=b'~' => Stage::Quoted(st),
+        _ => Stage::Between(State::Dead),
     }
-    if b == b'\\' {
-        return Stage::Escaped(st);
-    }
-    if b < 32 {
-        return Stage::Between(State::Dead);
-    }
-    if 126 < b {
-        return Stage::Between(State::Dead);
-    }
-    Stage::Quoted(st)
 }
 
 // The byte behind a string's backslash.
 fn escaped(st: State, b: u8) -> Stage
     ensures { spelt result (b ∷ []) ≡ step (L.escaped st) b }
 {
-    if b != b'n' {
-        return Stage::Between(State::Dead);
-    }
-    Stage::Quoted(st)
+    if b == b'n' { Stage::Quoted(st) } else { Stage::Between(State::Dead) }
 }
 
 // A byte that goes on no word; a word stands from `start` to `end`.
@@ -187,10 +165,7 @@ pub(crate) fn step(s: &[u8], x: Stage, start: usize, end: usize, b: u8) -> Stage
 fn word_lives(s: &[u8], st: State, start: usize, end: usize) -> bool
     ensures { result ≡ live (L.word st (slice start end s.now)) }
 {
-    if is_start(st) {
-        return true;
-    }
-    lives(by_word(st, s, start, end))
+    is_start(st) || lives(by_word(st, s, start, end))
 }
 
 // Whether something goes on from here; a word stands from `start` to `end`.
@@ -200,46 +175,28 @@ pub(crate) fn live(s: &[u8], x: Stage, start: usize, end: usize) -> bool
     match x {
         Stage::Between(st) => lives(st),
         Stage::Word(st) => word_lives(s, st, start, end),
-        Stage::Zero(st) => lives(by_number(st, Radix::Decimal)),
-        Stage::Decimal(st) => lives(by_number(st, Radix::Decimal)),
-        Stage::Prefixed(st) => lives(by_number(st, Radix::Hexadecimal)),
-        Stage::Hexadecimal(st) => lives(by_number(st, Radix::Hexadecimal)),
-        Stage::Quoted(st) => lives(by_text(st)),
-        Stage::Escaped(st) => lives(by_text(st)),
+        Stage::Zero(st) | Stage::Decimal(st) => lives(by_number(st, Radix::Decimal)),
+        Stage::Prefixed(st) | Stage::Hexadecimal(st) => lives(by_number(st, Radix::Hexadecimal)),
+        Stage::Quoted(st) | Stage::Escaped(st) => lives(by_text(st)),
     }
 }
 
 fn in_word(x: Stage) -> bool
     ensures { result ≡ in_word (spelt x []) }
 {
-    match x {
-        Stage::Between(_) => false,
-        Stage::Word(_) => true,
-        Stage::Zero(_) => false,
-        Stage::Decimal(_) => false,
-        Stage::Prefixed(_) => false,
-        Stage::Hexadecimal(_) => false,
-        Stage::Quoted(_) => false,
-        Stage::Escaped(_) => false,
-    }
+    matches!(x, Stage::Word(_))
 }
 
 // Whether a byte goes on a word.
 pub(crate) fn grows(x: Stage, b: u8) -> bool
     ensures { result ≡ grows (spelt x []) b }
 {
-    if in_word(x) {
-        return rank_of(b) < 17;
-    }
-    false
+    in_word(x) && rank_of(b) < 17
 }
 
 // Whether the walk goes on: a word may still grow.
 pub(crate) fn goes(s: &[u8], x: Stage) -> bool
     ensures { result ≡ goes (spelt x []) }
 {
-    if in_word(x) {
-        return true;
-    }
-    live(s, x, 0, 0)
+    in_word(x) || live(s, x, 0, 0)
 }

@@ -10,26 +10,9 @@ pub(crate) fn is_final(st: State) -> bool
     ensures { result ≡ final st }
 {
     match st {
-        State::Start => true,
-        State::Body => true,
-        State::Field => true,
-        State::Operand => false,
-        State::Value(_) => false,
-        State::Digits(_) => false,
-        State::AfterHash => true,
-        State::IndexDot => false,
-        State::IndexName => false,
-        State::RegisterName => false,
-        State::IndirectDot => false,
-        State::IndirectName => false,
-        State::Closing => false,
-        State::Done => true,
+        State::Start | State::Body | State::Field | State::AfterHash | State::Done | State::ItemDone | State::Ended => true,
         State::Expression(operand, height) => may_end(operand, height),
-        State::Item => false,
-        State::ItemDigits => false,
-        State::ItemDone => true,
-        State::Ended => true,
-        State::Dead => false,
+        _ => false,
     }
 }
 
@@ -37,80 +20,19 @@ pub(crate) fn is_final(st: State) -> bool
 pub(crate) fn lives(st: State) -> bool
     ensures { result ≡ lives st }
 {
-    match st {
-        State::Start => true,
-        State::Body => true,
-        State::Field => true,
-        State::Operand => true,
-        State::Value(_) => true,
-        State::Digits(_) => true,
-        State::AfterHash => true,
-        State::IndexDot => true,
-        State::IndexName => true,
-        State::RegisterName => true,
-        State::IndirectDot => true,
-        State::IndirectName => true,
-        State::Closing => true,
-        State::Done => true,
-        State::Expression(_, _) => true,
-        State::Item => true,
-        State::ItemDigits => true,
-        State::ItemDone => true,
-        State::Ended => true,
-        State::Dead => false,
-    }
+    !matches!(st, State::Dead)
 }
 
+// A label may be next.
 pub(crate) fn is_start(st: State) -> bool
     ensures { result ≡ is_start st }
 {
-    match st {
-        State::Start => true,
-        State::Body => false,
-        State::Field => false,
-        State::Operand => false,
-        State::Value(_) => false,
-        State::Digits(_) => false,
-        State::AfterHash => false,
-        State::IndexDot => false,
-        State::IndexName => false,
-        State::RegisterName => false,
-        State::IndirectDot => false,
-        State::IndirectName => false,
-        State::Closing => false,
-        State::Done => false,
-        State::Expression(_, _) => false,
-        State::Item => false,
-        State::ItemDigits => false,
-        State::ItemDone => false,
-        State::Ended => false,
-        State::Dead => false,
-    }
+    matches!(st, State::Start)
 }
 
+// All that follows is ignored.
 pub(crate) fn is_ended(st: State) -> bool
     ensures { result ≡ is_ended st }
 {
-    match st {
-        State::Start => false,
-        State::Body => false,
-        State::Field => false,
-        State::Operand => false,
-        State::Value(_) => false,
-        State::Digits(_) => false,
-        State::AfterHash => false,
-        State::IndexDot => false,
-        State::IndexName => false,
-        State::RegisterName => false,
-        State::IndirectDot => false,
-        State::IndirectName => false,
-        State::Closing => false,
-        State::Done => false,
-        State::Expression(_, _) => false,
-        State::Item => false,
-        State::ItemDigits => false,
-        State::ItemDone => false,
-        State::Ended => true,
-        State::Dead => false,
-    }
+    matches!(st, State::Ended)
 }

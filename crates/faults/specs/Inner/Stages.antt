@@ -19,26 +19,8 @@ spelt (G.Escaped st) w = escaped st
 
 -- how many parentheses are open
 abbrev pub opens : State → ℕ
-opens Start = 0
-opens Body = 0
-opens Field = 0
-opens Operand = 0
-opens (Value i) = 0
-opens (Digits i) = 0
-opens AfterHash = 0
-opens IndexDot = 0
-opens IndexName = 0
-opens RegisterName = 0
-opens IndirectDot = 0
-opens IndirectName = 0
-opens Closing = 0
-opens Done = 0
 opens (Expression q h) = h
-opens Item = 0
-opens ItemDigits = 0
-opens ItemDone = 0
-opens Ended = 0
-opens Dead = 0
+opens _ = 0
 
 abbrev pub opens_in : Lex → ℕ
 opens_in (between st) = opens st

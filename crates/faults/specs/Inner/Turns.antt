@@ -6,8 +6,8 @@ use Rattle.tokens.specs.Bytes.{is_semicolon}
 use Rattle.faults.specs.Walk.{Lex, step, live, place_from}
 use Rattle.faults.specs.Inner.Stages.{spelt, opens_in}
 use Rattle.faults.specs.declared.Stage.{Stage}
-use Rattle.faults.specs.declared.Turn.{Turn}
-use Rattle.faults.specs.declared.Turn.TheVariants.{Goes, Stops}
+use Rattle.faults.specs.declared.Walk.{Walk}
+use Rattle.std.specs.Prelude.{Result, Ok, Err}
 
 module _ (line : List ℕ) where
   abbrev pub lex_at : Stage → ℕ → ℕ → Lex
@@ -22,6 +22,7 @@ module _ (line : List ℕ) where
   stops_at x began at b = cond (is_semicolon b && live (step (lex_at x began at) (code " "))) (length line) at
 
   -- a byte more leaves the fault's place as it is, and opens one parenthesis at most
-  abbrev pub Turned : Stage → ℕ → ℕ → Turn → Type 0
-  Turned x began at (Goes y start) = (place_at x began at ≡ place_at y start (at + 1)) × (start ≤ at) × (opens_in (lex_at y start (at + 1)) ≤ at + 1)
-  Turned x began at (Stops p) = place_at x began at ≡ p
+  abbrev pub Turned : Stage → ℕ → ℕ → Result Walk ℕ → Type 0
+  Turned x began at (Ok w) =
+      (place_at x began at ≡ place_at w.stage w.began (at + 1)) × (w.began ≤ at) × (opens_in (lex_at w.stage w.began (at + 1)) ≤ at + 1)
+  Turned x began at (Err p) = place_at x began at ≡ p

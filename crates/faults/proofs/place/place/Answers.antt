@@ -12,30 +12,23 @@ loop-at-init c = (from_start c.args.line.now, omega arith, omega arith)
 pub turn-requires : goal.turn-requires
 turn-requires c = (c.loop-at-test.true, c.loop-at.invariant.1, c.loop-at.invariant.2)
 
-pub loop-at-smaller : goal.loop-at-smaller
-loop-at-smaller c = omega arith
-
 pub loop-at-preserved : goal.loop-at-preserved
 loop-at-preserved c =
     let l = c.loop-at in
-    let s = c.args.line.now in
-    let t = subst (Turned s l.x l.began l.at) c.in-Goes.is c.turn.ensures in
+    let t = c.in-Ok.ensures in
     (l.invariant.0 ∙ t.0, omega (arith, t.1), t.2)
 
-pub returns-in-Stops : goal.returns-in-Stops
-returns-in-Stops c =
-    let l = c.loop-at in
-    let s = c.args.line.now in
-    sym (l.invariant.0 ∙ subst (Turned s l.x l.began l.at) c.in-Stops.is c.turn.ensures)
+pub returns-in-Err : goal.returns-in-Err
+returns-in-Err c = sym (c.loop-at.invariant.0 ∙ c.in-Err.ensures)
 
-pub returns-then-not-live : goal.returns-then-not-live
-returns-then-not-live c =
+pub returns-then-live : goal.returns-then-live
+returns-then-live c =
     let l = c.loop-at in
-    let e = at-end c.args.line.now l.x l.began l.at c.loop-at-test.false in
-    sym (l.invariant.0 ∙ e ∙ cond-not _ _ (sym c.live.ensures ∙ c.if-not-live.true))
+    let e = at-end c.args.line.now l.walk.stage l.walk.began l.at c.loop-at-test.false l.auto.at-end in
+    sym (l.invariant.0 ∙ e ∙ cond_is _ _ (sym c.live.ensures ∙ c.if-live.true))
 
-pub returns : goal.returns
-returns c =
+pub returns-else-live : goal.returns-else-live
+returns-else-live c =
     let l = c.loop-at in
-    let e = at-end c.args.line.now l.x l.began l.at c.loop-at-test.false in
-    sym (l.invariant.0 ∙ e ∙ cond_is _ _ (sym c.live.ensures ∙ c.if-not-live.false))
+    let e = at-end c.args.line.now l.walk.stage l.walk.began l.at c.loop-at-test.false l.auto.at-end in
+    sym (l.invariant.0 ∙ e ∙ cond-not _ _ (sym c.live.ensures ∙ c.if-live.false))

@@ -1,5 +1,5 @@
 -- The fault's place stays that from here on; a byte opens one parenthesis at most.
-use Prim.Native.Nat.{◌-◌, ◌≤◌}
+use Prim.Native.Nat.{◌≤◌}
 use mathlib.Core.Path.{◌≡◌}
 use lib.ListN.{length}
 use Rattle.faults.specs.Walk.{place}
@@ -8,7 +8,4 @@ use Rattle.faults.specs.Inner.Turns.{lex_at, place_at}
 use Rattle.faults.proofs.place.place.Given as goal
 
 abbrev pub invariant-loop-at : goal.invariant-loop-at
-invariant-loop-at l = (place l.line ≡ place_at l.line l.x l.began l.at) × (l.began ≤ l.at) × (opens_in (lex_at l.line l.x l.began l.at) ≤ l.at)
-
-abbrev pub decreases-loop-at : goal.decreases-loop-at
-decreases-loop-at l = length l.line - l.at
+invariant-loop-at l = (place l.line ≡ place_at l.line l.walk.stage l.walk.began l.at) × (l.walk.began ≤ l.at) × (opens_in (lex_at l.line l.walk.stage l.walk.began l.at) ≤ l.at)

@@ -5,11 +5,6 @@ use Rattle.faults.proofs.Tests.{stops-other, stops-comment}
 use Rattle.faults.proofs.Turns.{blank-parts, blank-live}
 use Rattle.faults.proofs.place.stopped.Goals as goal
 
-pub returns-then-b-ne59 : goal.returns-then-b-ne59
-returns-then-b-ne59 c =
-    let a = c.args in
-    sym (stops-other a.line.now a.x a.began a.at a.b c.if-b-ne59.true)
-
 pub step-requires : goal.step-requires
 step-requires c =
     let a = c.args in
@@ -19,10 +14,4 @@ pub returns-then-goes : goal.returns-then-goes
 returns-then-goes c =
     let a = c.args in
     let e = blank-live (lex_at a.line.now a.x a.began a.at) c.step.result c.step.ensures in
-    sym (stops-comment a.line.now a.x a.began a.at a.b c.if-b-ne59.false (sym e ∙ (sym c.goes.ensures ∙ c.if-goes.true)))
-
-pub returns : goal.returns
-returns c =
-    let a = c.args in
-    let e = blank-live (lex_at a.line.now a.x a.began a.at) c.step.result c.step.ensures in
-    sym (stops-comment a.line.now a.x a.began a.at a.b c.if-b-ne59.false (sym e ∙ (sym c.goes.ensures ∙ c.if-goes.false)))
+    sym (stops-comment a.line.now a.x a.began a.at a.b c.if-b-eq59.true (sym e ∙ (sym c.goes.ensures ∙ c.if-goes.true)))

@@ -32,8 +32,8 @@ returns-then-goes c =
     let l = sym c.live.ensures ∙ c.if-not-live.false in
     turn_on a.line.now a.x a.began a.at p.0 c.step-next.result e l c.step-next.ensures p.2 (sym c.goes.ensures ∙ c.if-goes.true)
 
-pub returns : goal.returns
-returns c =
+pub returns-else-goes : goal.returns-else-goes
+returns-else-goes c =
     let a = c.args in
     let p = c.requires in
     let e = sym c.grows.ensures ∙ c.if-grows.false in
