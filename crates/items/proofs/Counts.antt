@@ -4,11 +4,11 @@ use mathlib.Core.List.{List, [], ◌∷◌}
 use mathlib.Core.Path.{◌≡◌, refl, ap, subst}
 use native.Mathlib.Omega.{arith}
 use lib.Ieee.Bits.{is_true}
-use lib.ListN.{length, drop, drop_of_length-le}
+use lib.ListN.{length, drop}
 use Rattle.numerals.specs.declared.Cursor.{Cursor}
 use Rattle.tokens.specs.Strings.{is_plain, Characters, closed, plain, newline}
 use Rattle.tokens.specs.Reading.{character_at}
-use Rattle.tokens.specs.declared.Character.TheVariants.{Stands, Closed, Broken}
+use Rattle.tokens.specs.declared.Character.TheVariants.{Stands}
 use Rattle.tokens.proofs.Quoted.{plain_is, Inside, character_means, ReadAt, characters-read}
 use Rattle.items.specs.Reading.{characters}
 
@@ -52,21 +52,10 @@ module _ (s : List ℕ) (from i n : ℕ) (left : Left s from i n) where
           let p : t.0 ≡ c = cc t.1 in
           (ds, subst (λ (x : Cursor). Characters (drop x.at s) ds rest) p t.2, omega arith)
 
-  pub count-closed : {c : Cursor} → character_at s i ≡ Closed c → (cs rest : List ℕ) → Characters (drop from s) cs rest → n ≡ length cs
-  count-closed {c} e cs rest r = let h = left cs rest r in go h.0 h.2 (characters-read s i h.1 refl)
+  -- where no character stands, none is left
+  pub count-end : ((b : ℕ) (c : Cursor) → character_at s i ≡ Stands b c → ⊥) → (cs rest : List ℕ) → Characters (drop from s) cs rest → n ≡ length cs
+  count-end none cs rest r = let h = left cs rest r in go h.0 h.2 (characters-read s i h.1 refl)
     where
       go : (ds : List ℕ) → length cs ≡ n + length ds → ReadAt s i ds rest → n ≡ length cs
       go [] q t = omega arith
-      go (d ∷ ds) q t = let z : ◌≡◌ {A = ℕ} 0 1 = cc t.1 in absurd (omega arith)
-
-  pub count-broken : character_at s i ≡ Broken → (cs rest : List ℕ) → Characters (drop from s) cs rest → n ≡ length cs
-  count-broken e cs rest r =
-      let h = left cs rest r in
-      let t : Inside s i Broken = subst (Inside s i) e (character_means s i) in
-      absurd (t h.0 rest h.1)
-
-  pub count-over : length s ≤ i → (cs rest : List ℕ) → Characters (drop from s) cs rest → n ≡ length cs
-  count-over l cs rest r = let h = left cs rest r in absurd (nothing (subst (λ (x : List ℕ). Characters x h.0 rest) (drop_of_length-le s l) h.1))
-    where
-      nothing : {ds : List ℕ} → Characters [] ds rest → ⊥
-      nothing r = let z = characters_fit r in omega arith
+      go (d ∷ ds) q t = absurd (none d t.0 t.1)

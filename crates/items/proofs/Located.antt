@@ -1,26 +1,26 @@
 -- Where the first number out of range stands: what the code finds, and that it is what the rule gives.
-use Prim.Native.Nat.{ℕ, ◌≤◌}
+use Prim.Native.Nat.{ℕ, ◌≤◌, ◌<◌}
 use Prim.Native.Char.{code}
 use mathlib.Core.Bool.{Bool, true, false, not, cond, ◌&&◌}
 use mathlib.Core.List.{List, [], ◌∷◌, ◌++◌, append-nil}
-use mathlib.Core.Logic.{◌↔◌}
+use mathlib.Core.Logic.{◌↔◌, ◌⊎◌, inl, inr}
 use mathlib.Core.Path.{◌≡◌, refl, sym, ap, subst, ◌∙◌}
 use native.Mathlib.Omega.{arith}
 use lib.Dec.{eqb}
 use lib.ListN.{length}
 use Rattle.numerals.specs.Numbers.{value_of, in_range}
-use Rattle.numerals.specs.declared.Cursor.{Cursor}
 use Rattle.tokens.specs.Marks.{IsMark}
 use Rattle.tokens.specs.Reading.{token_at, tokens_from}
 use Rattle.tokens.specs.declared.Kind.{Kind}
 use Rattle.tokens.specs.declared.Kind.TheVariants as K
 use Rattle.tokens.specs.declared.Token.{Token}
-use Rattle.tokens.proofs.Heads.{row_of, ends_of}
+use Rattle.tokens.proofs.Heads.{row_of}
 use Rattle.tokens.proofs.Places.{EndsAt, token_placed}
 use Rattle.values.specs.Values.{plain, minus}
 use Rattle.values.specs.Values as Values
 use Rattle.values.specs.Reading.{value_by, digits_by, minus_at, value_at}
 use Rattle.values.specs.declared.Value.TheVariants.{Number}
+use Rattle.std.specs.Prelude.{MatchOption}
 use Rattle.std.proofs.Common.{Option, Some, None}
 use Rattle.numerals.specs.Reading.{upto}
 use Rattle.numerals.specs.declared.Read.{Read}
@@ -28,8 +28,9 @@ use Rattle.values.specs.declared.Value.{Value}
 use Rattle.values.proofs.Begins.{value_cases, digits_cases, digits-read}
 use Rattle.items.specs.Items.{Item, ItemText, is_number, is_string, Items, one, more, item_in_range, all_in_range}
 use Rattle.items.specs.Reading.{on_text, string_of}
-use Rattle.items.specs.Places.{FirstOut, alone, first, later, is_out, digits_out, starts_out, out_from, number_out_in}
+use Rattle.items.specs.Places.{FirstOut, alone, first, later, is_out, is_comma, digits_out, starts_out, out_from, number_out_in}
 use Rattle.items.specs.Inner.Turns.{Standing, stands, none, string_at, item_by, item_at, measured}
+use Rattle.items.specs.declared.Measure.{Measure}
 use Rattle.items.proofs.Measures.{found-item, no_item}
 
 -- ---- what the code finds: the item at a place
@@ -94,30 +95,47 @@ module _ (s : List ℕ) (at : ℕ) where
       (λ h. h Bool _ is_out (digits_out (tokens_from s (token_at s at).next.at)) false
       ∙ sym (ap (λ (r : Option (Read Value)). out_by (item_by s at r)) (h (Option (Read Value)) _ (λ n. (Some (upto (Number n) (token_at s at).next))) (minus_at s (token_at s at).next.at) None) ∙ string-at s at))
 
-  pub found-out : {n : ℕ} {b : Bool} {c : Cursor} → measured (item_at s at) ≡ Some (upto (record { cells = n; fits = b }) c) → not b ≡ starts_out (tokens_from s at)
-  found-out e = let h = found-item s at e in sym (item_out ∙ ap out_by h.is ∙ ap not (sym h.fits))
-
-  pub absent-out : measured (item_at s at) ≡ None → false ≡ starts_out (tokens_from s at)
-  absent-out e = sym (item_out ∙ ap out_by (no_item s at e))
-
--- where an item begins, that item; elsewhere none
-module _ (begins : Bool) (ts : List Token) where
-  pub begun : {r : Bool} → begins ≡ true → r ≡ starts_out ts → r ≡ (begins && starts_out ts)
-  begun e h = rw e h
-
-  pub not-begun : begins ≡ false → false ≡ (begins && starts_out ts)
-  not-begun e = rw e
+  -- so it does where the measured item is out of range
+  pub out_there : (o : Option (Read Measure)) → o ≡ measured (item_at s at)
+      → MatchOption o (starts_out (tokens_from s at) ≡ false) (λ r. starts_out (tokens_from s at) ≡ not r.value.fits)
+  out_there (Some r) e = let h = found-item s at (sym e) in item_out ∙ ap out_by h.is ∙ ap not (sym h.fits)
+  out_there None e = item_out ∙ ap out_by (no_item s at (sym e))
 
 -- ---- what the code finds: one turn
 
 -- what is left to search behind a token
-abbrev pub left_by : List ℕ → Kind → ℕ → ℕ
+left_by : List ℕ → Kind → ℕ → ℕ
 left_by s K.End next = 0
 left_by s K.Stray next = 0
 left_by s K.Word next = out_from false (tokens_from s next)
 left_by s (K.Number v k) next = out_from false (tokens_from s next)
 left_by s K.Text next = out_from false (tokens_from s next)
 left_by s (K.Mark b) next = out_from (eqb b (code ",")) (tokens_from s next)
+
+-- the kinds behind which a row goes on
+module _ {k : Kind} (end : k ≡ K.End → ⊥) (stray : k ≡ K.Stray → ⊥) where
+  left_on : (s : List ℕ) (next : ℕ) → left_by s k next ≡ out_from (is_comma k) (tokens_from s next)
+  unfolding left_by
+  left_on s next = go k refl
+    where
+      go : (x : Kind) → k ≡ x → left_by s x next ≡ out_from (is_comma x) (tokens_from s next)
+      go K.End e = absurd (end e)
+      go K.Stray e = absurd (stray e)
+      go K.Word e = refl
+      go (K.Number v r) e = refl
+      go K.Text e = refl
+      go (K.Mark b) e = refl
+
+  ends_on : (n at next : ℕ) → EndsAt k n at next → (at < next) × (next ≤ n)
+  ends_on n at next = go k refl
+    where
+      go : (x : Kind) → k ≡ x → EndsAt x n at next → (at < next) × (next ≤ n)
+      go K.End e h = absurd (end e)
+      go K.Stray e h = absurd (stray e)
+      go K.Word e h = h
+      go (K.Number v r) e h = h
+      go K.Text e h = h
+      go (K.Mark b) e h = h
 
 module _ (s : List ℕ) (at : ℕ) (begins : Bool) where
   -- a row that begins with a number out of range begins with its token
@@ -137,7 +155,7 @@ module _ (s : List ℕ) (at : ℕ) (begins : Bool) where
 
   passed-by : (k : Kind) → (token_at s at).kind ≡ k → (begins && starts_out (tokens_from s at)) ≡ false
       → out_from begins (tokens_from s at) ≡ left_by s k (token_at s at).next.at
-  unfolding out_from
+  unfolding out_from left_by
   passed-by K.End q e = rw (row_of s at q)
   passed-by K.Stray q e = let f = rw (row_of s at q) at e in rw (row_of s at q, f)
   passed-by K.Word q e = let f = rw (row_of s at q) at e in rw (row_of s at q, f, q)
@@ -149,16 +167,23 @@ module _ (s : List ℕ) (at : ℕ) (begins : Bool) where
     pub is-out : out ≡ true → t.start ≡ out_from begins (tokens_from s at)
     is-out e = ap (λ (u : Token). u.start) its ∙ found-by (token_at s at).kind refl (sym told ∙ e)
 
-    module _ {k : Kind} (kind : t.kind ≡ k) where
-      its-kind : (token_at s at).kind ≡ k
-      its-kind = ap (λ (u : Token). u.kind) (sym its) ∙ kind
+    passed : out ≡ false → out_from begins (tokens_from s at) ≡ left_by s t.kind t.next.at
+    passed e = passed-by (token_at s at).kind refl (sym told ∙ e) ∙ ap (λ (u : Token). left_by s u.kind u.next.at) (sym its)
 
-      pub passed : out ≡ false → out_from begins (tokens_from s at) ≡ left_by s k t.next.at
-      passed e = passed-by k its-kind (sym told ∙ e) ∙ ap (λ (u : Token). left_by s k u.next.at) (sym its)
+    pub passed-last : (t.kind ≡ K.End) ⊎ (t.kind ≡ K.Stray) → out ≡ false → out_from begins (tokens_from s at) ≡ 0
+    unfolding left_by
+    passed-last (inl q) e = passed e ∙ rw q
+    passed-last (inr q) e = passed e ∙ rw q
 
-      pub moves : (at ≤ t.start) × EndsAt k (length s) t.start t.next.at
+    module _ (end : t.kind ≡ K.End → ⊥) (stray : t.kind ≡ K.Stray → ⊥) where
+      pub passed-on : out ≡ false → out_from begins (tokens_from s at) ≡ out_from (is_comma t.kind) (tokens_from s t.next.at)
+      passed-on e = passed e ∙ left_on end stray s t.next.at
+
+      pub moves : (at ≤ t.start) × (t.start < t.next.at) × (t.next.at ≤ length s)
       moves =
-          subst (λ (u : Token). (at ≤ u.start) × EndsAt k (length s) u.start u.next.at) (sym its) ((token_placed s at).starts, ends_of s at its-kind)
+          let u = token_at s at in
+          let e = ends_on (subst (λ (v : Token). v.kind ≡ K.End → ⊥) its end) (subst (λ (v : Token). v.kind ≡ K.Stray → ⊥) its stray) (length s) u.start u.next.at (token_placed s at).ends in
+          subst (λ (v : Token). (at ≤ v.start) × (v.start < v.next.at) × (v.next.at ≤ length s)) (sym its) ((token_placed s at).starts, e.0, e.1)
 
 -- ---- the rule's place
 

@@ -29,7 +29,8 @@ use Rattle.values.proofs.Finds.{value-stands}
 use Rattle.tokens.proofs.Heads.{ends_of}
 use Rattle.items.specs.Items.{Item, item_cells, item_in_range}
 use Rattle.items.specs.Reading.{characters}
-use Rattle.items.specs.Inner.Turns.{Standing, stands, none, string_by, string_at, item_by, item_at, measured}
+use Rattle.items.specs.Inner.Turns.{Standing, stands, none, string_by, string_at, number_item, item_by, item_at, measured}
+use Rattle.numerals.proofs.SameReads.{same-value, same-next}
 use Rattle.items.proofs.Counts.{characters_of, characters_fit}
 
 -- ---- ranges
@@ -136,34 +137,37 @@ module _ (s : List ℕ) (at : ℕ) where
           (omega (arith, h.after, h.room), omega (arith, h.after, h.room, p), h.within)
       text (K.Mark b) q = tt
 
+      number : (v : Value) (c : Cursor) → value_at s at ≡ Some (upto v c) → Small (number_item v c)
+      number (Number n) c e = let h = value-stands s at e in (h.moved, omega (arith, h.moved), h.within)
+      number (Label w) c e = tt
+
       go : (r : Option (Read Value)) → value_at s at ≡ r → Small (item_by s at r)
-      go (R.Found (Number n) c) e = let h = value-stands s at e in (h.moved, omega (arith, h.moved), h.within)
-      go (R.Found (Label w) c) e = tt
+      go (Some r) e = number r.value r.next e
       go None e = text (token_at s at).kind refl
 
   -- the item that the code found
-  pub record FoundItem (n : ℕ) (b : Bool) (c : Cursor) : Type 0 where
+  pub record FoundItem (r : Read Measure) : Type 0 where
     pub item : Item
-    pub is : item_at s at ≡ stands item c
-    pub cells : n ≡ length (item_cells item)
-    pub fits : b ≡ item_in_range item
-    pub moved : at < c.at
-    pub few : at + n ≤ c.at
-    pub within : c.at ≤ length s
+    pub is : item_at s at ≡ stands item r.next
+    pub cells : r.value.cells ≡ length (item_cells item)
+    pub fits : r.value.fits ≡ item_in_range item
+    pub moved : at < r.next.at
+    pub few : at + r.value.cells ≤ r.next.at
+    pub within : r.next.at ≤ length s
 
-  pub found-item : {n : ℕ} {b : Bool} {c : Cursor} → measured (item_at s at) ≡ Some (upto (record { cells = n; fits = b }) c) → FoundItem n b c
-  found-item {n} {b} {c} e = go (item_at s at) refl small e
+  pub found-item : {r : Read Measure} → measured (item_at s at) ≡ Some r → FoundItem r
+  found-item {r} e = go (item_at s at) refl small e
     where
-      go : (r : Standing) → item_at s at ≡ r → Small r → measured r ≡ Some (upto (record { cells = n; fits = b }) c) → FoundItem n b c
+      go : (x : Standing) → item_at s at ≡ x → Small x → measured x ≡ Some r → FoundItem r
       go (stands i d) q h e =
-          let p : d ≡ c = cc in
-          let m : length (item_cells i) ≡ n = cc in
-          let x : d.at ≡ c.at = ap (λ (y : Cursor). y.at) p in
+          let p : d ≡ r.next = same-next e in
+          let m : length (item_cells i) ≡ r.value.cells = ap (λ (x : Measure). x.cells) (same-value e) in
+          let x : d.at ≡ r.next.at = ap (λ (y : Cursor). y.at) p in
           record {
             item = i;
             is = q ∙ ap (stands i) p;
             cells = sym m;
-            fits = cc;
+            fits = sym (ap (λ (x : Measure). x.fits) (same-value e));
             moved = omega arith;
             few = omega arith;
             within = omega arith;

@@ -8,21 +8,21 @@ use Rattle.tokens.specs.declared.Token.{Token}
 use Rattle.values.proofs.Walks.{never}
 use Rattle.items.specs.Items.{Item, Items, cells_of, all_in_range}
 use Rattle.items.specs.Reading.{item, RowRead, reads, wrong, walk, judged, items_read}
-use Rattle.std.proofs.Common.{None, Result, Ok, Err}
+use Rattle.std.proofs.Common.{Result, Ok, Err}
 use Rattle.items.specs.declared.ItemsFault.{ItemsFault}
 use Rattle.items.specs.declared.ItemsFault.TheVariants.{WrongForm, OutOfRange}
 use Rattle.items.proofs.Readings.{InLine, complete, sound}
 
 module _ (line : List ℕ) (ts : List Token) where
-  abbrev None : Type 0
-  None = (is : List Item) → Items line ts is → ⊥
+  abbrev NoItems : Type 0
+  NoItems = (is : List Item) → Items line ts is → ⊥
 
   -- ---- no reading
 
-  pub wrong-none : walk line item ts ≡ wrong → None
+  pub wrong-none : walk line item ts ≡ wrong → NoItems
   wrong-none e is r = never (sym e ∙ complete line r)
 
-  pub none-wrong : InLine line ts → None → walk line item ts ≡ wrong
+  pub none-wrong : InLine line ts → NoItems → walk line item ts ≡ wrong
   none-wrong w n = go (walk line item ts) refl
     where
       go : (r : RowRead) → walk line item ts ≡ r → r ≡ wrong
@@ -35,7 +35,7 @@ module _ (line : List ℕ) (ts : List Token) where
   abbrev Says : Result ℕ ItemsFault → Type 0
   Says (Ok n) = (is : List Item) × Items line ts is × (all_in_range is ≡ true) × (n ≡ length (cells_of is))
   Says (Err OutOfRange) = (is : List Item) × Items line ts is × (all_in_range is ≡ false)
-  Says (Err WrongForm) = None
+  Says (Err WrongForm) = NoItems
 
   pub reply-says : InLine line ts → {r : Result ℕ ItemsFault} → items_read line ts ≡ r → Says r
   unfolding items_read

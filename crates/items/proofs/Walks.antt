@@ -19,7 +19,7 @@ use Rattle.tokens.specs.declared.Kind.TheVariants as K
 use Rattle.tokens.specs.declared.Token.{Token}
 use Rattle.values.specs.Reading.{minus_at, value_at}
 use Rattle.values.specs.Values.{numeral}
-use Rattle.values.specs.declared.Value.TheVariants.{Number, Label}
+use Rattle.values.specs.declared.Value.TheVariants.{Number}
 use Rattle.std.proofs.Common.{Option, Some, None, Ok, Err}
 use Rattle.numerals.specs.Reading.{upto}
 use Rattle.numerals.specs.declared.Read.{Read}
@@ -31,20 +31,20 @@ use Rattle.values.proofs.Walks.{turned, finished}
 use Rattle.values.proofs.Begins.{value_cases, digits_cases, digits-read, digits-row}
 use Rattle.items.specs.Items.{Item, number, item_cells, item_in_range, cells_of, all_in_range}
 use Rattle.items.specs.Reading.{State, item, digits, done, Step, to, halt, RowRead, reads, wrong, on_text, cons, finish, string_of, step, walk, judged, items_read}
-use Rattle.items.specs.Inner.Turns.{Standing, stands, none, string_at, item_by, item_at, measured, verdict}
+use Rattle.items.specs.Inner.Turns.{Standing, stands, none, string_at, number_item, item_by, item_at, measured, verdict}
+use Rattle.items.specs.declared.Measure.{Measure}
 use Rattle.items.proofs.Measures.{FoundItem, no_item}
 
 -- ---- the walk from a place on
 
 -- what an answer says of the walk
-abbrev value_on : List ℕ → Option (Read Value) → RowRead
-value_on s (R.Found (Number n) c) = walk s (done (number n)) (tokens_from s c.at)
-value_on s (R.Found (Label w) c) = wrong
-value_on s None = wrong
-
 abbrev pub item_on : List ℕ → Standing → RowRead
 item_on s (stands i c) = walk s (done i) (tokens_from s c.at)
 item_on s none = wrong
+
+abbrev value_on : List ℕ → Option (Read Value) → RowRead
+value_on s (Some r) = item_on s (number_item r.value r.next)
+value_on s None = wrong
 
 abbrev pub follows_on : List ℕ → Item → Follows → RowRead
 follows_on s i x = Walks.follows_on item (step s) finish s i x
@@ -90,8 +90,7 @@ module _ (s : List ℕ) (at : ℕ) where
 
       -- what follows a `-`, which is no string
       minus : IsMark (code "-") (token_at s at) → (r : Option (Read Value)) → value_on s r ≡ item_on s (item_by s at r)
-      minus q (R.Found (Number n) c) = refl
-      minus q (R.Found (Label w) c) = refl
+      minus q (Some r) = refl
       minus q None = rw q
 
       minus-turn : IsMark (code "-") (token_at s at) → walk s item (tokens_from s at) ≡ item_on s (item_at s at)
@@ -136,27 +135,27 @@ verdict-cons n false i (reads is) = refl
 verdict-cons n f i wrong = refl
 
 -- the item, and what follows it
-pub walked : (s : List ℕ) (at : ℕ) {m : ℕ} {b : Bool} {c : Cursor} {x : Follows} (h : FoundItem s at m b c) → follows_of (token_at s c.at) ≡ x
+pub walked : (s : List ℕ) (at : ℕ) {r : Read Measure} {x : Follows} (h : FoundItem s at r) → follows_of (token_at s r.next.at) ≡ x
     → walk s item (tokens_from s at) ≡ follows_on s h.item x
-walked s at {c = c} h e = item-turn s at ∙ ap (item_on s) h.is ∙ done-turn s c.at h.item ∙ ap (follows_on s h.item) e
+walked s at {r} h e = item-turn s at ∙ ap (item_on s) h.is ∙ done-turn s r.next.at h.item ∙ ap (follows_on s h.item) e
 
 module _ (s : List ℕ) (at n : ℕ) (f : Bool) where
   pub turn-absent : measured (item_at s at) ≡ None → verdict n f (walk s item (tokens_from s at)) ≡ Err WrongForm
   turn-absent e = ap (verdict n f) (item-turn s at ∙ ap (item_on s) (no_item s at e))
 
-  module _ {m : ℕ} {b : Bool} {c : Cursor} (h : FoundItem s at m b c) where
-    added : (g : Bool) (r : RowRead) → g ≡ (f && b) → verdict n f (cons h.item r) ≡ verdict (n + m) g r
-    added g r e = verdict-cons n f h.item r ∙ rw (← h.cells, ← h.fits, ← e)
+  module _ {r : Read Measure} (h : FoundItem s at r) where
+    added : (g : Bool) (rest : RowRead) → g ≡ (f && r.value.fits) → verdict n f (cons h.item rest) ≡ verdict (n + r.value.cells) g rest
+    added g rest e = verdict-cons n f h.item rest ∙ rw (← h.cells, ← h.fits, ← e)
 
-    pub turn-over : {g : Bool} → follows_of (token_at s c.at) ≡ Over → g ≡ (f && b)
-        → verdict n f (walk s item (tokens_from s at)) ≡ cond g (Ok (n + m)) (Err OutOfRange)
+    pub turn-over : {g : Bool} → follows_of (token_at s r.next.at) ≡ Over → g ≡ (f && r.value.fits)
+        → verdict n f (walk s item (tokens_from s at)) ≡ cond g (Ok (n + r.value.cells)) (Err OutOfRange)
     unfolding cells_of all_in_range
-    turn-over {g} e q = ap (verdict n f) (walked s at h e) ∙ added g (reads []) q ∙ rw (and-true g, add-zero (n + m))
+    turn-over {g} e q = ap (verdict n f) (walked s at h e) ∙ added g (reads []) q ∙ rw (and-true g, add-zero (n + r.value.cells))
 
-    pub turn-neither : follows_of (token_at s c.at) ≡ Neither → verdict n f (walk s item (tokens_from s at)) ≡ Err WrongForm
+    pub turn-neither : follows_of (token_at s r.next.at) ≡ Neither → verdict n f (walk s item (tokens_from s at)) ≡ Err WrongForm
     turn-neither e = ap (verdict n f) (walked s at h e)
 
-    pub turn-comma : {g : Bool} {d : Cursor} → follows_of (token_at s c.at) ≡ Comma d → g ≡ (f && b)
-        → verdict n f (walk s item (tokens_from s at)) ≡ verdict (n + m) g (walk s item (tokens_from s d.at))
+    pub turn-comma : {g : Bool} {d : Cursor} → follows_of (token_at s r.next.at) ≡ Comma d → g ≡ (f && r.value.fits)
+        → verdict n f (walk s item (tokens_from s at)) ≡ verdict (n + r.value.cells) g (walk s item (tokens_from s d.at))
     unfolding walk
     turn-comma {g} {d} e q = ap (verdict n f) (walked s at h e) ∙ added g (walk s item (tokens_from s d.at)) q

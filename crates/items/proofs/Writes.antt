@@ -1,31 +1,32 @@
 -- What is written turn by turn is what the whole row gives: a character of a string, an item of a row.
-use Prim.Native.Nat.{ℕ, suc, ◌+◌, ◌≤◌}
+use Prim.Native.Nat.{ℕ, suc, ◌+◌}
 use mathlib.Core.Bool.{Bool, true, false, false≢true, cond, ◌&&◌}
 use mathlib.Core.List.{List, [], ◌∷◌, ◌++◌}
 use mathlib.Core.Path.{◌≡◌, refl, sym, ap, subst, ◌∙◌}
 use native.Mathlib.Nat.{add-zero}
 use native.Mathlib.Omega.{arith}
-use lib.ListN.{length, drop, set, length-drop}
+use lib.ListN.{length, drop, set}
 use lib.Seq.{sets}
 use mir.Syntax.{w16}
 use mir.Val.{of_z}
 use Rattle.numerals.specs.Numbers.{value_of, in_range, kept_of}
 use Rattle.numerals.specs.declared.Cursor.{Cursor}
-use Rattle.std.proofs.Common.{Option, Some, None, Result, Ok, Err}
+use Rattle.std.proofs.Common.{Option, Some, None, Result, Ok, Err, is_ok}
 use Rattle.numerals.specs.Reading.{upto}
 use Rattle.numerals.specs.declared.Read.{Read}
 use Rattle.values.specs.declared.Value.{Value}
 use Rattle.items.specs.declared.ItemsFault.{ItemsFault}
-use Rattle.items.specs.declared.ItemsFault.TheVariants.{WrongForm, OutOfRange}
+use Rattle.items.specs.declared.ItemsFault.TheVariants.{OutOfRange}
 use Rattle.numerals.specs.declared.Numeral.{Numeral}
 use Rattle.tokens.specs.Strings.{Characters}
 use Rattle.tokens.specs.Reading.{character_at, token_at, tokens_from}
-use Rattle.tokens.specs.declared.Character.TheVariants.{Stands, Closed, Broken}
+use Rattle.tokens.specs.declared.Character.TheVariants.{Stands}
 use Rattle.tokens.specs.Commas.{follows_of}
+use Rattle.tokens.specs.declared.Follows.{Follows}
 use Rattle.tokens.specs.declared.Follows.TheVariants.{Comma, Over, Neither}
 use Rattle.tokens.specs.declared.Kind.TheVariants as K
 use Rattle.tokens.specs.declared.Token.{Token}
-use Rattle.tokens.proofs.Quoted.{Inside, character_means, ReadAt, characters-read}
+use Rattle.tokens.proofs.Quoted.{ReadAt, characters-read}
 use Rattle.values.specs.Reading.{value_at}
 use Rattle.values.specs.declared.Name.{Name}
 use Rattle.values.specs.declared.Value.TheVariants.{Number, Label}
@@ -33,7 +34,7 @@ use Rattle.items.specs.Items.{Item, number, item_cells, item_in_range, cells_of,
 use Rattle.items.specs.Reading.{characters, item, RowRead, reads, wrong, cons, walk, judged, items_read}
 use Rattle.items.specs.Inner.Turns.{string_at, item_by, item_at, measured, accepted, cells_at}
 use Rattle.items.specs.Writing.{accepted_cells, cells_from}
-use Rattle.items.proofs.Counts.{characters_fit}
+use Rattle.items.specs.declared.Measure.{Measure}
 use Rattle.items.proofs.Measures.{kept_in, kept_out, quote_at, FoundItem, no_item}
 use Rattle.items.proofs.Walks.{item_on, item-turn, walked}
 
@@ -71,21 +72,13 @@ module _ (s : List ℕ) (from : ℕ) (row : List ℕ) (to : ℕ) where
             let u : d ≡ b = cc t.1 in
             (ds, subst (λ (x : Cursor). Characters (drop x.at s) ds rest) p t.2, q ∙ rw (w, k, u))
 
-    pub string-closed : {c : Cursor} {ns : List ℕ} → character_at s i ≡ Closed c → ns ≡ set ms n 0 → Whole ns
-    string-closed {c} {ns} e w cs rest r = let h = left cs rest r in go h.0 h.2 (characters-read s i h.1 refl)
+    -- where no character stands, the 0 cell is left
+    pub string-end : {ns : List ℕ} → ((b : ℕ) (c : Cursor) → character_at s i ≡ Stands b c → ⊥) → ns ≡ set ms n 0 → Whole ns
+    string-end {ns} none w cs rest r = let h = left cs rest r in go h.0 h.2 (characters-read s i h.1 refl)
       where
         go : (ds : List ℕ) → sets row to (cs ++ (0 ∷ [])) ≡ sets ms n (ds ++ (0 ∷ [])) → ReadAt s i ds rest → ns ≡ sets row to (cs ++ (0 ∷ []))
         go [] q t = w ∙ sym q
-        go (d ∷ ds) q t = let z : ◌≡◌ {A = ℕ} 0 1 = cc t.1 in absurd (omega arith)
-
-    pub string-broken : character_at s i ≡ Broken → Whole ms
-    string-broken e cs rest r =
-        let h = left cs rest r in
-        let t : Inside s i Broken = subst (Inside s i) e (character_means s i) in
-        absurd (t h.0 rest h.1)
-
-    pub string-over : length s ≤ i → Whole ms
-    string-over l cs rest r = let h = left cs rest r in absurd (omega (arith, characters_fit h.1, length-drop i s))
+        go (d ∷ ds) q t = absurd (none d t.0 t.1)
 
 -- a string at a place
 pub text-written : (s : List ℕ) (at : ℕ) {t : Token} (row : List ℕ) (to : ℕ) {ms : List ℕ} → t ≡ token_at s at → t.kind ≡ K.Text
@@ -153,33 +146,39 @@ module _ (s : List ℕ) (at : ℕ) (ok : accepted (walk s item (tokens_from s at
   pub some_item : measured (item_at s at) ≡ None → ⊥
   some_item e = false≢true (sym (ap accepted (item-turn s at ∙ ap (item_on s) (no_item s at e))) ∙ ok)
 
-  module _ {m : ℕ} {b : Bool} {c : Cursor} (h : FoundItem s at m b c) where
-    pub some_end : follows_of (token_at s c.at) ≡ Neither → ⊥
+  module _ {r : Read Measure} (h : FoundItem s at r) where
+    some_end : follows_of (token_at s r.next.at) ≡ Neither → ⊥
     some_end e = false≢true (sym (ap accepted (walked s at h e)) ∙ ok)
 
-    headed : (r : RowRead) → walk s item (tokens_from s at) ≡ cons h.item r → First h.item r
-    headed r e = first h.item r (sym (ap accepted e) ∙ ok)
+    headed : (rest : RowRead) → walk s item (tokens_from s at) ≡ cons h.item rest → First h.item rest
+    headed rest e = first h.item rest (sym (ap accepted e) ∙ ok)
 
     -- the item's cells, and then those of the rest
-    written : (row : List ℕ) (to : ℕ) {ms : List ℕ} (r : RowRead) → walk s item (tokens_from s at) ≡ cons h.item r
-        → ms ≡ sets row to (cells_at (item_at s at)) → sets row to (cells_from s (tokens_from s at)) ≡ sets ms (to + m) (accepted_cells r)
+    written : (row : List ℕ) (to : ℕ) {ms : List ℕ} (rest : RowRead) → walk s item (tokens_from s at) ≡ cons h.item rest
+        → ms ≡ sets row to (cells_at (item_at s at)) → sets row to (cells_from s (tokens_from s at)) ≡ sets ms (to + r.value.cells) (accepted_cells rest)
     unfolding cells_from
-    written row to {ms} r e w =
-        let f = headed r e in
+    written row to {ms} rest e w =
+        let f = headed rest e in
         let i : ms ≡ sets row to (item_cells h.item) = w ∙ rw (h.is, f.fits) in
-        ap (λ (x : RowRead). sets row to (accepted_cells x)) e ∙ ap (sets row to) f.cells ∙ sets_append row to (item_cells h.item) (accepted_cells r) ∙ rw (← i, ← h.cells)
+        ap (λ (x : RowRead). sets row to (accepted_cells x)) e ∙ ap (sets row to) f.cells ∙ sets_append row to (item_cells h.item) (accepted_cells rest) ∙ rw (← i, ← h.cells)
 
-    pub last_written : (row : List ℕ) (to : ℕ) {ms : List ℕ} → follows_of (token_at s c.at) ≡ Over → ms ≡ sets row to (cells_at (item_at s at))
-        → ms ≡ sets row to (cells_from s (tokens_from s at))
+    -- the last item: no comma follows, and nothing else that is refused
+    pub last_written : (row : List ℕ) (to : ℕ) {ms : List ℕ} → ((d : Cursor) → follows_of (token_at s r.next.at) ≡ Comma d → ⊥)
+        → ms ≡ sets row to (cells_at (item_at s at)) → ms ≡ sets row to (cells_from s (tokens_from s at))
     unfolding cells_of all_in_range
-    last_written row to e w = sym (written row to (reads []) (walked s at h e) w)
+    last_written row to {ms} none w = go (follows_of (token_at s r.next.at)) refl
+      where
+        go : (x : Follows) → follows_of (token_at s r.next.at) ≡ x → ms ≡ sets row to (cells_from s (tokens_from s at))
+        go (Comma d) e = absurd (none d e)
+        go Over e = sym (written row to (reads []) (walked s at h e) w)
+        go Neither e = absurd (some_end e)
 
-    pub next-accepted : {d : Cursor} → follows_of (token_at s c.at) ≡ Comma d → accepted (walk s item (tokens_from s d.at)) ≡ true
+    pub next-accepted : {d : Cursor} → follows_of (token_at s r.next.at) ≡ Comma d → accepted (walk s item (tokens_from s d.at)) ≡ true
     unfolding walk
     next-accepted {d} e = (headed (walk s item (tokens_from s d.at)) (walked s at h e)).rest
 
-    pub next-written : (row : List ℕ) (to : ℕ) {ms : List ℕ} {d : Cursor} {n : ℕ} → follows_of (token_at s c.at) ≡ Comma d
-        → ms ≡ sets row to (cells_at (item_at s at)) → n ≡ to + m
+    pub next-written : (row : List ℕ) (to : ℕ) {ms : List ℕ} {d : Cursor} {n : ℕ} → follows_of (token_at s r.next.at) ≡ Comma d
+        → ms ≡ sets row to (cells_at (item_at s at)) → n ≡ to + r.value.cells
         → sets row to (cells_from s (tokens_from s at)) ≡ sets ms n (cells_from s (tokens_from s d.at))
     unfolding cells_from walk
     next-written row to {ms} {d} e w q =
@@ -190,8 +189,7 @@ module _ (s : List ℕ) (at : ℕ) (ok : accepted (walk s item (tokens_from s at
 -- what a reply to a row's result says of the cells
 abbrev pub Given : RowRead → Result ℕ ItemsFault → Type 0
 Given x (Ok n) = (accepted x ≡ true) × (length (accepted_cells x) ≡ n)
-Given x (Err WrongForm) = accepted_cells x ≡ []
-Given x (Err OutOfRange) = accepted_cells x ≡ []
+Given x (Err why) = accepted_cells x ≡ []
 
 judged-given : (x : RowRead) → Given x (judged x)
 judged-given (reads is) = go (all_in_range is) refl
@@ -201,9 +199,22 @@ judged-given (reads is) = go (all_in_range is) refl
     go false q = rw q
 judged-given wrong = refl
 
-pub given : (line : List ℕ) (ts : List Token) {r : Result ℕ ItemsFault} → items_read line ts ≡ r → Given (walk line item ts) r
-unfolding items_read
-given line ts e = subst (Given (walk line item ts)) e (judged-given (walk line item ts))
+module _ (line : List ℕ) (ts : List Token) where
+  pub given : {r : Result ℕ ItemsFault} → items_read line ts ≡ r → Given (walk line item ts) r
+  unfolding items_read
+  given e = subst (Given (walk line item ts)) e (judged-given (walk line item ts))
 
-pub cells-accepted : (line : List ℕ) (ts : List Token) {n : ℕ} → items_read line ts ≡ Ok n → accepted (walk line item ts) ≡ true
-cells-accepted line ts e = (given line ts e).0
+  pub accepted_ok : is_ok (items_read line ts) ≡ true → accepted (walk line item ts) ≡ true
+  accepted_ok e = go (items_read line ts) refl e
+    where
+      go : (r : Result ℕ ItemsFault) → items_read line ts ≡ r → is_ok r ≡ true → accepted (walk line item ts) ≡ true
+      go (Ok n) q e = (given q).0
+      go (Err why) q e = absurd (false≢true e)
+
+  pub none_refused : is_ok (items_read line ts) ≡ false → cells_from line ts ≡ []
+  unfolding cells_from
+  none_refused e = go (items_read line ts) refl e
+    where
+      go : (r : Result ℕ ItemsFault) → items_read line ts ≡ r → is_ok r ≡ false → accepted_cells (walk line item ts) ≡ []
+      go (Ok n) q e = absurd (false≢true (sym e))
+      go (Err why) q e = given q

@@ -2,8 +2,6 @@
 // specs/Items.antt.
 #![tactic(auto)]
 
-use numerals::Cursor;
-
 pub mod places; // where the first number out of range stands
 pub mod reading; // the items that follow DATA
 mod single; // one item

@@ -10,17 +10,15 @@ use numerals::reading::kept;
 use numerals::{Cursor, Numeral, Read};
 use tokens::Kind;
 use tokens::tokens::next_token;
-use values::reading::value;
 use values::Value;
+use values::reading::value;
 
 // "Range -32768..65535".
+#[tactic(auto, unfolding(numerals::specs::Numbers::kept_of))]
 fn is_in_range(n: Numeral) -> bool
     ensures { result ≡ in_range (value_of n) }
 {
-    match kept(n) {
-        Some(_) => true,
-        None => false,
-    }
+    kept(n).is_some()
 }
 
 // The string at a cursor: "a cell a character and a 0 cell".
@@ -28,29 +26,34 @@ fn string_item(s: &[u8], from: Cursor) -> Option<Read<Measure>>
     ensures { result ≡ measured (string_at s.now (token_at s.now from.at)) }
 {
     let t = next_token(s, from);
-    let kind = t.kind;
-    let start = t.start;
-    let next = t.next;
-    match kind {
-        Kind::End => None,
-        Kind::Stray => None,
-        Kind::Word => None,
-        Kind::Number(_, _) => None,
-        Kind::Text => Some(Read { value: Measure { cells: character_count(s, start + 1) + 1, fits: true }, next }),
-        Kind::Mark(_) => None,
+    match t.kind {
+        Kind::Text => {
+            let cells = character_count(s, t.start + 1) + 1;
+            Some(Read {
+                value: Measure { cells, fits: true },
+                next: t.next,
+            })
+        }
+        _ => None,
     }
 }
 
 // The item at a cursor; a label is none.
+#[tactic(auto, unfolding(crate::specs::Inner::Turns::item_at))]
 pub(crate) fn item(s: &[u8], from: Cursor) -> Option<Read<Measure>>
     ensures { result ≡ measured (item_at s.now from.at) }
 {
-    let at = from.at;
-    match value(s, Cursor { at: at }) {
-        Some(Read { value: v, next }) => match v {
-            Value::Number(n) => Some(Read { value: Measure { cells: 1, fits: is_in_range(n) }, next }),
-            Value::Label(_) => None,
-        },
-        None => string_item(s, Cursor { at: at }),
+    let Some(Read { value, next }) = value(s, from) else {
+        return string_item(s, from)
+    };
+    match value {
+        Value::Number(n) => {
+            let fits = is_in_range(n);
+            Some(Read {
+                value: Measure { cells: 1, fits },
+                next,
+            })
+        }
+        Value::Label(_) => None,
     }
 }

@@ -10,21 +10,11 @@ use tokens::strings::character;
 pub(crate) fn character_count(s: &[u8], from: usize) -> usize
     ensures { (cs rest : List ℕ) → Characters (drop from s.now) cs rest → result ≡ length cs }
 {
-    let mut i = from;
-    let mut count: usize = 0;
-    while i < s.len() {
-        match character(s, Cursor { at: i }) {
-            Character::Stands(_, next) => {
-                i = next.at;
-                count += 1;
-            }
-            Character::Closed(_) => {
-                return count;
-            }
-            Character::Broken => {
-                return count;
-            }
-        }
+    let mut at = Cursor { at: from };
+    let mut count = 0;
+    while let Character::Stands(_, next) = character(s, at) {
+        at = next;
+        count += 1;
     }
     count
 }

@@ -7,7 +7,6 @@ ghost use Rattle.items.specs.Reading.{item, walk};
 ghost use Rattle.items.specs.Inner.Turns.{string_at, item_at, accepted, cells_at};
 ghost use Rattle.items.specs.Writing.{cells_from};
 
-use super::{ItemsFault, Measure};
 use super::reading::items;
 use super::single::item;
 use numerals::reading::kept;
@@ -16,20 +15,16 @@ use tokens::commas::follows;
 use tokens::strings::character;
 use tokens::tokens::next_token;
 use tokens::{Character, Follows, Kind};
-use values::reading::value;
 use values::Value;
+use values::reading::value;
 
 // The cell k places after a place; what does not fit is left out. Two numbers, since their sum may not fit a usize.
 fn put(row: &mut [u16], at: usize, k: usize, v: u16)
     ensures { row.new ≡ set row.old (at + k) v }
 {
-    if row.len() <= at {
-        return;
+    if k < row.len().saturating_sub(at) {
+        row[at + k] = v;
     }
-    if row.len() - at <= k {
-        return;
-    }
-    row[at + k] = v;
 }
 
 // The string whose opening quote stands right before a place: "a cell a character and a 0 cell".
@@ -38,24 +33,14 @@ fn write_string(s: &[u8], from: usize, row: &mut [u16], at: usize, k: usize)
     ensures { (cs rest : List ℕ) → Characters (drop from s.now) cs rest
         → row.new ≡ sets row.old (at + k) (cs ++ (0 ∷ [])) }
 {
-    let mut i = from;
+    let mut inside = Cursor { at: from };
     let mut n = k;
-    while i < s.len() {
-        match character(s, Cursor { at: i }) {
-            Character::Stands(b, next) => {
-                put(row, at, n, b as u16);
-                i = next.at;
-                n += 1;
-            }
-            Character::Closed(_) => {
-                put(row, at, n, 0);
-                return;
-            }
-            Character::Broken => {
-                return;
-            }
-        }
+    while let Character::Stands(b, next) = character(s, inside) {
+        put(row, at, n, b.into());
+        inside = next;
+        n += 1;
     }
+    put(row, at, n, 0);
 }
 
 // The string at a cursor, if one is there.
@@ -64,38 +49,23 @@ fn write_text(s: &[u8], from: Cursor, row: &mut [u16], at: usize, k: usize)
     ensures { row.new ≡ sets row.old (at + k) (cells_at (string_at s.now (token_at s.now from.at))) }
 {
     let t = next_token(s, from);
-    let kind = t.kind;
-    let start = t.start;
-    match kind {
-        Kind::End => {}
-        Kind::Stray => {}
-        Kind::Word => {}
-        Kind::Number(_, _) => {}
-        Kind::Text => {
-            write_string(s, start + 1, row, at, k);
-        }
-        Kind::Mark(_) => {}
+    if let Kind::Text = t.kind {
+        write_string(s, t.start + 1, row, at, k);
     }
 }
 
 // The item at a cursor; a number is "kept modulo 65536".
+#[tactic(auto, unfolding(crate::specs::Inner::Turns::item_at, numerals::specs::Numbers::kept_of))]
 fn write_item(s: &[u8], from: Cursor, row: &mut [u16], at: usize, k: usize)
     requires { k ≤ from.at }
     ensures { row.new ≡ sets row.old (at + k) (cells_at (item_at s.now from.at)) }
 {
-    let start = from.at;
-    match value(s, Cursor { at: start }) {
-        Some(Read { value: v, next: _ }) => match v {
-            Value::Number(n) => match kept(n) {
-                Some(x) => {
-                    put(row, at, k, x);
-                }
-                None => {}
-            },
-            Value::Label(_) => {}
-        },
-        None => {
-            write_text(s, Cursor { at: start }, row, at, k);
+    let Some(read) = value(s, from) else {
+        return write_text(s, from, row, at, k)
+    };
+    if let Value::Number(n) = read.value {
+        if let Some(cell) = kept(n) {
+            put(row, at, k, cell);
         }
     }
 }
@@ -105,29 +75,15 @@ fn write_items(s: &[u8], from: Cursor, row: &mut [u16], at: usize)
     requires { accepted (walk s.now item (tokens_from s.now from.at)) ≡ true }
     ensures { row.new ≡ sets row.old at (cells_from s.now (tokens_from s.now from.at)) }
 {
-    let mut i = from.at;
-    let mut k: usize = 0;
-    loop {
-        match item(s, Cursor { at: i }) {
-            None => {
-                return;
-            }
-            Some(Read { value: Measure { cells: n, fits: _ }, next }) => {
-                write_item(s, Cursor { at: i }, row, at, k);
-                k += n;
-                match follows(s, next) {
-                    Follows::Over => {
-                        return;
-                    }
-                    Follows::Neither => {
-                        return;
-                    }
-                    Follows::Comma(after) => {
-                        i = after.at;
-                    }
-                }
-            }
-        }
+    let mut item_at = from;
+    let mut k = 0;
+    while let Some(Read { value, next }) = item(s, item_at) {
+        write_item(s, item_at, row, at, k);
+        k += value.cells;
+        let Follows::Comma(after) = follows(s, next) else {
+            return
+        };
+        item_at = after;
     }
 }
 
@@ -136,12 +92,7 @@ fn write_items(s: &[u8], from: Cursor, row: &mut [u16], at: usize)
 pub fn write_cells(s: &[u8], from: Cursor, row: &mut [u16], at: usize)
     ensures { row.new ≡ sets row.old at (cells_from s.now (tokens_from s.now from.at)) }
 {
-    let start = from.at;
-    match items(s, Cursor { at: start }) {
-        Ok(_) => {
-            write_items(s, Cursor { at: start }, row, at);
-        }
-        Err(ItemsFault::WrongForm) => {}
-        Err(ItemsFault::OutOfRange) => {}
+    if items(s, from).is_ok() {
+        write_items(s, from, row, at);
     }
 }

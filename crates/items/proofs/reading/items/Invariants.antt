@@ -8,8 +8,8 @@ use Rattle.items.specs.Reading.{item, walk, items_read}
 use Rattle.items.specs.Inner.Turns.{verdict}
 use Rattle.items.proofs.reading.items.Given as goal
 
-abbrev pub invariant-loop-n : goal.invariant-loop-n
-invariant-loop-n l = (l.cells ≤ l.at) × (items_read l.s (tokens_from l.s l.initial.at) ≡ verdict l.cells l.fit (walk l.s item (tokens_from l.s l.at)))
+abbrev pub invariant-loop-value : goal.invariant-loop-value
+invariant-loop-value l = (l.cells ≤ l.at.at) × (items_read l.s (tokens_from l.s l.initial.at.at) ≡ verdict l.cells l.fit (walk l.s item (tokens_from l.s l.at.at)))
 
-abbrev pub decreases-loop-n : goal.decreases-loop-n
-decreases-loop-n l = length l.s - l.at
+abbrev pub decreases-loop-value : goal.decreases-loop-value
+decreases-loop-value l = length l.s - l.at.at

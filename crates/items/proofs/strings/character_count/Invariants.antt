@@ -1,12 +1,12 @@
--- The loop's invariant: what is left of the string at `i` has all but `count` of its characters (Counts.antt), each of a byte at least.
+-- The loop's invariant: what is left of the string at the cursor has all but `count` of its characters (Counts.antt), each of a byte at least.
 -- The measure is what is left of the line.
 use Prim.Native.Nat.{◌+◌, ◌-◌, ◌≤◌}
 use lib.ListN.{length}
 use Rattle.items.proofs.Counts.{Left}
 use Rattle.items.proofs.strings.character_count.Given as goal
 
-abbrev pub invariant-loop-i : goal.invariant-loop-i
-invariant-loop-i l = (l.initial.i + l.count ≤ l.i) × Left l.s l.initial.i l.i l.count
+abbrev pub invariant-loop-next : goal.invariant-loop-next
+invariant-loop-next l = (l.from + l.count ≤ l.at.at) × Left l.s l.from l.at.at l.count
 
-abbrev pub decreases-loop-i : goal.decreases-loop-i
-decreases-loop-i l = length l.s - l.i
+abbrev pub decreases-loop-next : goal.decreases-loop-next
+decreases-loop-next l = length l.s - l.at.at

@@ -1,23 +1,10 @@
 -- By the reply of `items`: accepted items are written, and refused ones have no cells (Writes.antt).
-use mathlib.Core.Path.{sym, ◌∙◌}
-use Rattle.tokens.specs.Reading.{tokens_from}
-use Rattle.items.specs.Writing.{cells_from}
-use Rattle.items.proofs.Writes.{given, cells-accepted}
+use Rattle.std.proofs.Common.{is_ok, ap, sym, ◌∙◌}
+use Rattle.items.proofs.Writes.{accepted_ok, none_refused}
 use Rattle.items.proofs.writing.write_cells.Goals as goal
 
 pub write_items-requires : goal.write_items-requires
-write_items-requires c =
-    let a = c.args in
-    cells-accepted a.s.now (tokens_from a.s.now a.from.at) (sym c.items.ensures ∙ c.in-Cells.is)
+write_items-requires c = accepted_ok _ _ (ap is_ok (sym c.items.ensures) ∙ sym c.is_ok.ensures.value ∙ c.if-is_ok.true)
 
-pub returns-in-WrongForm : goal.returns-in-WrongForm
-unfolding cells_from
-returns-in-WrongForm c =
-    let a = c.args in
-    rw (given a.s.now (tokens_from a.s.now a.from.at) (sym c.items.ensures ∙ c.in-WrongForm.is))
-
-pub returns-in-OutOfRange : goal.returns-in-OutOfRange
-unfolding cells_from
-returns-in-OutOfRange c =
-    let a = c.args in
-    rw (given a.s.now (tokens_from a.s.now a.from.at) (sym c.items.ensures ∙ c.in-OutOfRange.is))
+pub returns-else-is_ok : goal.returns-else-is_ok
+returns-else-is_ok c = rw (none_refused _ _ (ap is_ok (sym c.items.ensures) ∙ sym c.is_ok.ensures.value ∙ c.if-is_ok.false))

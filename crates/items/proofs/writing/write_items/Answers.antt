@@ -4,61 +4,48 @@ use Prim.Native.Nat.{◌+◌}
 use mathlib.Core.Path.{refl, sym, ◌∙◌}
 use native.Mathlib.Nat.{add-zero}
 use native.Mathlib.Omega.{arith}
-use Rattle.items.proofs.Measures.{found-item}
+use Rattle.items.proofs.Measures.{FoundItem, found-item}
 use Rattle.tokens.proofs.Parted.{comma-moves}
-use Rattle.items.proofs.Writes.{some_item, some_end, last_written, next-accepted, next-written}
+use Rattle.items.proofs.Writes.{some_item, last_written, next-accepted, next-written}
 use Rattle.items.proofs.writing.write_items.Goals as goal
+use Rattle.items.proofs.writing.write_items.Goals.{In-Some}
 
-pub loop-n-init : goal.loop-n-init
-loop-n-init c = (omega arith, refl, c.requires, rw add-zero)
+pub loop-value-init : goal.loop-value-init
+loop-value-init c = (omega arith, refl, c.requires, rw add-zero)
 
-pub returns-in-Absent : goal.returns-in-Absent
-returns-in-Absent c =
-    let l = c.loop-n in
-    absurd (some_item c.args.s.now l.i l.invariant.2 (sym c.item.ensures ∙ c.in-Absent.is))
-
-pub write_item-requires : goal.write_item-requires
-write_item-requires c = omega arith
+found : (c : In-Some) → FoundItem c.args.s.now c.loop-value.item_at.at c.in-Some.field-0
+found c = found-item c.args.s.now c.loop-value.item_at.at (sym c.item.ensures ∙ c.in-Some.is)
 
 pub overflow_add-k : goal.overflow_add-k
 overflow_add-k c =
-    let a = c.args in
-    let l = c.loop-n in
-    let h = found-item a.s.now l.i (sym c.item.ensures ∙ c.in-Found.is) in
+    let h = found (goal.at.overflow_add-k c).In-Some in
     omega (arith, h.few, h.within)
 
-pub returns-in-Over : goal.returns-in-Over
-returns-in-Over c =
+pub returns-in_default-follows : goal.returns-in_default-follows
+returns-in_default-follows c =
     let a = c.args in
-    let l = c.loop-n in
-    let h = found-item a.s.now l.i (sym c.item.ensures ∙ c.in-Found.is) in
-    let e = sym c.follows.ensures ∙ c.in-Over.is in
-    last_written a.s.now l.i l.invariant.2 h l.row (a.at + l.k) e c.write_item.ensures ∙ sym l.invariant.3
+    let l = c.loop-value in
+    let h = found (goal.at.returns-in_default-follows c).In-Some in
+    last_written a.s.now l.item_at.at l.invariant.2 h l.row (a.at + l.k) (λ d e. c.in_default-follows.not-Comma d (c.follows.ensures ∙ e)) c.write_item.ensures
+    ∙ sym l.invariant.3
 
-pub returns-in-Neither : goal.returns-in-Neither
-returns-in-Neither c =
-    let a = c.args in
-    let l = c.loop-n in
-    let h = found-item a.s.now l.i (sym c.item.ensures ∙ c.in-Found.is) in
-    absurd (some_end a.s.now l.i l.invariant.2 h (sym c.follows.ensures ∙ c.in-Neither.is))
+pub loop-value-smaller : goal.loop-value-smaller
+loop-value-smaller c =
+    let h = found (goal.at.loop-value-smaller c).In-Some in
+    omega (arith, h.moved, comma-moves c.args.s.now c.in-Some.field-0.next.at (sym c.follows.ensures ∙ c.in-Comma.is))
 
-pub loop-n-smaller : goal.loop-n-smaller
-loop-n-smaller c =
+pub loop-value-preserved : goal.loop-value-preserved
+loop-value-preserved c =
     let a = c.args in
-    let l = c.loop-n in
-    let h = found-item a.s.now l.i (sym c.item.ensures ∙ c.in-Found.is) in
-    let e = sym c.follows.ensures ∙ c.in-Comma.is in
-    omega (arith, h.moved, comma-moves a.s.now c.in-Found.next.at e)
-
-pub loop-n-preserved : goal.loop-n-preserved
-loop-n-preserved c =
-    let a = c.args in
-    let l = c.loop-n in
-    let h = found-item a.s.now l.i (sym c.item.ensures ∙ c.in-Found.is) in
+    let l = c.loop-value in
+    let h = found (goal.at.loop-value-preserved c).In-Some in
     let w = c.write_item in
     let e = sym c.follows.ensures ∙ c.in-Comma.is in (
-      omega (arith, h.few, comma-moves a.s.now c.in-Found.next.at e),
+      omega (arith, h.few, comma-moves a.s.now c.in-Some.field-0.next.at e),
       omega (arith, w.auto),
-      next-accepted a.s.now l.i l.invariant.2 h e,
-      l.invariant.3 ∙ next-written a.s.now l.i l.invariant.2 h l.row (a.at + l.k) e w.ensures (omega arith),
+      next-accepted a.s.now l.item_at.at l.invariant.2 h e,
+      l.invariant.3 ∙ next-written a.s.now l.item_at.at l.invariant.2 h l.row (a.at + l.k) e w.ensures (omega arith),
     )
+
+pub returns : goal.returns
+returns c = absurd (some_item c.args.s.now c.loop-value.item_at.at c.loop-value.invariant.2 (sym c.item.ensures ∙ c.in_default.is))

@@ -11,9 +11,9 @@ use Rattle.items.specs.Inner.Turns.{accepted}
 use Rattle.items.specs.Writing.{cells_from}
 use Rattle.items.proofs.writing.write_items.Given as goal
 
-abbrev pub invariant-loop-n : goal.invariant-loop-n
-invariant-loop-n l = (l.k ≤ l.i) × (length l.row ≡ length l.initial.row) × (accepted (walk l.s item (tokens_from l.s l.i)) ≡ true)
-    × (sets l.initial.row l.at (cells_from l.s (tokens_from l.s l.initial.i)) ≡ sets l.row (l.at + l.k) (cells_from l.s (tokens_from l.s l.i)))
+abbrev pub invariant-loop-value : goal.invariant-loop-value
+invariant-loop-value l = (l.k ≤ l.item_at.at) × (length l.row ≡ length l.initial.row) × (accepted (walk l.s item (tokens_from l.s l.item_at.at)) ≡ true)
+    × (sets l.initial.row l.at (cells_from l.s (tokens_from l.s l.initial.item_at.at)) ≡ sets l.row (l.at + l.k) (cells_from l.s (tokens_from l.s l.item_at.at)))
 
-abbrev pub decreases-loop-n : goal.decreases-loop-n
-decreases-loop-n l = length l.s - l.i
+abbrev pub decreases-loop-value : goal.decreases-loop-value
+decreases-loop-value l = length l.s - l.item_at.at

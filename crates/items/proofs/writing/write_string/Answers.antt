@@ -1,55 +1,37 @@
--- The loop's invariant: what is left of the string at `i`, written from `at + n` on, gives what the whole string gives (Writes.antt); and
--- no more cells are written than bytes passed. The measure is what is left of the line.
+-- The loop's invariant: what is left of the string at the cursor, written from `at + n` on, gives what the whole string gives
+-- (Writes.antt); and no more cells are written than bytes passed. The measure is what is left of the line.
 use Prim.Native.Nat.{◌+◌}
 use mathlib.Core.Path.{refl, sym, ◌∙◌}
 use native.Mathlib.Omega.{arith}
 use Rattle.items.proofs.Counts.{character_moves}
-use Rattle.items.proofs.Writes.{string-start, string_on, string-closed, string-broken, string-over}
+use Rattle.items.proofs.Writes.{string-start, string_on, string-end}
 use Rattle.items.proofs.writing.write_string.Goals as goal
 
-pub loop-i-init : goal.loop-i-init
-loop-i-init c =
+pub loop-b-init : goal.loop-b-init
+loop-b-init c =
     let a = c.args in
     (omega arith, refl, string-start a.s.now a.from a.row.now (a.at + a.k))
 
 pub overflow_add-n : goal.overflow_add-n
-overflow_add-n c =
-    let h = character_moves c.args.s.now c.loop-i.i (sym c.character.ensures ∙ c.in-Stands.is) in
-    omega (arith, h)
+overflow_add-n c = omega (arith, character_moves c.args.s.now c.loop-b.inside.at (sym c.character.ensures ∙ c.in-Stands.is))
 
-pub loop-i-smaller : goal.loop-i-smaller
-loop-i-smaller c =
-    let h = character_moves c.args.s.now c.loop-i.i (sym c.character.ensures ∙ c.in-Stands.is) in
-    omega (arith, h)
+pub loop-b-smaller : goal.loop-b-smaller
+loop-b-smaller c = omega (arith, character_moves c.args.s.now c.loop-b.inside.at (sym c.character.ensures ∙ c.in-Stands.is))
 
-pub loop-i-preserved : goal.loop-i-preserved
-loop-i-preserved c =
+pub loop-b-preserved : goal.loop-b-preserved
+loop-b-preserved c =
     let a = c.args in
-    let l = c.loop-i in
+    let l = c.loop-b in
     let e = sym c.character.ensures ∙ c.in-Stands.is in (
-      omega (arith, character_moves a.s.now l.i e),
+      omega (arith, character_moves a.s.now l.inside.at e),
       omega (arith, c.put.auto),
-      string_on a.s.now a.from a.row.now (a.at + a.k) l.i l.row (a.at + l.n) l.invariant.2 e
-          c.put.ensures (omega arith),
+      string_on a.s.now a.from a.row.now (a.at + a.k) l.inside.at l.row (a.at + l.n) l.invariant.2 e
+          (cc) (omega arith),
     )
-
-pub returns-in-Closed : goal.returns-in-Closed
-returns-in-Closed c =
-    let a = c.args in
-    let l = c.loop-i in
-    let e = sym c.character.ensures ∙ c.in-Closed.is in
-    string-closed a.s.now a.from a.row.now (a.at + a.k) l.i l.row (a.at + l.n) l.invariant.2 e
-    c.put-in-Closed.ensures
-
-pub returns-in-Broken : goal.returns-in-Broken
-returns-in-Broken c =
-    let a = c.args in
-    let l = c.loop-i in
-    string-broken a.s.now a.from a.row.now (a.at + a.k) l.i l.row (a.at + l.n) l.invariant.2
-    (sym c.character.ensures ∙ c.in-Broken.is)
 
 pub returns : goal.returns
 returns c =
     let a = c.args in
-    let l = c.loop-i in
-    string-over a.s.now a.from a.row.now (a.at + a.k) l.i l.row (a.at + l.n) l.invariant.2 (omega arith)
+    let l = c.loop-b in
+    string-end a.s.now a.from a.row.now (a.at + a.k) l.inside.at l.row (a.at + l.n) l.invariant.2
+    (λ b d e. c.in_default.not-Stands b d (c.character.ensures ∙ e)) c.put-2.ensures
