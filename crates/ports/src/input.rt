@@ -10,9 +10,7 @@ use codes::stops::{INPUT_END, MEMORY_END};
 fn line_length(text: &[u8]) -> usize
     ensures { result ≡ length (line_of text.now) }
 {
-    text.iter()
-        .position(|b| *b == b'\n')
-        .unwrap_or(text.len())
+    text.iter().position(|b| *b == b'\n').unwrap_or(text.len())
 }
 
 // The line at a position, its LF not kept.
@@ -38,7 +36,10 @@ pub fn take_byte(input: &[u8], at: usize) -> Result<Taken, u8>
     ensures { result ≡ byte_taken input.now at }
 {
     let byte = input.get(at).copied().ok_or(INPUT_END)?;
-    Ok(Taken { value: u16::from(byte), after: at + 1 })
+    Ok(Taken {
+        value: u16::from(byte),
+        after: at + 1,
+    })
 }
 
 // ININT: the number that the line is, or 0.
@@ -50,7 +51,10 @@ pub fn take_number(input: &[u8], at: usize) -> Result<Taken, u8>
     }
     let line = line_at(input, at);
     let value = numerals::reading::line_number(line);
-    Ok(Taken { value, after: after(input, at, at + line.len()) })
+    Ok(Taken {
+        value,
+        after: after(input, at, at + line.len()),
+    })
 }
 
 // A text's bytes from a cell on, and a 0 cell.
