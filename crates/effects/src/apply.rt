@@ -6,6 +6,7 @@ use super::{Effect, Place};
 use codes::flags::FOR_H;
 use codes::registers::{PC, SP, SR};
 
+#[tactic(auto, unfolding(crate::specs::Applied::keeping_h))]
 fn kept_h(sr: u16, v: usize) -> u16
     ensures { result ≡ keeping_h sr v }
 {
@@ -34,11 +35,8 @@ fn put_register(r: &mut [u16; 16], k: usize, v: u16)
 fn put_result(r: &mut [u16; 16], to: Place, v: u16)
     ensures { r.new ≡ register_written r.old to v }
 {
-    match to {
-        Place::InRegister(k) => put_register(r, k, v),
-        Place::Nowhere => {}
-        Place::Constant(_) => {}
-        Place::InCell(_) => {}
+    if let Place::InRegister(k) = to {
+        put_register(r, k, v);
     }
 }
 
@@ -54,24 +52,18 @@ fn put_flags(r: &mut [u16; 16], flags: Option<usize>)
 pub fn change_registers(r: &mut [u16; 16], e: Effect)
     ensures { r.new ≡ registers_after r.old e }
 {
-    let to = e.to;
-    let flags = e.flags;
     r[SP] = e.sp;
-    put_result(r, to, e.value);
-    put_flags(r, flags);
+    put_result(r, e.to, e.value);
+    put_flags(r, e.flags);
     r[PC] = (e.next % 65536) as u16;
 }
 
 // The memory after an effect.
+#[tactic(auto, unfolding(crate::specs::Applied::memory_after))]
 pub fn change_memory(m: &mut [u16], e: Effect)
     ensures { m.new ≡ memory_after m.old e }
 {
-    let to = e.to;
-    let v = e.value;
-    match to {
-        Place::InCell(a) => put(m, a as usize, v),
-        Place::Nowhere => {}
-        Place::Constant(_) => {}
-        Place::InRegister(_) => {}
+    if let Place::InCell(a) = e.to {
+        put(m, a as usize, e.value);
     }
 }

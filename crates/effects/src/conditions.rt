@@ -37,17 +37,11 @@ pub(crate) fn minus(sr: u16) -> bool
 pub(crate) fn not_positive(sr: u16) -> bool
     ensures { result ≡ taken_bnp sr }
 {
-    if minus(sr) {
-        return true;
-    }
-    zero(sr)
+    minus(sr) || zero(sr)
 }
 
 pub(crate) fn not_negative(sr: u16) -> bool
     ensures { result ≡ taken_bnn sr }
 {
-    if minus(sr) {
-        return zero(sr);
-    }
-    true
+    !minus(sr) || zero(sr)
 }

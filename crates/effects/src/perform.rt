@@ -76,9 +76,7 @@ fn by_opcode(
 pub fn has_target(op: Opcode) -> bool
     ensures { result ≡ is_target (table op).first }
 {
-    let its = isa::opcodes::row(op);
-    let k = its.first;
-    isa::operands::is_target(k)
+    isa::operands::is_target(isa::opcodes::row(op).first)
 }
 
 // The stop of an operand that is outside memory: none where it is a target, which counts only as next PC.
@@ -89,6 +87,7 @@ fn outside(op: Opcode) -> u8
 }
 
 // The stop of two operands, the first being there.
+#[tactic(auto, unfolding(crate::specs::Inner::Located::stop_of_faults))]
 fn of_second(op: Opcode, b: u8) -> u8
     ensures { result ≡ stop_of_faults op none b }
 {
@@ -102,6 +101,7 @@ fn of_second(op: Opcode, b: u8) -> u8
 }
 
 // The stop of two operands: a register that is not there before a cell that is not. The opcode is asked only where one is not there.
+#[tactic(auto, unfolding(crate::specs::Inner::Located::stop_of_faults))]
 fn judged(op: Opcode, a: u8, b: u8) -> u8
     ensures { result ≡ stop_of_faults op a b }
 {
@@ -132,7 +132,7 @@ pub fn perform(
     if stop != NONE {
         return Performed::Stops(stop);
     }
-    let p = a.place;
-    let q = b.place;
-    by_opcode(m, next, r[SP], r[SR], p, q, a.value, b.value, op)
+    by_opcode(
+        m, next, r[SP], r[SR], a.place, b.place, a.value, b.value, op,
+    )
 }

@@ -15,9 +15,10 @@ use codes::stops::{MEMORY_END, NO_REGISTER, NONE};
 pub fn cell(m: &[u16], at: usize) -> u16
     ensures { result ≡ get_or m.now at 0 }
 {
-    if at < m.len() { m[at] } else { 0 }
+    m.get(at).copied().unwrap_or(0)
 }
 
+#[tactic(auto, unfolding(crate::specs::Places::plus))]
 fn sum(a: u16, d: u16) -> u16
     ensures { result ≡ plus a d }
 {
@@ -28,8 +29,8 @@ fn found(place: Place, value: u16) -> Located
     ensures { result ≡ record { place = place; value = value; fault = none } }
 {
     Located {
-        place: place,
-        value: value,
+        place,
+        value,
         fault: NONE,
     }
 }
@@ -113,13 +114,12 @@ pub fn located(
     }
 }
 
+#[tactic(auto, unfolding(crate::specs::Places::target_of))]
 pub fn target(p: Place) -> u16
     ensures { result ≡ target_of p }
 {
     match p {
-        Place::Nowhere => 0,
-        Place::Constant(v) => v,
-        Place::InRegister(_) => 0,
-        Place::InCell(a) => a,
+        Place::Constant(x) | Place::InCell(x) => x,
+        Place::Nowhere | Place::InRegister(_) => 0,
     }
 }

@@ -10,12 +10,13 @@ use arithmetic::Outcome;
 use codes::registers::{A, PC};
 use codes::stops::{MEMORY_END, ZERO_DIVISOR};
 
+#[tactic(auto, unfolding(crate::specs::Effects::goes_to))]
 fn goes_to(next: usize, sp: u16) -> Effect
     ensures { result ≡ goes_to next sp }
 {
     Effect {
-        next: next,
-        sp: sp,
+        next,
+        sp,
         to: Place::Nowhere,
         value: 0,
         flags: None,
@@ -26,29 +27,23 @@ fn made(next: usize, sp: u16, to: Place, value: u16, flags: Option<usize>) -> Ef
     ensures { result ≡ record { next = next; sp = sp; to = to; value = value; flags = flags } }
 {
     Effect {
-        next: next,
-        sp: sp,
-        to: to,
-        value: value,
-        flags: flags,
+        next,
+        sp,
+        to,
+        value,
+        flags,
     }
 }
 
 // A value written to a place; a write to PC gives the next PC.
+#[tactic(auto, unfolding(crate::specs::Effects::writes))]
 pub fn written(next: usize, sp: u16, place: Place, value: u16, flags: Option<usize>) -> Effect
     ensures { result ≡ writes next sp place value flags }
 {
     match place {
-        Place::Nowhere => made(next, sp, Place::Nowhere, value, flags),
-        Place::Constant(_) => made(next, sp, Place::Nowhere, value, flags),
-        Place::InRegister(k) => {
-            if k == PC {
-                made(value as usize, sp, Place::Nowhere, value, flags)
-            } else {
-                made(next, sp, Place::InRegister(k), value, flags)
-            }
-        }
-        Place::InCell(a) => made(next, sp, Place::InCell(a), value, flags),
+        Place::Nowhere | Place::Constant(_) => made(next, sp, Place::Nowhere, value, flags),
+        Place::InRegister(PC) => made(value as usize, sp, Place::Nowhere, value, flags),
+        Place::InRegister(_) | Place::InCell(_) => made(next, sp, place, value, flags),
     }
 }
 
