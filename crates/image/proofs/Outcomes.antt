@@ -3,7 +3,7 @@ use mathlib.Core.Path.{◌≡◌}
 use mathlib.Core.Bool.{true, false}
 use mathlib.Core.List.{List, ◌++◌}
 use Prim.Native.Nat.{ℕ, ◌≤◌, ◌<◌}
-use borrow.Author.Tests.{leb-true, eqb-true, le-leb, lt-leb, eq-eqb, ne_eqb}
+use borrow.Author.Tests.{leb-true, eqb-true, le-leb, lt-leb, eq-eqb}
 use lib.ListN.{length, drop}
 use Rattle.image.specs.Image.{image_text}
 use Rattle.image.specs.Printing.{known_marks, good_loan, leaves, printed}
@@ -15,22 +15,9 @@ use Rattle.texts.proofs.Rooms.{overwrite-front}
 
 -- ---- loans
 
-module _ (memory marks : List ℕ) where
-  pub loan-none : length memory < 1 → false ≡ good_loan memory marks
-  unfolding good_loan
-  loan-none h = rw (lt-leb 1 (length memory) h)
-
-  pub loan_large : 1 ≤ length memory → 65536 < length memory → false ≡ good_loan memory marks
-  unfolding good_loan
-  loan_large g h = rw (le-leb 1 (length memory) g, lt-leb (length memory) 65536 h)
-
-  pub loan_uneven : 1 ≤ length memory → length memory ≤ 65536 → (length marks ≡ length memory → ⊥) → false ≡ good_loan memory marks
-  unfolding good_loan
-  loan_uneven g h n = rw (le-leb 1 (length memory) g, le-leb (length memory) 65536 h, ne_eqb (length marks) (length memory) n)
-
-  pub loan-marks : 1 ≤ length memory → length memory ≤ 65536 → length marks ≡ length memory → known_marks marks ≡ good_loan memory marks
-  unfolding good_loan
-  loan-marks g h e = rw (le-leb 1 (length memory) g, le-leb (length memory) 65536 h, eq-eqb (length marks) (length memory) e)
+pub loan-marks : (memory marks : List ℕ) → 1 ≤ length memory → length memory ≤ 65536 → length marks ≡ length memory → known_marks marks ≡ good_loan memory marks
+unfolding good_loan
+loan-marks memory marks g h e = rw (le-leb 1 (length memory) g, le-leb (length memory) 65536 h, eq-eqb (length marks) (length memory) e)
 
 -- what a good loan has
 pub loan-good : (memory marks : List ℕ) → good_loan memory marks ≡ true

@@ -1,13 +1,15 @@
 -- Laws of the text: the cells that are left from an address on, how long they are, and how many are claimed.
 use mathlib.Core.Path.{◌≡◌, refl, sym}
-use mathlib.Core.Bool.{Bool, true, false, cond, ◌&&◌}
+use mathlib.Core.Bool.{Bool, true, false, cond, not, ◌&&◌}
 use mathlib.Core.List.{List, [], ◌∷◌, ◌++◌, append_assoc}
 use Prim.Native.Nat.{ℕ, zero, suc, ◌+◌, ◌*◌, ◌≤◌, ◌<◌}
 use native.Mathlib.Numerals.{add-one}
 use native.Mathlib.Omega.{arith}
-use borrow.Author.Tests.{eq-eqb, ne_eqb, eqb-true, eqb-false, leb-true, le-leb, lt-leb}
+use borrow.Author.Tests.{eq-eqb, ne_eqb, eqb-true, eqb-false, leb-true, le-leb}
 use lib.Dec.{leb, eqb}
 use lib.ListN.{length, get_or, drop, length-append, drop_of_length-le}
+use Rattle.std.specs.List.{count_by, list_all}
+use Rattle.std.proofs.lemmas.List.Recursion.{is_count_by}
 use lib.Seq.{drop-cons}
 use Rattle.codes.specs.Marks.{reserved_mark, largest_mark}
 use Rattle.numerals.specs.Bytes.{LF, bytes}
@@ -140,18 +142,14 @@ image-length memory marks =
 
 -- ---- how many cells are claimed
 
-module _ (marks : List ℕ) (i : ℕ) where
-  pub claimed-free : i < length marks → get_or marks i 0 ≡ 0 → claimed (drop i marks) ≡ claimed (drop (i + 1) marks)
-  unfolding claimed
-  claimed-free h e = rw (add-one i, drop-cons marks i 0 h, eq-eqb _ _ e)
-
-  pub claimed-more : i < length marks → (get_or marks i 0 ≡ 0 → ⊥) → claimed (drop i marks) ≡ suc (claimed (drop (i + 1) marks))
-  unfolding claimed
-  claimed-more h n = rw (add-one i, drop-cons marks i 0 h, ne_eqb _ _ n)
-
-  pub claimed-none : length marks ≤ i → claimed (drop i marks) ≡ 0
-  unfolding claimed
-  claimed-none h = rw (drop_of_length-le marks h)
+-- std's count of the marks that are not free
+pub claimed_by_count : (marks : List ℕ) → claimed marks ≡ count_by (λ (mark : ℕ). not (eqb mark 0)) marks
+unfolding claimed
+claimed_by_count = is_count_by claimed (λ (mark : ℕ). not (eqb mark 0)) refl (λ (mark : ℕ) (marks : List ℕ). go (claimed marks) (eqb mark 0))
+  where
+    go : (n : ℕ) (b : Bool) → cond b n (suc n) ≡ cond (not b) (1 + n) n
+    go n true = refl
+    go n false = omega arith
 
 pub claimed-within : (marks : List ℕ) → claimed marks ≤ length marks
 unfolding claimed
@@ -164,18 +162,11 @@ claimed-within (mark ∷ marks) = go (eqb mark 0) (claimed-within marks)
 
 -- ---- marks
 
-module _ (marks : List ℕ) (i : ℕ) where
-  pub known_more : i < length marks → get_or marks i 0 ≤ largest_mark → known_marks (drop i marks) ≡ known_marks (drop (i + 1) marks)
-  unfolding known_marks
-  known_more h l = rw (add-one i, drop-cons marks i 0 h, le-leb _ _ l)
-
-  pub known-stop : i < length marks → largest_mark < get_or marks i 0 → known_marks (drop i marks) ≡ false
-  unfolding known_marks
-  known-stop h l = rw (drop-cons marks i 0 h, lt-leb _ _ l)
-
-  pub known-none : length marks ≤ i → known_marks (drop i marks) ≡ true
-  unfolding known_marks
-  known-none h = rw (drop_of_length-le marks h)
+-- std's test of each mark
+pub known_by_each : (marks : List ℕ) → known_marks marks ≡ list_all (λ (mark : ℕ). leb mark largest_mark) marks
+unfolding known_marks
+known_by_each [] = refl
+known_by_each (mark ∷ marks) = rw (known_by_each marks)
 
 -- no mark is above the largest, mark by mark
 pub known-all : (marks : List ℕ) → known_marks marks ≡ true → (i : ℕ) → i < length marks → get_or marks i 0 ≤ largest_mark

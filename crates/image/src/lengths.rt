@@ -30,15 +30,7 @@ fn cell_length(address: u32, mark: u8, value: u16) -> usize
 pub(crate) fn claimed_in(map: &[u8]) -> usize
     ensures { result ≡ claimed map.now }
 {
-    let mut n: usize = 0;
-    let mut i: usize = 0;
-    while i < map.len() {
-        if map[i] != FREE {
-            n += 1;
-        }
-        i += 1;
-    }
-    n
+    map.iter().filter(|mark| **mark != FREE).count()
 }
 
 // The lines of all cells.
@@ -47,10 +39,9 @@ fn cells_length(memory: &[u16], map: &[u8]) -> usize
     ensures { result ≡ length (cells_text memory.now map.now) }
 {
     let mut n: usize = 0;
-    let mut i: usize = 0;
-    while i < map.len() {
-        n += cell_length(i as u32, map[i], memory[i]);
-        i += 1;
+    // over the addresses: each is printed, and names a cell of both lists
+    for address in 0..map.len() {
+        n += cell_length(address as u32, map[address], memory[address]);
     }
     n
 }

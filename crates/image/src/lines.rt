@@ -47,10 +47,9 @@ fn cells(room: &mut [u8], from: usize, memory: &[u16], map: &[u8])
     ensures { room.new ≡ overwrite room.old from (cells_text memory.now map.now) }
 {
     let mut at = from;
-    let mut i: usize = 0;
-    while i < map.len() {
-        at = cell(room, at, i as u32, map[i], memory[i]);
-        i += 1;
+    // over the addresses: each is printed, and names a cell of both lists
+    for address in 0..map.len() {
+        at = cell(room, at, address as u32, map[address], memory[address]);
     }
 }
 

@@ -12,30 +12,15 @@ use codes::marks::LARGEST_MARK;
 fn known_marks(map: &[u8]) -> bool
     ensures { result ≡ known_marks map.now }
 {
-    let mut i: usize = 0;
-    while i < map.len() {
-        if LARGEST_MARK < map[i] {
-            return false;
-        }
-        i += 1;
-    }
-    true
+    map.iter().all(|mark| *mark <= LARGEST_MARK)
 }
 
 // From 1 to 65,536 cells, and a map of as many known marks.
+#[tactic(auto, unfolding(crate::specs::Printing::good_loan))]
 pub fn good_loan(memory: &[u16], map: &[u8]) -> bool
     ensures { result ≡ good_loan memory.now map.now }
 {
-    if memory.len() < 1 {
-        return false;
-    }
-    if MOST_CELLS < memory.len() {
-        return false;
-    }
-    if map.len() != memory.len() {
-        return false;
-    }
-    known_marks(map)
+    1 <= memory.len() && memory.len() <= MOST_CELLS && map.len() == memory.len() && known_marks(map)
 }
 
 // Prints memory and map at the head of a room. Nothing is written before it is certain that all of the text fits.

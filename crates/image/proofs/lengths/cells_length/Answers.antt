@@ -11,15 +11,15 @@ overflow_add-n c =
     omega (
       arith,
       cells-bound a.memory.now a.map.now,
-      left-length a.memory.now a.map.now c.loop-i.i (omega arith),
+      left-length a.memory.now a.map.now c.loop-address.address (omega arith),
     )
 
-pub loop-i-preserved : goal.loop-i-preserved
-loop-i-preserved c =
+pub loop-address-preserved : goal.loop-address-preserved
+loop-address-preserved c =
     let a = c.args in
-    omega (arith, left-length a.memory.now a.map.now c.loop-i.i (omega arith))
+    omega (arith, left-length a.memory.now a.map.now c.loop-address.address (omega arith))
 
 pub returns : goal.returns
 returns c =
     let a = c.args in
-    omega (arith, ap length (left-none a.memory.now a.map.now c.loop-i.i c.loop-i-test.false))
+    omega (arith, ap length (left-none a.memory.now a.map.now c.loop-address.address c.loop-address-test.false))

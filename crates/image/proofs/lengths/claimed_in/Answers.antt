@@ -1,21 +1,14 @@
--- What is counted and what is left to count are the whole count.
-use native.Mathlib.Omega.{arith}
-use Rattle.image.proofs.Texts.{claimed-free, claimed-more, claimed-none, claimed-within}
+-- A claimed cell is one whose mark is not free, so std's count is the definition's (`claimed_by_count`). Assumes nothing.
+use mathlib.Core.Path.{◌≡◌, sym, ◌∙◌}
+use mathlib.Core.Bool.{not}
+use Prim.Native.Nat.{ℕ}
+use lib.Dec.{eqb}
+use Rattle.std.proofs.Common.{rules}
+use Rattle.std.specs.List.{count_by}
+use Rattle.image.proofs.Texts.{claimed_by_count}
 use Rattle.image.proofs.lengths.claimed_in.Goals as goal
-use Rattle.image.proofs.lengths.claimed_in.Goals.{then-map-i-ne-FREE, else-map-i-ne-FREE}
-
-pub overflow_add-n : goal.overflow_add-n
-overflow_add-n c =
-    let a = c.args in
-    omega (arith, claimed-within a.map.now, claimed-more a.map.now c.loop-i.i (omega arith) c.if-map-i-ne-FREE.true)
-
-pub loop-i-preserved : goal.loop-i-preserved
-loop-i-preserved c =
-    let marks = c.args.map.now in
-    elim c.if-map-i-ne-FREE.branch [
-      | then-map-i-ne-FREE w ↦ omega (arith, claimed-more marks c.loop-i.i (omega arith) w.if-map-i-ne-FREE.true)
-      | else-map-i-ne-FREE w ↦ omega (arith, claimed-free marks c.loop-i.i (omega arith) w.if-map-i-ne-FREE.false)
-    ]
 
 pub returns : goal.returns
-returns c = omega (arith, claimed-none c.args.map.now c.loop-i.i c.loop-i-test.false)
+returns c =
+    let n : c.count.result ≡ count_by (λ (mark : ℕ). not (eqb mark 0)) c.args.map.now = search rules in
+    n ∙ sym (claimed_by_count c.args.map.now)

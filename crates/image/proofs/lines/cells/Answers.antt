@@ -5,23 +5,23 @@ use Rattle.image.proofs.Texts.{left-length}
 use Rattle.image.proofs.Rooms.{writing_more, writing-end}
 use Rattle.image.proofs.lines.cells.Goals as goal
 
-pub loop-i-init : goal.loop-i-init
-loop-i-init c = (refl, refl, refl)
+pub loop-address-init : goal.loop-address-init
+loop-address-init c = (refl, refl, refl)
 
 pub cell-at-requires : goal.cell-at-requires
 cell-at-requires c =
     let a = c.args in
-    omega (arith, left-length a.memory.now a.map.now c.loop-i.i (omega arith))
+    omega (arith, left-length a.memory.now a.map.now c.loop-address.address (omega arith))
 
-pub loop-i-preserved : goal.loop-i-preserved
-loop-i-preserved c =
+pub loop-address-preserved : goal.loop-address-preserved
+loop-address-preserved c =
     let a = c.args in
-    writing_more a.room.now a.from a.memory.now a.map.now _ c.loop-i.at
-    c.loop-i.i c.loop-i.invariant
+    writing_more a.room.now a.from a.memory.now a.map.now _ c.loop-address.at
+    c.loop-address.address c.loop-address.invariant
     (omega arith) (omega arith) c.cell-at.ensures (omega arith)
 
 pub returns : goal.returns
 returns c =
     let a = c.args in
-    writing-end a.room.now a.from a.memory.now a.map.now _ c.loop-i.at c.loop-i.i c.loop-i.invariant
-    c.loop-i-test.false
+    writing-end a.room.now a.from a.memory.now a.map.now _ c.loop-address.at c.loop-address.address c.loop-address.invariant
+    c.loop-address-test.false

@@ -1,16 +1,14 @@
--- What is left is known exactly when all is, as long as no mark above the largest was met.
-use native.Mathlib.Omega.{arith}
+-- Each mark is tested as the definition tests it (`known_by_each`). Assumes nothing.
 use mathlib.Core.Path.{sym, ◌∙◌}
-use Rattle.image.proofs.Texts.{known_more, known-stop, known-none}
+use Prim.Native.Nat.{ℕ}
+use lib.Dec.{leb}
+use Rattle.std.proofs.Common.{rules, tests}
+use Rattle.std.proofs.lemmas.Iterator.{YieldsList-from_slice}
+use Rattle.std.proofs.lemmas.Iterator.Search.{all_from_yields_List}
+use Rattle.image.proofs.Texts.{known_by_each}
 use Rattle.image.proofs.printing.known_marks.Goals as goal
 
-pub returns-then-map-i-gt-LARGEST_MARK : goal.returns-then-map-i-gt-LARGEST_MARK
-returns-then-map-i-gt-LARGEST_MARK c =
-    sym (sym c.loop-i.invariant ∙ known-stop c.args.map.now c.loop-i.i (omega arith) c.if-map-i-gt-LARGEST_MARK.true)
-
-pub loop-i-preserved : goal.loop-i-preserved
-loop-i-preserved c =
-    sym (known_more c.args.map.now c.loop-i.i (omega arith) c.if-map-i-gt-LARGEST_MARK.false) ∙ c.loop-i.invariant
-
 pub returns : goal.returns
-returns c = sym (sym c.loop-i.invariant ∙ known-none c.args.map.now c.loop-i.i c.loop-i-test.false)
+returns c =
+    all_from_yields_List (λ (mark : ℕ). leb mark 3) _ _ _ c.all.ensures.ran (YieldsList-from_slice c.args.map.now cc) (λ x b q k. search (rules, tests))
+    ∙ sym (known_by_each c.args.map.now)
