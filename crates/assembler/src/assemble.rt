@@ -31,9 +31,9 @@ fn refused(number: u8, line: Line, column: Column, place: u8) -> Reply
 {
     Reply {
         refusal: number,
-        line: line,
-        column: column,
-        place: place,
+        line,
+        column,
+        place,
         code: 0,
         data: 0,
         reserved: 0,
@@ -44,9 +44,8 @@ fn refused(number: u8, line: Line, column: Column, place: u8) -> Reply
 fn refused_line(s: &[u8], number: u8, line: Line) -> Reply
     ensures { told result ≡ refusal_at (number on line.0) (pointed (line_numbered s.now line.0) number) }
 {
-    let l = line.0;
-    let p = pointed_in(s, l, number);
-    refused(number, Line(l), p.column, p.place)
+    let p = pointed_in(s, line.0, number);
+    refused(number, line, p.column, p.place)
 }
 
 // Acceptance: the whole memory and the whole map are rewritten.
@@ -65,9 +64,9 @@ fn accept(cells: &[u16], marks: &[u8], memory: &mut [u16], map: &mut [u8]) -> Re
         line: Line(0),
         column: Column(0),
         place: 0,
-        code: code,
-        data: data,
-        reserved: reserved,
+        code,
+        data,
+        reserved,
     }
 }
 
@@ -97,14 +96,11 @@ fn settle_and_accept(
         cells.old marks.now memory.old map.old }
 {
     match settle(s, starts, keys, values, labels, row, aways, uses, cells) {
-        Err(Unsettled { number: f, line: l, second }) => {
-            let number = l.0;
-            let column = name_in(s, number, f, second);
-            return refused(f, Line(number), column, 0);
+        Err(Unsettled { number, line, second }) => {
+            let column = name_in(s, line.0, number, second);
+            refused(number, line, column, 0)
         }
-        Ok(()) => {
-            return accept(cells, marks, memory, map);
-        }
+        Ok(()) => accept(cells, marks, memory, map),
     }
 }
 
@@ -128,17 +124,11 @@ fn assemble_over(
         ≡ outcome_of (length marks.old) s.now memory.old map.old }
 {
     match walk(s, starts, keys, values, marks, cells, row, aways) {
-        Err(Stopped::InLine(f, l)) => {
-            return refused_line(s, f, l);
-        }
-        Err(Stopped::Late(l)) => {
-            return refused(6, l, Column(0), 0);
-        }
-        Ok(Walked { labels, uses }) => {
-            return settle_and_accept(
-                s, starts, keys, values, labels, row, aways, uses, cells, marks, memory, map,
-            );
-        }
+        Err(Stopped::InLine(number, line)) => refused_line(s, number, line),
+        Err(Stopped::Late(line)) => refused(6, line, Column(0), 0),
+        Ok(Walked { labels, uses }) => settle_and_accept(
+            s, starts, keys, values, labels, row, aways, uses, cells, marks, memory, map,
+        ),
     }
 }
 
@@ -175,13 +165,7 @@ pub fn assemble(source: &[u8], memory: &mut [u16], map: &mut [u8]) -> Reply
     ensures { Replies source.now memory.old map.old result memory.new map.new }
 {
     let m = memory.len();
-    if m == 0 {
-        return refused(1, Line(0), Column(0), 0);
-    }
-    if MOST_CELLS < m {
-        return refused(1, Line(0), Column(0), 0);
-    }
-    if map.len() != m {
+    if m == 0 || MOST_CELLS < m || map.len() != m {
         return refused(1, Line(0), Column(0), 0);
     }
     if LONGEST_SOURCE < source.len() {

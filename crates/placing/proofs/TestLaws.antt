@@ -1,6 +1,7 @@
 -- The code's tests of a statement at a place, by numbers.
 use Prim.Native.Nat.{ℕ, ◌+◌, ◌-◌, ◌≤◌, ◌<◌}
 use mathlib.Core.Bool.{Bool, true, false, ◌&&◌}
+use mathlib.Core.Logic.{◌⊎◌, inl, inr}
 use mathlib.Core.Path.{◌≡◌, refl, sym, ap, ◌∙◌}
 use native.Mathlib.Omega.{arith}
 use lib.Dec.{ltb, leb}
@@ -58,8 +59,9 @@ reserves_test m at n e h = go (ltb (most_cells - at) n) refl ∙ sym (ap (λ (x 
 
 -- ---- where an act leads
 
-pub moved_as : {m m' : Moves} (at : ℕ) → m ≡ m' → moved_by m' at ≡ moved_by m at
-moved_as at e = sym (ap (λ (x : Moves). moved_by x at) e)
+pub moved-on : {m : Moves} {n : ℕ} (at : ℕ) → (m ≡ On n) ⊎ (m ≡ Reserving n) → at + n ≡ moved_by m at
+moved-on at (inl e) = sym (ap (λ (x : Moves). moved_by x at) e)
+moved-on at (inr e) = sym (ap (λ (x : Moves). moved_by x at) e)
 
 -- once the tests of 6 and 11 have passed it is an address
 pub moved-low : (M : ℕ) (m : Moves) (at claims : ℕ) → Sound m claims → at ≤ most_cells → M ≤ most_cells → reserves_too_far m at ≡ false

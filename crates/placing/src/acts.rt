@@ -15,9 +15,9 @@ fn claiming(moves: Moves, n: usize, mark: u8) -> Act
 {
     Act {
         gives: Gives::Start,
-        moves: moves,
+        moves,
         claims: n,
-        mark: mark,
+        mark,
     }
 }
 
@@ -25,8 +25,8 @@ fn moving(gives: Gives, moves: Moves) -> Act
     ensures { result ≡ record { gives = gives; moves = moves; claims = 0; mark = free } }
 {
     Act {
-        gives: gives,
-        moves: moves,
+        gives,
+        moves,
         claims: 0,
         mark: FREE,
     }

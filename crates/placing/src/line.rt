@@ -36,10 +36,8 @@ fn place_named(
         (place_in s.now starts.new keys.new values.new marks.new) k result) }
 {
     let st = read.statement;
-    match declare(s, from, line, starts, keys, c, n) {
-        Err(f) => Err(f),
-        Ok(d) => place_statement(values, marks, d, st),
-    }
+    let d = declare(s, from, line, starts, keys, c, n)?;
+    place_statement(values, marks, d, st)
 }
 
 pub fn place_line(
@@ -64,9 +62,8 @@ pub fn place_line(
         (place_in s.now starts.old keys.old values.old marks.old c)
         (place_in s.now starts.new keys.new values.new marks.new) k result) }
 {
-    let label = read.label;
     let st = read.statement;
-    match label {
+    match read.label {
         None => place_statement(values, marks, c, st),
         Some(n) => place_named(s, from, line, read, n, starts, keys, values, marks, c),
     }

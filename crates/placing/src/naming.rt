@@ -14,11 +14,10 @@ fn bind(values: &mut [u16], c: Counters, v: u16) -> Counters
     ensures { Binds (bound_all v) c values.old result values.new }
 {
     let at = c.at;
-    let bound = c.bound;
-    let labels = bound + c.waiting;
-    fill(values, bound, labels, v);
+    let labels = c.bound + c.waiting;
+    fill(values, c.bound, labels, v);
     Counters {
-        at: at,
+        at,
         bound: labels,
         waiting: 0,
     }

@@ -19,16 +19,7 @@ use statements::refusals::number_of;
 fn label_out(g: Gives, waiting: usize, at: usize) -> bool
     ensures { result ≡ (gives_start g && (ltb 0 waiting && leb most_cells at)) }
 {
-    match g {
-        Gives::Waits => false,
-        Gives::Number(_) => false,
-        Gives::Start => {
-            if waiting == 0 {
-                return false;
-            }
-            at >= MOST_CELLS
-        }
-    }
+    matches!(g, Gives::Start) && 0 < waiting && MOST_CELLS <= at
 }
 
 // RES moves the address above 65,536.
@@ -37,9 +28,8 @@ fn reserves_out(m: Moves, at: usize) -> bool
     ensures { result ≡ reserves_too_far m at }
 {
     match m {
-        Moves::On(_) => false,
         Moves::Reserving(n) => MOST_CELLS - at < n,
-        Moves::To(_) => false,
+        _ => false,
     }
 }
 
@@ -47,13 +37,7 @@ fn reserves_out(m: Moves, at: usize) -> bool
 fn is_past(size: usize, at: usize, n: usize) -> bool
     ensures { result ≡ past_at size at n }
 {
-    if n == 0 {
-        return false;
-    }
-    if size < n {
-        return true;
-    }
-    size - n < at
+    0 < n && (size < n || size - n < at)
 }
 
 fn moved(m: Moves, at: usize) -> usize
@@ -61,8 +45,7 @@ fn moved(m: Moves, at: usize) -> usize
     ensures { result ≡ moved_by m at }
 {
     match m {
-        Moves::On(n) => at + n,
-        Moves::Reserving(n) => at + n,
+        Moves::On(n) | Moves::Reserving(n) => at + n,
         Moves::To(v) => v,
     }
 }
@@ -117,9 +100,6 @@ pub(crate) fn place_statement(
 {
     match s {
         Err(why) => Err(number_of(why)),
-        Ok(says) => {
-            let a = act(says);
-            place(values, marks, c, a)
-        }
+        Ok(says) => place(values, marks, c, act(says)),
     }
 }

@@ -24,25 +24,22 @@ pub fn settle(
     ensures { SettlesUses (labels_in s.now starts.now keys.now values.now count)
         (uses_held s.now row.now aways.now uses) cells.old cells.new result }
 {
-    let mut i: usize = 0;
     let mut before: usize = 0; // the line of the label before
-    while i < uses {
+    for i in 0..uses {
         let base = 4 * i;
         let start = row[base] as usize;
         let size = row[base + 1] as usize;
         let cell = row[base + 2] as usize;
         let line = row[base + 3] as usize;
         let away = aways[i] as usize;
-        match word(s, starts, keys, values, count, start, size, cell, away) {
-            Err(f) => {
-                return Err(Unsettled { number: f, line: Line(line), second: line == before });
+        let w = match word(s, starts, keys, values, count, start, size, cell, away) {
+            Ok(w) => w,
+            Err(number) => {
+                return Err(Unsettled { number, line: Line(line), second: line == before });
             }
-            Ok(w) => {
-                put(cells, cell, w);
-            }
-        }
+        };
+        put(cells, cell, w);
         before = line;
-        i += 1;
     }
     Ok(())
 }

@@ -33,10 +33,7 @@ fn distance(value: u16, next: usize) -> Result<u16, u8>
     ensures { Reaches value next result }
 {
     let v = value as usize;
-    if v + 32768 < next {
-        return Err(14);
-    }
-    if next + 32767 < v {
+    if v + 32768 < next || next + 32767 < v {
         return Err(14);
     }
     Ok(((v + 65536 - next) % 65536) as u16)
@@ -57,13 +54,9 @@ pub(crate) fn word(
     requires { (start < farthest) × InCell size × Reach count starts.now keys.now values.now × InCell cell × (away < 256) }
     ensures { TellsUse (labels_in s.now starts.now keys.now values.now count) s.now start size cell away result }
 {
-    match look_up(s, starts, keys, values, count, start, size) {
-        Err(f) => Err(f),
-        Ok(v) => {
-            if away == 0 {
-                return Ok(v);
-            }
-            distance(v, cell + away)
-        }
+    let v = look_up(s, starts, keys, values, count, start, size)?;
+    if away == 0 {
+        return Ok(v);
     }
+    distance(v, cell + away)
 }

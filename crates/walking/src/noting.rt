@@ -20,15 +20,8 @@ fn away(o: Operand, behind: u8) -> u8
     ensures { result ≡ away_for o behind }
 {
     match o {
-        Operand::Absent => 0,
-        Operand::Immediate(_) => 0,
-        Operand::Register(_) => 0,
-        Operand::Memory(_) => 0,
-        Operand::Indirect(_) => 0,
-        Operand::IndexedX(_) => 0,
-        Operand::IndexedY(_) => 0,
-        Operand::IndexedSp(_) => 0,
         Operand::Relative(_) => behind,
+        _ => 0,
     }
 }
 
@@ -38,14 +31,7 @@ fn width(o: Operand) -> usize
 {
     match o {
         Operand::Absent => 0,
-        Operand::Immediate(_) => 1,
-        Operand::Register(_) => 1,
-        Operand::Memory(_) => 1,
-        Operand::Indirect(_) => 1,
-        Operand::IndexedX(_) => 1,
-        Operand::IndexedY(_) => 1,
-        Operand::IndexedSp(_) => 1,
-        Operand::Relative(_) => 1,
+        _ => 1,
     }
 }
 
@@ -66,32 +52,26 @@ fn note(
         × (count ≤ result)
         × (result ≤ count + 1) }
 {
-    let o = g.operand;
-    let label = g.label;
-    match label {
-        None => {
-            return count;
-        }
-        Some(n) => {
-            let start = n.start;
-            let size = n.end - start;
-            let behind = (next - cell) as u8;
-            let far = away(o, behind);
-            let place = (from + start) as u16;
-            let long = size as u16;
-            keep(
-                row,
-                aways,
-                count,
-                place,
-                long,
-                cell as u16,
-                number as u16,
-                far,
-            );
-            return count + 1;
-        }
-    }
+    let Some(n) = g.label else {
+        return count;
+    };
+    let start = n.start;
+    let size = n.end - start;
+    let behind = (next - cell) as u8;
+    let far = away(g.operand, behind);
+    let place = (from + start) as u16;
+    let long = size as u16;
+    keep(
+        row,
+        aways,
+        count,
+        place,
+        long,
+        cell as u16,
+        number as u16,
+        far,
+    );
+    count + 1
 }
 
 // The operands of an instruction, in order.
@@ -147,25 +127,8 @@ pub(crate) fn note_statement(
     match says {
         Statement::Instruction(op, a, b) => {
             let next = at + operand_count(op) + 1;
-            return note_operands(row, aways, count, from, number, at, next, a, b);
+            note_operands(row, aways, count, from, number, at, next, a, b)
         }
-        Statement::Nothing => {
-            return count;
-        }
-        Statement::Org(_) => {
-            return count;
-        }
-        Statement::Equ(_) => {
-            return count;
-        }
-        Statement::Res(_) => {
-            return count;
-        }
-        Statement::Data(_) => {
-            return count;
-        }
-        Statement::End => {
-            return count;
-        }
+        _ => count,
     }
 }

@@ -29,16 +29,8 @@ fn next_line(read: Result<Statement, Failure>, next: usize, total: usize) -> usi
     ensures { result ≡ cond (ends_it read) total next }
 {
     match read {
-        Err(_) => next,
-        Ok(says) => match says {
-            Statement::Nothing => next,
-            Statement::Instruction(_, _, _) => next,
-            Statement::Org(_) => next,
-            Statement::Equ(_) => next,
-            Statement::Res(_) => next,
-            Statement::Data(_) => next,
-            Statement::End => total,
-        },
+        Ok(Statement::End) => total,
+        _ => next,
     }
 }
 
@@ -66,15 +58,11 @@ fn keep_line(
         × (count ≤ result)
         × (result ≤ count + length line.now + 1) }
 {
-    match read {
-        Err(_) => {
-            return count;
-        }
-        Ok(says) => {
-            write_statement(line, says, cells, at);
-            return note_statement(line, from, number, says, at, row, aways, count);
-        }
-    }
+    let Ok(says) = read else {
+        return count;
+    };
+    write_statement(line, says, cells, at);
+    note_statement(line, from, number, says, at, row, aways, count)
 }
 
 fn walk_lines(
@@ -106,14 +94,8 @@ fn walk_lines(
         let read = read_line(line);
         let at = c.at.0;
         number += 1;
-        match place_line(s, from, line, read, starts, keys, values, marks, c) {
-            Err(f) => {
-                return Err(Stopped::InLine(f, Line(number)));
-            }
-            Ok(d) => {
-                c = d;
-            }
-        }
+        c = place_line(s, from, line, read, starts, keys, values, marks, c)
+            .map_err(|f| Stopped::InLine(f, Line(number)))?;
         let st = read.statement;
         uses = keep_line(line, from, number, st, at, cells, row, aways, uses);
         from = next_line(st, end + 1, s.len());
@@ -125,10 +107,7 @@ fn walk_lines(
 fn is_late(waiting: usize, at: usize) -> bool
     ensures { result ≡ (ltb 0 waiting && leb most_cells at) }
 {
-    if waiting == 0 {
-        return false;
-    }
-    at >= MOST_CELLS
+    0 < waiting && MOST_CELLS <= at
 }
 
 // All lines pass and every label is bound, or the first refusal: "65,536 is 6 .., or the last line for labels bound at the source's end".

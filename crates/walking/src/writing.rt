@@ -17,23 +17,16 @@ fn write_words(i: Instruction, cells: &mut [u16], at: usize)
     ensures { cells.new ≡ sets cells.old at (words_of i) }
 {
     match encode(i) {
-        None => {
-            return;
-        }
-        Some(Encoded::One(x)) => {
-            put(cells, at, x);
-            return;
-        }
+        None => {}
+        Some(Encoded::One(x)) => put(cells, at, x),
         Some(Encoded::Two(x, y)) => {
             put(cells, at, x);
             put(cells, at + 1, y);
-            return;
         }
         Some(Encoded::Three(x, y, z)) => {
             put(cells, at, x);
             put(cells, at + 1, y);
             put(cells, at + 2, z);
-            return;
         }
     }
 }
@@ -48,33 +41,15 @@ pub(crate) fn write_statement(line: &[u8], says: Statement, cells: &mut [u16], a
             let y = b.operand;
             write_words(
                 Instruction {
-                    op: op,
+                    op,
                     first: x,
                     second: y,
                 },
                 cells,
                 at,
             );
-            return;
         }
-        Statement::Data(_) => {
-            write_cells(line, cells, at);
-            return;
-        }
-        Statement::Nothing => {
-            return;
-        }
-        Statement::Org(_) => {
-            return;
-        }
-        Statement::Equ(_) => {
-            return;
-        }
-        Statement::Res(_) => {
-            return;
-        }
-        Statement::End => {
-            return;
-        }
+        Statement::Data(_) => write_cells(line, cells, at),
+        _ => {}
     }
 }

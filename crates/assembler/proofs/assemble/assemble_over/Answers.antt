@@ -9,8 +9,8 @@ use Rattle.assembler.proofs.Walks.{not-walked, late_at_end, all-walked, walk-pas
 use Rattle.assembler.proofs.assemble.assemble_over.Goals as goal
 
 -- a line is refused
-pub returns-in-Refused : goal.returns-in-Refused
-returns-in-Refused c =
+pub returns-in-Err-InLine : goal.returns-in-Err-InLine
+returns-in-Err-InLine c =
     let w = c.walk in
     let a = c.args in
     let s = a.s.now in
@@ -18,12 +18,12 @@ returns-in-Refused c =
     let held =
     Holds s w.new.starts w.new.keys w.new.values w.new.marks w.new.cells
     w.new.row w.new.aways (work_of M s) in
-    not-walked M s a.memory.now a.map.now w.result c.in-Refused.f c.in-Refused.l held (memory_of (work_of M s)) (work_of M s).place.marks _
-    c.in-Refused.is w.ensures c.refused_line.ensures
+    not-walked M s a.memory.now a.map.now w.result c.in-Err-InLine.number c.in-Err-InLine.line held (memory_of (work_of M s)) (work_of M s).place.marks _
+    c.in-Err-InLine.is w.ensures c.refused_line.ensures
 
 -- the source's end is
-pub returns-in-Late : goal.returns-in-Late
-returns-in-Late c =
+pub returns-in-Err-Late : goal.returns-in-Err-Late
+returns-in-Err-Late c =
     let w = c.walk in
     let a = c.args in
     let s = a.s.now in
@@ -31,7 +31,7 @@ returns-in-Late c =
     let held =
     Holds s w.new.starts w.new.keys w.new.values w.new.marks w.new.cells
     w.new.row w.new.aways (work_of M s) in
-    late_at_end M s a.memory.now a.map.now w.result c.in-Late.l held (memory_of (work_of M s)) (work_of M s).place.marks _ c.in-Late.is
+    late_at_end M s a.memory.now a.map.now w.result c.in-Err-Late.line held (memory_of (work_of M s)) (work_of M s).place.marks _ c.in-Err-Late.is
     w.ensures c.refused.ensures
 
 -- neither is
@@ -44,7 +44,7 @@ settle_and_accept-requires c =
     let held =
     Holds s w.new.starts w.new.keys w.new.values w.new.marks w.new.cells
     w.new.row w.new.aways (work_of M s) in
-    let h = walk-passed M s held w.result c.in-Passes.labels c.in-Passes.uses c.in-Passes.is w.ensures in
+    let h = walk-passed M s held w.result c.in-Ok.labels c.in-Ok.uses c.in-Ok.is w.ensures in
     let few = h.1.few-named in
     let lent = c.requires.0 in
     let long : length a.cells.now ≡ M = ap length lent.cells-empty ∙ length-replicate {A = ℕ} M 0 in (
@@ -62,8 +62,8 @@ settle_and_accept-requires c =
       omega (arith, w.auto.marks, c.requires.2),
     )
 
-pub returns-in-Passes : goal.returns-in-Passes
-returns-in-Passes c =
+pub returns-in-Ok : goal.returns-in-Ok
+returns-in-Ok c =
     let w = c.walk in
     let a = c.args in
     let s = a.s.now in
@@ -71,20 +71,20 @@ returns-in-Passes c =
     let held =
     Holds s w.new.starts w.new.keys w.new.values w.new.marks w.new.cells
     w.new.row w.new.aways (work_of M s) in
-    let h = walk-passed M s held w.result c.in-Passes.labels c.in-Passes.uses c.in-Passes.is w.ensures in
+    let h = walk-passed M s held w.result c.in-Ok.labels c.in-Ok.uses c.in-Ok.is w.ensures in
     all-walked M s a.memory.now a.map.now w.new.starts w.new.keys w.new.values w.new.marks
-    w.new.cells w.new.row w.new.aways c.in-Passes.labels c.in-Passes.uses _ h.0 h.1
+    w.new.cells w.new.row w.new.aways c.in-Ok.labels c.in-Ok.uses _ h.0 h.1
     c.settle_and_accept.ensures
 
 -- what the walk alone was lent keeps its length
-pub shape_of-starts-in-Passes : goal.shape_of-starts-in-Passes
-shape_of-starts-in-Passes c = c.walk.auto.starts
+pub shape_of-starts-in-Ok : goal.shape_of-starts-in-Ok
+shape_of-starts-in-Ok c = c.walk.auto.starts
 
-pub shape_of-keys-in-Passes : goal.shape_of-keys-in-Passes
-shape_of-keys-in-Passes c = c.walk.auto.keys
+pub shape_of-keys-in-Ok : goal.shape_of-keys-in-Ok
+shape_of-keys-in-Ok c = c.walk.auto.keys
 
-pub shape_of-values-in-Passes : goal.shape_of-values-in-Passes
-shape_of-values-in-Passes c = c.walk.auto.values
+pub shape_of-values-in-Ok : goal.shape_of-values-in-Ok
+shape_of-values-in-Ok c = c.walk.auto.values
 
-pub shape_of-marks-in-Passes : goal.shape_of-marks-in-Passes
-shape_of-marks-in-Passes c = c.walk.auto.marks
+pub shape_of-marks-in-Ok : goal.shape_of-marks-in-Ok
+shape_of-marks-in-Ok c = c.walk.auto.marks

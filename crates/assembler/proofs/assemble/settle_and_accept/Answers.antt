@@ -10,22 +10,22 @@ pub settle-requires : goal.settle-requires
 settle-requires c = let p = c.requires in (p.0, p.1, p.2)
 
 -- a label is refused
-pub returns-in-Refused : goal.returns-in-Refused
-returns-in-Refused c =
+pub returns-in-Err : goal.returns-in-Err
+returns-in-Err c =
     let named = c.name_in-column in
     let a = c.args in
     let bs = labels_in a.s.now a.starts.now a.keys.now a.values.now a.labels in
     let us = uses_held a.s.now a.row.now a.aways.now a.uses in
-    not-settled a.memory.now a.map.now a.s.now c.settle.result c.in-Refused.f c.in-Refused.l c.in-Refused.second
+    not-settled a.memory.now a.map.now a.s.now c.settle.result c.in-Err.number c.in-Err.line c.in-Err.second
     (uses_verdict bs us) (second_refused 0 bs us) (filled bs us a.cells.now) c.settle.new.cells a.marks.now
-    named.result.0 _ c.in-Refused.is c.settle.ensures named.ensures c.refused.ensures
+    named.result.0 _ c.in-Err.is c.settle.ensures named.ensures c.refused.ensures
 
 -- none is
-pub returns-in-Done : goal.returns-in-Done
-returns-in-Done c =
+pub returns-in-Ok : goal.returns-in-Ok
+returns-in-Ok c =
     let a = c.args in
     let bs = labels_in a.s.now a.starts.now a.keys.now a.values.now a.labels in
     let us = uses_held a.s.now a.row.now a.aways.now a.uses in
     all_settled a.memory.now a.map.now c.settle.result (uses_verdict bs us) (second_refused 0 bs us) (label_point a.s.now bs us)
-    (filled bs us a.cells.now) c.settle.new.cells a.marks.now _ c.in-Done.is
+    (filled bs us a.cells.now) c.settle.new.cells a.marks.now _ c.in-Ok.is
     c.settle.ensures c.accept.ensures

@@ -7,8 +7,8 @@ use Rattle.placing.specs.Inner.State.{place_in}
 use Rattle.placing.proofs.LineLaws.{as_read, absent_placed}
 use Rattle.placing.proofs.line.place_line.Goals as goal
 
-pub returns-in-Absent : goal.returns-in-Absent
-returns-in-Absent c =
+pub returns-in-None : goal.returns-in-None
+returns-in-None c =
     let a = c.args in
     let p = c.requires in
     let e = c.place_statement in
@@ -19,6 +19,6 @@ returns-in-Absent c =
       e.ensures.0,
       λ k. as_read M k place a.line.now (place_in a.s.now a.starts.now a.keys.now e.new.values e.new.marks) e.result p.3
           (absent_placed M k a.s.now a.starts.now a.keys.now a.starts.now a.keys.now a.values.now a.marks.now
-          e.new.values e.new.marks a.line.now a.c a.read e.result c.in-Absent.is e.ensures.1
+          e.new.values e.new.marks a.line.now a.c a.read e.result c.in-None.is e.ensures.1
           (e.ensures.2 k (words a.s.now a.starts.now a.keys.now n) long)),
     )

@@ -1,6 +1,7 @@
 -- The label's refusal is the line's; behind a label that passes, the line is its statement.
+use borrow.Author.Rules.{rules}
 use Prim.Native.Nat.{◌+◌}
-use mathlib.Core.Path.{sym, ap, subst, ◌∙◌}
+use mathlib.Core.Path.{◌≡◌, sym, ap, subst, ◌∙◌}
 use native.Mathlib.Omega.{arith}
 use lib.ListN.{length}
 use Rattle.std.proofs.Common.{Some, Err}
@@ -24,34 +25,35 @@ declare-requires c =
 pub place_statement-requires : goal.place_statement-requires
 place_statement-requires c =
     let p = c.requires in
-    (subst FairDid c.in-Go.is c.declare.ensures.0, p.1.values_long, p.2)
+    (subst FairDid c.in_ok-d.was c.declare.ensures.0, p.1.values_long, p.2)
 
-pub returns-in-No : goal.returns-in-No
-returns-in-No c =
+pub returns-in_err-d : goal.returns-in_err-d
+returns-in_err-d c =
     let a = c.args in
     let p = c.requires in
     let d = c.declare in
     let starts = d.new.starts in
     let keys = d.new.keys in
     let place = place_in a.s.now a.starts.now a.keys.now a.values.now a.marks.now a.c in
-    let f = c.in-No in (
-      tt,
-      λ k. as_read (length a.marks.now) k place a.line.now (λ z. place) (Err f.f) p.3
+    let f = c.in_err-d in
+    let r : c.from_residual.result ≡ Err f.field-0.0 = search rules in (
+      search rules,
+      λ k. rw r (as_read (length a.marks.now) k place a.line.now (λ z. place) (Err f.field-0.0) p.3
           (label-fails (length a.marks.now) k place (record { bytes = a.line.now; read = a.read }) p.6
           (tells_by k (label_verdict k place a.line.now (Some a.n)) (labelled place a.line.now (Some a.n))
-          (place_in a.s.now starts keys a.values.now a.marks.now) f.is (d.ensures.1 k a.values.now a.marks.now p.1.values_long))),
+          (place_in a.s.now starts keys a.values.now a.marks.now) f.was (d.ensures.1 k a.values.now a.marks.now p.1.values_long)))),
     )
 
-pub returns-in-Go : goal.returns-in-Go
-returns-in-Go c =
+pub returns : goal.returns
+returns c =
     let a = c.args in
     let p = c.requires in
     let d = c.declare in
     let starts = d.new.starts in
     let keys = d.new.keys in
     let place = place_in a.s.now a.starts.now a.keys.now a.values.now a.marks.now a.c in
-    let g = c.in-Go in
-    let fair = subst FairDid g.is d.ensures.0 in
+    let g = c.in_ok-d in
+    let fair = subst FairDid g.was d.ensures.0 in
     let n = g.d.bound + g.d.waiting in
     let e = c.place_statement in
     let long = length-words a.s.now starts keys n in (
@@ -60,6 +62,6 @@ returns-in-Go c =
           (named_placed (length a.marks.now) k a.s.now a.starts.now a.keys.now starts keys a.values.now a.marks.now
           e.new.values e.new.marks a.line.now a.c a.read g.d e.result p.6
           (tells_by k (label_verdict k place a.line.now (Some a.n)) (labelled place a.line.now (Some a.n))
-          (place_in a.s.now starts keys a.values.now a.marks.now) g.is (d.ensures.1 k a.values.now a.marks.now p.1.values_long))
+          (place_in a.s.now starts keys a.values.now a.marks.now) g.was (d.ensures.1 k a.values.now a.marks.now p.1.values_long))
           e.ensures.1 (e.ensures.2 k (words a.s.now starts keys n) long)),
     )

@@ -24,16 +24,13 @@ word-requires c =
       omega (arith, c.type_inv.aways i),
     )
 
-pub shape_of-cells-in-No : goal.shape_of-cells-in-No
-shape_of-cells-in-No c = c.loop-i.invariant.3
-
-pub returns-in-No : goal.returns-in-No
-returns-in-No c =
+pub returns-in-Err : goal.returns-in-Err
+returns-in-Err c =
     let a = c.args in
     let bs = labels_in a.s.now a.starts.now a.keys.now a.values.now a.count in
     let w = c.word in
-    all-refused bs a.s.now a.row.now a.aways.now c.loop-i.i a.uses c.in-No.f c.loop-i.before w.result
-    c.loop-i-test.true c.loop-i.invariant.1 c.loop-i.invariant.4 w.ensures c.in-No.is
+    all-refused bs a.s.now a.row.now a.aways.now c.loop-i.i a.uses c.in-Err.number c.loop-i.before w.result
+    c.loop-i-test.true c.loop-i.invariant.1 c.loop-i.invariant.4 w.ensures c.in-Err.is
 
 pub loop-i-preserved : goal.loop-i-preserved
 loop-i-preserved c =
@@ -41,14 +38,14 @@ loop-i-preserved c =
     let bs = labels_in a.s.now a.starts.now a.keys.now a.values.now a.count in
     let i = c.loop-i.i in
     let w = c.word in
-    let x = c.in-Is.w in (
+    let x = c.in-Ok.w in (
       omega (arith, c.loop-i-test.true),
-      one_passes bs a.s.now a.row.now a.aways.now i x w.result w.ensures c.in-Is.is c.loop-i.invariant.1,
+      one_passes bs a.s.now a.row.now a.aways.now i x w.result w.ensures c.in-Ok.is c.loop-i.invariant.1,
       c.put.ensures
           ∙ ap (λ (m : List ℕ). set m (get_or a.row.now (4 * i + 2) 0) x) c.loop-i.invariant.2
-          ∙ one-filled bs a.s.now a.row.now a.aways.now i x w.result w.ensures c.in-Is.is a.cells.now,
+          ∙ one-filled bs a.s.now a.row.now a.aways.now i x w.result w.ensures c.in-Ok.is a.cells.now,
       c.put.auto.cells ∙ c.loop-i.invariant.3,
-      one-before bs a.s.now a.row.now a.aways.now i x w.result w.ensures c.in-Is.is c.loop-i.before c.loop-i.invariant.4,
+      one-before bs a.s.now a.row.now a.aways.now i x w.result w.ensures c.in-Ok.is c.loop-i.before c.loop-i.invariant.4,
     )
 
 pub shape_of-cells : goal.shape_of-cells

@@ -14,6 +14,3 @@ invariant-loop-i l =
     × (l.cells ≡ filled bs (uses_held l.s l.row l.aways l.i) l.initial.cells)
     × (length l.cells ≡ length l.initial.cells)
     × Second bs l.s l.row l.aways l.i l.before
-
-abbrev pub decreases-loop-i : goal.decreases-loop-i
-decreases-loop-i l = l.uses - l.i

@@ -46,38 +46,9 @@ returns-in-Instruction c =
       omega (arith, c.note_operands.ensures.2, some_byte a.line.now e),
     )
 
-pub returns-in-Nothing : goal.returns-in-Nothing
+pub returns-in_default : goal.returns-in_default
 unfolding uses_by
-returns-in-Nothing c =
+returns-in_default c =
     let a = c.args in
-    (λ s part. none_named _ a.number a.at a.line.now c.in-Nothing.is refl, omega arith, omega arith)
-
-pub returns-in-Org : goal.returns-in-Org
-unfolding uses_by
-returns-in-Org c =
-    let a = c.args in
-    (λ s part. none_named _ a.number a.at a.line.now c.in-Org.is refl, omega arith, omega arith)
-
-pub returns-in-Equ : goal.returns-in-Equ
-unfolding uses_by
-returns-in-Equ c =
-    let a = c.args in
-    (λ s part. none_named _ a.number a.at a.line.now c.in-Equ.is refl, omega arith, omega arith)
-
-pub returns-in-Res : goal.returns-in-Res
-unfolding uses_by
-returns-in-Res c =
-    let a = c.args in
-    (λ s part. none_named _ a.number a.at a.line.now c.in-Res.is refl, omega arith, omega arith)
-
-pub returns-in-Data : goal.returns-in-Data
-unfolding uses_by
-returns-in-Data c =
-    let a = c.args in
-    (λ s part. none_named _ a.number a.at a.line.now c.in-Data.is refl, omega arith, omega arith)
-
-pub returns-in-End : goal.returns-in-End
-unfolding uses_by
-returns-in-End c =
-    let a = c.args in
-    (λ s part. none_named _ a.number a.at a.line.now c.in-End.is refl, omega arith, omega arith)
+    let d = c.in_default in
+    (λ s part. ?, omega arith, omega arith)

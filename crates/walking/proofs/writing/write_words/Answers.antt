@@ -2,23 +2,23 @@
 use Rattle.walking.proofs.Words.{as_encoded, one_written, two-written, three-written}
 use Rattle.walking.proofs.writing.write_words.Goals as goal
 
-pub returns-in-Refused : goal.returns-in-Refused
-returns-in-Refused c =
+pub returns-in-None : goal.returns-in-None
+returns-in-None c =
     let a = c.args in
-    as_encoded a.i c.requires.0 c.encode.ensures a.cells.now a.at c.in-Refused.is
+    as_encoded a.i c.requires.0 c.encode.ensures a.cells.now a.at c.in-None.is
 
-pub returns-in-One : goal.returns-in-One
-returns-in-One c =
+pub returns-in-Some-One : goal.returns-in-Some-One
+returns-in-Some-One c =
     let a = c.args in
-    one_written a.i c.requires.0 c.encode.ensures a.cells.now a.at c.in-One.is c.put.ensures
+    one_written a.i c.requires.0 c.encode.ensures a.cells.now a.at c.in-Some-One.is c.put-in-Some-One.ensures
 
-pub returns-in-Two : goal.returns-in-Two
-returns-in-Two c =
+pub returns-in-Some-Two : goal.returns-in-Some-Two
+returns-in-Some-Two c =
     let a = c.args in
-    two-written a.i c.requires.0 c.encode.ensures a.cells.now a.at c.in-Two.is c.put-in-Two.ensures c.put-in-Two-2.ensures
+    two-written a.i c.requires.0 c.encode.ensures a.cells.now a.at c.in-Some-Two.is c.put-in-Some-Two.ensures c.put-in-Some-Two-2.ensures
 
-pub returns-in-Three : goal.returns-in-Three
-returns-in-Three c =
+pub returns-in-Some-Three : goal.returns-in-Some-Three
+returns-in-Some-Three c =
     let a = c.args in
-    three-written a.i c.requires.0 c.encode.ensures a.cells.now a.at c.in-Three.is c.put-in-Three.ensures c.put-in-Three-2.ensures
-    c.put-in-Three-3.ensures
+    three-written a.i c.requires.0 c.encode.ensures a.cells.now a.at c.in-Some-Three.is c.put-in-Some-Three.ensures c.put-in-Some-Three-2.ensures
+    c.put-in-Some-Three-3.ensures
