@@ -29,10 +29,15 @@ bindings_of : (p : Place) → p.bound ++ bound_to p.at p.waiting ≡ bindings p
 unfolding bindings
 bindings_of p = refl
 
--- a line fails
-pub refused-early : (v : Verdict) (w : Work) (n : ℕ) (of : Counters → ℕ → Work) {r : Result Lines Stopped} {f : ℕ} {l : Line} → r ≡ Err (InLine f l) → Says v w n of r
-    → v ≡ refused (f on l.0)
-refused-early v w n of q h = subst (Says v w n of) q h
+-- a line fails: nothing else stops the lines
+pub early-stop : (v e : Verdict) (H : ℕ → ℕ → Type 0) (w : Work) (n : ℕ) (of : Counters → ℕ → Work) {r : Result Lines Stopped} {why : Stopped} → r ≡ Err why
+    → Says v w n of r
+    → Ends v e H (Err why)
+early-stop v e H w n of {why = why} q h = go why (subst (Says v w n of) q h)
+  where
+    go : (x : Stopped) → Says v w n of (Err x) → Ends v e H (Err x)
+    go (InLine f l) g = g
+    go (Late l) g = absurd g
 
 module _ (s starts keys vs ms memory row aways : List ℕ) (v : Verdict) (w : Work) (n : ℕ) {r : Result Lines Stopped} {c : Counters} {named : ℕ} {l : Line}
     (q : r ≡ Ok (record { counters = c; uses = named; last = l })) (h : Says v w n (work_in s starts keys vs ms memory row aways) r) where

@@ -12,7 +12,9 @@ use Rattle.isa.specs.declared.Operand.TheVariants as O
 use Rattle.std.proofs.Common.{Option, Some, None}
 use Rattle.values.specs.declared.Name.{Name}
 use Rattle.operands.specs.declared.Given.{Given}
+use Rattle.isa.specs.declared.Opcode.{Opcode}
 use Rattle.statements.specs.declared.Statement.{Statement}
+use Rattle.statements.specs.declared.Statement.TheVariants.{Nothing, Instruction, Org, Equ, Res, Data, End}
 use Rattle.labels.specs.Inner.Labels.{window, InCell}
 use Rattle.sources.specs.Uses.{Counted, from, Use, counted_for, second_cell, uses_by}
 use Rattle.uses.specs.Inner.Held.{counted_by, use_held}
@@ -79,6 +81,14 @@ both-noted s start k at next a b us e v w =
     ∙ ap₂ (λ (l : List Use) (n : ℕ). l ++ noted s start k n next b) v (sym (second-cell at a e))
     ∙ append_assoc us x (noted s start k (second_cell at a) next b)
 
--- a statement that names no label
-pub none_named : (us : List Use) (k at : ℕ) (line : List ℕ) {x y : Statement} → x ≡ y → uses_by k line at y ≡ [] → us ≡ us ++ uses_by k line at x
-none_named us k at line e f = sym (ap (λ (z : Statement). us ++ uses_by k line at z) e ∙ ap (λ (l : List Use). us ++ l) f ∙ append-nil us)
+-- a statement that is no instruction names no label
+pub no_uses : (us : List Use) (k at : ℕ) (line : List ℕ) (x : Statement) → ((op : Opcode) (a b : Given) → x ≡ Instruction op a b → ⊥)
+    → us ≡ us ++ uses_by k line at x
+unfolding uses_by
+no_uses us k at line (Instruction op a b) n = absurd (n op a b refl)
+no_uses us k at line Nothing n = sym (append-nil us)
+no_uses us k at line (Org v) n = sym (append-nil us)
+no_uses us k at line (Equ v) n = sym (append-nil us)
+no_uses us k at line (Res v) n = sym (append-nil us)
+no_uses us k at line (Data n') n = sym (append-nil us)
+no_uses us k at line End n = sym (append-nil us)

@@ -3,6 +3,7 @@ use Prim.Native.Nat.{ℕ}
 use mathlib.Core.Path.{◌≡◌, ap, ◌∙◌}
 use native.Mathlib.Omega.{arith}
 use lib.ListN.{length, length-replicate}
+use Rattle.std.proofs.Common.{Err}
 use Rattle.sources.specs.Inner.Assembling.{work_of, memory_of}
 use Rattle.walking.specs.Inner.Walking.{Holds}
 use Rattle.assembler.proofs.Walks.{not-walked, late_at_end, all-walked, walk-passed}
@@ -19,7 +20,7 @@ returns-in-Err-InLine c =
     Holds s w.new.starts w.new.keys w.new.values w.new.marks w.new.cells
     w.new.row w.new.aways (work_of M s) in
     not-walked M s a.memory.now a.map.now w.result c.in-Err-InLine.number c.in-Err-InLine.line held (memory_of (work_of M s)) (work_of M s).place.marks _
-    c.in-Err-InLine.is w.ensures c.refused_line.ensures
+    (c.in-Err-InLine.is ∙ ap Err c.in-Err-InLine.field-0-is) w.ensures c.refused_line.ensures
 
 -- the source's end is
 pub returns-in-Err-Late : goal.returns-in-Err-Late
@@ -31,7 +32,7 @@ returns-in-Err-Late c =
     let held =
     Holds s w.new.starts w.new.keys w.new.values w.new.marks w.new.cells
     w.new.row w.new.aways (work_of M s) in
-    late_at_end M s a.memory.now a.map.now w.result c.in-Err-Late.line held (memory_of (work_of M s)) (work_of M s).place.marks _ c.in-Err-Late.is
+    late_at_end M s a.memory.now a.map.now w.result c.in-Err-Late.line held (memory_of (work_of M s)) (work_of M s).place.marks _ (c.in-Err-Late.is ∙ ap Err c.in-Err-Late.field-0-is)
     w.ensures c.refused.ensures
 
 -- neither is
@@ -44,7 +45,7 @@ settle_and_accept-requires c =
     let held =
     Holds s w.new.starts w.new.keys w.new.values w.new.marks w.new.cells
     w.new.row w.new.aways (work_of M s) in
-    let h = walk-passed M s held w.result c.in-Ok.labels c.in-Ok.uses c.in-Ok.is w.ensures in
+    let h = walk-passed M s held w.result c.in-Ok.field-0.labels c.in-Ok.field-0.uses c.in-Ok.is w.ensures in
     let few = h.1.few-named in
     let lent = c.requires.0 in
     let long : length a.cells.now ≡ M = ap length lent.cells-empty ∙ length-replicate {A = ℕ} M 0 in (
@@ -71,9 +72,9 @@ returns-in-Ok c =
     let held =
     Holds s w.new.starts w.new.keys w.new.values w.new.marks w.new.cells
     w.new.row w.new.aways (work_of M s) in
-    let h = walk-passed M s held w.result c.in-Ok.labels c.in-Ok.uses c.in-Ok.is w.ensures in
+    let h = walk-passed M s held w.result c.in-Ok.field-0.labels c.in-Ok.field-0.uses c.in-Ok.is w.ensures in
     all-walked M s a.memory.now a.map.now w.new.starts w.new.keys w.new.values w.new.marks
-    w.new.cells w.new.row w.new.aways c.in-Ok.labels c.in-Ok.uses _ h.0 h.1
+    w.new.cells w.new.row w.new.aways c.in-Ok.field-0.labels c.in-Ok.field-0.uses _ h.0 h.1
     c.settle_and_accept.ensures
 
 -- what the walk alone was lent keeps its length

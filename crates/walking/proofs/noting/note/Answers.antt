@@ -8,8 +8,7 @@ use Rattle.walking.proofs.noting.note.Goals as goal
 pub returns-in_default : goal.returns-in_default
 returns-in_default c =
     let a = c.args in
-    let d = c.in_default in
-    (λ s. noted-none s a.from a.number a.cell a.next a.g _ ?, omega arith, omega arith)
+    (λ s. noted-none s a.from a.number a.cell a.next a.g _ c.in_default.is, omega arith, omega arith)
 
 pub returns : goal.returns
 returns c =

@@ -10,7 +10,7 @@ use Rattle.statements.specs.Judging.{claim_of}
 use Rattle.std.proofs.Common.{Ok}
 use Rattle.sources.specs.Uses.{uses_by}
 use Rattle.uses.specs.Inner.Held.{uses_held}
-use Rattle.walking.proofs.Notes.{none_named}
+use Rattle.walking.proofs.Notes.{no_uses}
 use Rattle.walking.proofs.Said.{some_byte, first-placeable, second-placeable, uses-noted}
 use Rattle.walking.proofs.noting.note_statement.Goals as goal
 
@@ -47,8 +47,6 @@ returns-in-Instruction c =
     )
 
 pub returns-in_default : goal.returns-in_default
-unfolding uses_by
 returns-in_default c =
     let a = c.args in
-    let d = c.in_default in
-    (λ s part. ?, omega arith, omega arith)
+    (λ s part. no_uses _ a.number a.at a.line.now a.says c.in_default.not-Instruction, omega arith, omega arith)

@@ -9,7 +9,7 @@ use Rattle.walking.proofs.walk.keep_line.Goals as goal
 pub returns-in_default : goal.returns-in_default
 returns-in_default c =
     let a = c.args in
-    let d = c.in_default in let e = ? in (
+    let e = c.in_default.is in (
       cells-read a.line.now a.cells.now a.at e refl,
       λ s part. uses-read (uses_held s a.row.now a.aways.now a.count) a.number a.line.now a.at e (sym (append-nil _)),
       omega arith,

@@ -1,9 +1,10 @@
 -- A refusal of a line, then that of the source's end; else every label is bound.
 use mathlib.Core.Path.{◌∙◌}
 use lib.ListN.{length}
+use Rattle.std.proofs.lemmas.Result.{err_from_is_err_and}
 use Rattle.sources.specs.Inner.Assembling.{work_of, lines_verdict, last_line}
-use Rattle.walking.specs.Inner.Walking.{work_in}
-use Rattle.walking.proofs.Ends.{refused-early, still-fair, refused-late, passes-end, binds_at_end, all_held}
+use Rattle.walking.specs.Inner.Walking.{work_in, Holds, end_of}
+use Rattle.walking.proofs.Ends.{early-stop, still-fair, refused-late, passes-end, binds_at_end, all_held}
 use Rattle.walking.proofs.walk.walk.Goals as goal
 
 pub returns-then-is_late : goal.returns-then-is_late
@@ -21,7 +22,7 @@ returns-then-is_late c =
     let v = lines_verdict m s in
     let w = work_of m s in
     let n = last_line s in
-    refused-late s starts keys values marks cells row aways v w n c.in-Passes.is l.ensures c.is_late.ensures
+    refused-late s starts keys values marks cells row aways v w n c.in_ok-counters.was l.ensures c.is_late.ensures
     c.if-is_late.true
 
 pub bind_here-d-requires : goal.bind_here-d-requires
@@ -39,14 +40,14 @@ bind_here-d-requires c =
     let v = lines_verdict m s in
     let w = work_of m s in
     let n = last_line s in (
-      still-fair s starts keys values marks cells row aways v w n c.in-Passes.is l.ensures,
+      still-fair s starts keys values marks cells row aways v w n c.in_ok-counters.was l.ensures,
       l.auto.values ∙ c.requires.rows.values_long,
-      binds_at_end s starts keys values marks cells row aways v w n c.in-Passes.is l.ensures c.is_late.ensures
+      binds_at_end s starts keys values marks cells row aways v w n c.in_ok-counters.was l.ensures c.is_late.ensures
           c.if-is_late.false,
     )
 
-pub returns-in-Refused : goal.returns-in-Refused
-returns-in-Refused c =
+pub returns-in_err-counters : goal.returns-in_err-counters
+returns-in_err-counters c =
     let l = c.walk_lines in
     let starts = l.new.starts in
     let keys = l.new.keys in
@@ -60,10 +61,12 @@ returns-in-Refused c =
     let v = lines_verdict m s in
     let w = work_of m s in
     let n = last_line s in
-    refused-early v w n (work_in s starts keys values marks cells row aways) c.in-Refused.is l.ensures
+    let e = end_of m s in
+    let p = err_from_is_err_and c.from_residual.result c.from_residual.ensures.1 in
+    rw (p.1, p.2) (early-stop v e (Holds s starts keys values marks cells row aways w) w n (work_in s starts keys values marks cells row aways) c.in_err-counters.was l.ensures)
 
-pub returns-else-is_late : goal.returns-else-is_late
-returns-else-is_late c =
+pub returns : goal.returns
+returns c =
     let q = c.bind_here-d in
     let l = c.walk_lines in
     let starts = l.new.starts in
@@ -78,8 +81,8 @@ returns-else-is_late c =
     let v = lines_verdict m s in
     let w = work_of m s in
     let n = last_line s in (
-      passes-end s starts keys values marks cells row aways v w n c.in-Passes.is l.ensures c.is_late.ensures
+      passes-end s starts keys values marks cells row aways v w n c.in_ok-counters.was l.ensures c.is_late.ensures
           c.if-is_late.false,
-      all_held s starts keys values marks cells row aways v w n c.in-Passes.is l.ensures q.new.values q.result q.ensures.2
+      all_held s starts keys values marks cells row aways v w n c.in_ok-counters.was l.ensures q.new.values q.result q.ensures.2
           q.ensures.3,
     )

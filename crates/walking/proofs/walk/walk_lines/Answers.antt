@@ -2,9 +2,15 @@
 use borrow.Author.Rules.{rules}
 use native.Mathlib.Omega.{arith}
 use Prim.Native.Nat.{◌+◌, ◌≤◌}
-use mathlib.Core.Path.{refl, sym, ap, ◌∙◌}
+use mathlib.Core.Path.{◌≡◌, refl, sym, ap, subst, ◌∙◌}
 use lib.ListN.{length}
+use Rattle.std.proofs.Common.{ℕ, Result, Ok, Err, MatchResult, IsErrAnd}
+use Rattle.std.proofs.lemmas.Result.{err_from_is_err_and}
 use Rattle.statements.specs.declared.LineRead.{LineRead}
+use Rattle.statements.proofs.Labelling.{never}
+use Rattle.placing.specs.declared.Counters.{Counters}
+use Rattle.walking.specs.declared.Stopped.{Stopped}
+use Rattle.walking.specs.declared.Stopped.TheVariants.{InLine}
 use Rattle.placing.specs.Inner.State.{place_in}
 use Rattle.walking.proofs.Walks.{left_at_start, end-within, line_part, further, line-fits, turns_over, turn-stops, turn-room, turn-goes}
 use Rattle.walking.proofs.walk.walk_lines.Goals as goal
@@ -39,36 +45,22 @@ place_line-requires c =
       line_part s p.from c.line_end-end.result,
     )
 
-pub shape_of-starts-in-No : goal.shape_of-starts-in-No
-shape_of-starts-in-No c =
-    c.place_line.auto.starts ∙ c.loop-from.invariant.starts-long ∙ sym c.requires.rows.starts-long
+-- what passes is as `place_line` answered it
+mapped-ok : (r : Result Counters ℕ) {m : Result Counters Stopped} {d : Counters} (P : ℕ → Stopped → Type 0) → MatchResult r (λ x. m ≡ Ok x) (λ f. IsErrAnd m (P f))
+    → m ≡ Ok d
+    → r ≡ Ok d
+mapped-ok (Ok x) P h e = cc
+mapped-ok (Err f) P h e = absurd (subst (λ (x : Result Counters Stopped). IsErrAnd x (P f)) e h)
 
-pub shape_of-keys-in-No : goal.shape_of-keys-in-No
-shape_of-keys-in-No c =
-    c.place_line.auto.keys ∙ c.loop-from.invariant.keys_long ∙ sym c.requires.rows.keys_long
+-- what fails has its number, and the closure has told the line
+mapped-err : (r : Result Counters ℕ) {m : Result Counters Stopped} {why : Stopped} (P : ℕ → Stopped → Type 0) → MatchResult r (λ x. m ≡ Ok x) (λ f. IsErrAnd m (P f))
+    → m ≡ Err why
+    → (f : ℕ) × (r ≡ Err f) × P f why
+mapped-err (Ok x) P h e = never (cc)
+mapped-err (Err f) P h e = (f, refl, subst (λ (x : Result Counters Stopped). IsErrAnd x (P f)) e h)
 
-pub shape_of-values-in-No : goal.shape_of-values-in-No
-shape_of-values-in-No c =
-    c.place_line.auto.values ∙ c.loop-from.invariant.values_long ∙ sym c.requires.rows.values_long
-
-pub shape_of-marks-in-No : goal.shape_of-marks-in-No
-shape_of-marks-in-No c =
-    c.place_line.auto.marks ∙ c.loop-from.invariant.marks-long
-
-pub shape_of-cells-in-No : goal.shape_of-cells-in-No
-shape_of-cells-in-No c =
-    c.loop-from.invariant.cells-long
-
-pub shape_of-row-in-No : goal.shape_of-row-in-No
-shape_of-row-in-No c =
-    c.loop-from.invariant.row-long
-
-pub shape_of-aways-in-No : goal.shape_of-aways-in-No
-shape_of-aways-in-No c =
-    c.loop-from.invariant.aways_long
-
-pub returns-in-No : goal.returns-in-No
-returns-in-No c =
+pub returns-in_err-c : goal.returns-in_err-c
+returns-in_err-c c =
     let e = c.line_end-end.ensures in
     let test = c.loop-from-test.true in
     let p = c.loop-from in
@@ -80,8 +72,11 @@ returns-in-No c =
     let keys = l.new.keys in
     let values = l.new.values in
     let marks = l.new.marks in
-    turn-stops m s p.starts p.keys p.values p.marks p.cells p.row p.aways (length a.cells.now) (length a.row.now)
-    (length a.aways.now) p.c p.from p.number p.uses p.invariant test e (place_in s starts keys values marks) c.in-No.is (l.ensures.1 (p.number + 1))
+    let f = mapped-err l.result _ c.map_err.ensures.cases c.in_err-c.was in
+    let told : c.in_err-c.field-0.0 ≡ InLine f.0 (record { 0 = p.number + 1 }) = search (rules, f.2) in
+    let r = err_from_is_err_and c.from_residual.result c.from_residual.ensures.1 in
+    rw (r.1, r.2, told) (turn-stops m s p.starts p.keys p.values p.marks p.cells p.row p.aways (length a.cells.now) (length a.row.now)
+    (length a.aways.now) p.c p.from p.number p.uses p.invariant test e (place_in s starts keys values marks) f.1 (l.ensures.1 (p.number + 1)))
 
 pub keep_line-uses-requires : goal.keep_line-uses-requires
 keep_line-uses-requires c =
@@ -106,7 +101,7 @@ keep_line-uses-requires c =
       omega (arith, i.few-lines, test, pre.short),
       i.fair.low,
       turn-room m s p.starts p.keys p.values p.marks p.cells p.row p.aways (length a.cells.now) (length a.row.now)
-          (length a.aways.now) p.c p.from p.number p.uses p.invariant test e (place_in s starts keys values marks) c.in-Go.is
+          (length a.aways.now) p.c p.from p.number p.uses p.invariant test e (place_in s starts keys values marks) (mapped-ok l.result _ c.map_err.ensures.cases c.in_ok-c.was)
           (l.ensures.1 (p.number + 1)) r pre.few-cells,
       record {
         cells = omega (arith, u, test, pre.short, pre.room.cells, i.row-long);
@@ -142,7 +137,7 @@ loop-from-preserved c =
     let marks = l.new.marks in
     let k = c.keep_line-uses in
     turn-goes m s p.starts p.keys p.values p.marks p.cells p.row p.aways (length a.cells.now) (length a.row.now)
-    (length a.aways.now) p.c p.from p.number p.uses p.invariant test e (place_in s starts keys values marks) c.in-Go.is
+    (length a.aways.now) p.c p.from p.number p.uses p.invariant test e (place_in s starts keys values marks) (mapped-ok l.result _ c.map_err.ensures.cases c.in_ok-c.was)
     (l.ensures.1 (p.number + 1)) starts keys values marks k.new.cells k.new.row k.new.aways
     c.read_line-read.ensures (λ x. refl) l.ensures.0 l.auto.starts l.auto.keys l.auto.values
     l.auto.marks k.auto.cells k.auto.row k.auto.aways c.requires.short
