@@ -13,7 +13,6 @@ ghost use Rattle.assembler.specs.Inner.Parts.{refusal_at, outcome, outcome_by, o
 
 use settling::Unsettled;
 use super::Reply;
-use super::copying::{copy_cells, copy_marks};
 use super::counting::counted;
 use codes::limits::{LONGEST_SOURCE, MOST_CELLS, MOST_LABELS};
 use codes::marks::{CODE, DATA, RESERVED};
@@ -54,8 +53,8 @@ fn accept(cells: &[u16], marks: &[u8], memory: &mut [u16], map: &mut [u8]) -> Re
     ensures { outcome result memory.new map.new
         ≡ outcome_by passes nowhere cells.now marks.now memory.old map.old }
 {
-    copy_cells(cells, memory);
-    copy_marks(marks, map);
+    memory.copy_from_slice(cells);
+    map.copy_from_slice(marks);
     let code = counted(marks, CODE);
     let data = counted(marks, DATA);
     let reserved = counted(marks, RESERVED);

@@ -6,7 +6,6 @@ use columns::Column;
 use sources::Line;
 
 pub mod assemble; // the loans, and the whole
-mod copying; // memory and map, once acceptance is certain
 mod counting; // the numbers of code, data and reserved cells
 
 // "acceptance returns 0, line 0 and the numbers of code and data cells"; "Refusals return counts 0" (01). Reserved cells: "acceptance returns

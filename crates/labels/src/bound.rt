@@ -6,9 +6,5 @@ pub fn fill(values: &mut [u16], from: usize, to: usize, v: u16)
     requires { (from ≤ to) × (to ≤ length values.old) }
     ensures { take to values.new ≡ take from values.old ++ replicate (to - from) v }
 {
-    let mut i = from;
-    while i < to {
-        values[i] = v;
-        i += 1;
-    }
+    values[from..to].fill(v);
 }

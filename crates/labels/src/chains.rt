@@ -22,20 +22,14 @@ pub const KEY_CELLS: usize = LASTS_FROM + CHAINS;
 pub(crate) fn byte(s: &[u8], i: usize) -> u8
     ensures { result ≡ get_or s.now i 0 }
 {
-    if i < s.len() {
-        return s[i];
-    }
-    0
+    s.get(i).copied().unwrap_or(0)
 }
 
 // The cell at a place, 0 past the end.
 pub(crate) fn cell(row: &[u16], i: usize) -> usize
     ensures { result ≡ get_or row.now i 0 }
 {
-    if i < row.len() {
-        return row[i] as usize;
-    }
-    0
+    usize::from(row.get(i).copied().unwrap_or(0))
 }
 
 // A name's length and first letter.
@@ -45,7 +39,7 @@ pub(crate) fn key(s: &[u8], a: usize, n: u16) -> usize
     if n == 0 {
         return 0;
     }
-    (n as usize - 1) * 256 + byte(s, a) as usize + 1
+    (usize::from(n) - 1) * 256 + usize::from(byte(s, a)) + 1
 }
 
 // The chain that a name is on, by its bytes from the last on.
@@ -53,11 +47,9 @@ pub(crate) fn chain_of(s: &[u8], a: usize, n: usize) -> usize
     requires { (a < farthest) × InCell n }
     ensures { result ≡ chain_of (window s.now a n) }
 {
-    let mut i: usize = n;
-    let mut chain: usize = 0;
-    while 0 < i {
-        i -= 1;
-        chain = (37 * chain + byte(s, a + i) as usize) % CHAINS;
+    let mut chain = 0;
+    for i in (0..n).rev() {
+        chain = (37 * chain + usize::from(byte(s, a + i))) % CHAINS;
     }
     chain
 }
@@ -67,14 +59,8 @@ pub(crate) fn onward(keys: &[u16], chain: usize, n: usize, named: usize) -> usiz
     requires { InCell named }
     ensures { result ≡ Labels.onward keys.now chain n named }
 {
-    if named == 0 {
-        return 0;
+    if named != 0 && named <= n && cell(keys, NUMBERS_FROM + (named - 1)) == chain {
+        return named;
     }
-    if n < named {
-        return 0;
-    }
-    if cell(keys, NUMBERS_FROM + (named - 1)) != chain {
-        return 0;
-    }
-    named
+    0
 }

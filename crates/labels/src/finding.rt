@@ -11,14 +11,10 @@ fn same_rest(s: &[u8], a: usize, t: &[u8], b: usize, n: usize) -> bool
     requires { (a < farthest) × (b < farthest) × (n < farthest) }
     ensures { result ≡ same (window s.now (a + 1) (n - 1)) (window t.now (b + 1) (n - 1)) }
 {
-    let mut i: usize = 1;
-    while i < n {
-        let x = byte(s, a + i);
-        let y = byte(t, b + i);
-        if x != y {
+    for i in 1..n {
+        if byte(s, a + i) != byte(t, b + i) {
             return false;
         }
-        i += 1;
     }
     true
 }
@@ -41,11 +37,7 @@ fn is_named(
         × (wanted ≡ key_of (window line.now start size)) }
     ensures { result ≡ same (word_by s.now (get_or starts.now j 0) (get_or keys.now j 0)) (window line.now start size) }
 {
-    if keys[j] as usize != wanted {
-        return false;
-    }
-    let a = starts[j] as usize;
-    same_rest(s, a, line, start, size)
+    usize::from(keys[j]) == wanted && same_rest(s, usize::from(starts[j]), line, start, size)
 }
 
 // The place of a name of the line among the labels of the source; how many there are, if it is none of them.

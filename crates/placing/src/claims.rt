@@ -9,23 +9,14 @@ pub(crate) fn is_taken(marks: &[u8], at: usize, n: usize) -> bool
     requires { 0 < n → at + n ≤ length marks.now }
     ensures { result ≡ taken marks.now at n }
 {
-    let mut i: usize = 0;
-    while i < n {
-        if marks[at + i] != FREE {
-            return true;
-        }
-        i += 1;
-    }
-    false
+    n != 0 && marks[at..at + n].iter().any(|m| *m != FREE)
 }
 
 pub(crate) fn paint(marks: &mut [u8], at: usize, n: usize, mark: u8)
     requires { 0 < n → at + n ≤ length marks.old }
     ensures { marks.new ≡ sets marks.old at (replicate n mark) }
 {
-    let mut i: usize = 0;
-    while i < n {
-        marks[at + i] = mark;
-        i += 1;
+    if n != 0 {
+        marks[at..at + n].fill(mark);
     }
 }

@@ -7,6 +7,5 @@ pub fn put(cells: &mut [u16], at: usize, word: u16)
 {
     if at < cells.len() {
         cells[at] = word;
-        return;
     }
 }

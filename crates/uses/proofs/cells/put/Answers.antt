@@ -3,5 +3,5 @@ use mathlib.Core.Path.{sym}
 use lib.Seq.{set_out}
 use Rattle.uses.proofs.cells.put.Goals as goal
 
-pub returns : goal.returns
-returns c = sym (set_out c.args.cells.now c.args.at c.args.word c.if-at-cells.false)
+pub returns-else-at-cells : goal.returns-else-at-cells
+returns-else-at-cells c = sym (set_out c.args.cells.now c.args.at c.args.word c.if-at-cells.false)
