@@ -1,39 +1,24 @@
--- Rows counted, copied, and begun with zeros.
-use Prim.Native.Nat.{ℕ, zero, suc, ◌+◌, ◌≤◌, ◌<◌}
+-- Rows counted, and begun with zeros.
+use Prim.Native.Nat.{ℕ, zero, suc, ◌+◌, ◌≤◌}
+use mathlib.Core.Bool.{Bool, true, false, cond}
 use mathlib.Core.List.{List, [], ◌∷◌}
 use mathlib.Core.Path.{◌≡◌, refl, sym, ap, ◌∙◌}
-use native.Mathlib.Numerals.{add-one}
 use native.Mathlib.Omega.{arith}
-use borrow.Author.Tests.{eq-eqb, ne_eqb}
-use lib.ListN.{length, get_or, take, drop, set, replicate, length-replicate}
-use lib.Seq.{drop-cons, take-suc, take-suc-set, take_all}
+use lib.Dec.{eqb}
+use lib.ListN.{length, take, replicate, length-replicate}
+use Rattle.std.specs.List.{count_by}
 use Rattle.sources.specs.Image.{cells_marked}
 
-module _ (k : ℕ) (l : List ℕ) (i : ℕ) (h : i < length l) where
-  pub count-one : get_or l i 0 ≡ k → cells_marked k (drop i l) ≡ suc (cells_marked k (drop (i + 1) l))
-  unfolding cells_marked
-  count-one e = rw (add-one i, drop-cons l i 0 h, eq-eqb (get_or l i 0) k e)
-
-  pub count-other : (get_or l i 0 ≡ k → ⊥) → cells_marked k (drop i l) ≡ cells_marked k (drop (i + 1) l)
-  unfolding cells_marked
-  count-other e = rw (add-one i, drop-cons l i 0 h, ne_eqb (get_or l i 0) k e)
-
-drop_all : (s : List ℕ) (i : ℕ) → length s ≤ i → drop i s ≡ []
-drop_all [] zero h = refl
-drop_all [] (suc i) h = refl
-drop_all (x ∷ s) zero h = absurd (omega arith)
-drop_all (x ∷ s) (suc i) h = drop_all s i (omega arith)
-
-pub count-end : (k : ℕ) (l : List ℕ) (i : ℕ) → length l ≤ i → cells_marked k (drop i l) ≡ 0
+-- how many have a mark
+pub marked-count : (k : ℕ) (l : List ℕ) → count_by (λ (m : ℕ). eqb m k) l ≡ cells_marked k l
 unfolding cells_marked
-count-end k l i h = rw (drop_all l i h)
-
--- a copied cell more
-pub copy_more : (from to : List ℕ) (i : ℕ) → i < length from → i < length to → take i to ≡ take i from → take (i + 1) (set to i (get_or from i 0)) ≡ take (i + 1) from
-copy_more from to i h k e = rw (add-one i, take-suc-set to i (get_or from i 0) k, take-suc from i 0 h, e)
-
-pub copy_end : (from to : List ℕ) (i : ℕ) → length from ≤ i → length to ≤ i → take i to ≡ take i from → to ≡ from
-copy_end from to i h k e = sym (take_all i to k) ∙ e ∙ take_all i from h
+marked-count k [] = refl
+marked-count k (m ∷ l) = go (eqb m k) (marked-count k l)
+  where
+    go : (b : Bool) → count_by (λ (x : ℕ). eqb x k) l ≡ cells_marked k l
+        → cond b 1 0 + count_by (λ (x : ℕ). eqb x k) l ≡ cond b (suc (cells_marked k l)) (cells_marked k l)
+    go true e = omega (arith, e)
+    go false e = omega (arith, e)
 
 pub take-zeros : (n m : ℕ) → m ≤ n → take m (replicate n zero) ≡ replicate m zero
 take-zeros zero zero h = refl

@@ -1,65 +1,45 @@
--- Loops over the cells that a statement claims.
-use Prim.Native.Nat.{ℕ, zero, suc, ◌+◌, ◌-◌, ◌≤◌, ◌<◌}
+-- The cells that a statement claims: whether one of them has a mark, and marking them.
+use Prim.Native.Nat.{ℕ, zero, suc, ◌+◌, ◌-◌, ◌≤◌}
 use mathlib.Core.Bool.{Bool, true, false, not, ◌||◌}
-use mathlib.Core.List.{List}
-use mathlib.Core.Path.{◌≡◌, refl, sym, ap, subst, ◌∙◌}
+use mathlib.Core.List.{List, [], ◌∷◌}
+use mathlib.Core.Path.{◌≡◌, refl, sym, ap, ap₂, ◌∙◌}
 use native.Mathlib.Omega.{arith}
 use lib.Dec.{eqb}
-use lib.ListN.{get_or, set, replicate}
-use lib.Seq.{sets}
-use borrow.Author.Tests.{eq-eqb, ne_eqb, eqb-true, eqb-false}
+use lib.ListN.{length, get_or, take, drop, replicate, length-drop, length-replicate}
+use lib.Seq.{sets, sets-eq, take-suc, get_or-drop}
+use borrow.Rule.Slice.PartMut.{put_mid}
+use Rattle.std.specs.List.{list_any}
+use Rattle.std.proofs.lemmas.List.Folds.{list_any-append}
 use Rattle.sources.specs.Inner.Assembling.{taken}
 
 -- ---- a cell with a mark
 
-or_true : (b : Bool) → true ≡ (b || true)
-or_true true = refl
-or_true false = refl
+abbrev marked : ℕ → Bool
+marked m = not (eqb m 0)
 
--- one cell with a mark is enough
-pub taken_hit : (m : List ℕ) (at i n : ℕ) → i < n → (get_or m (at + i) 0 ≡ 0 → ⊥) → true ≡ taken m at n
+or-false : (b : Bool) → (b || false) ≡ b
+or-false true = refl
+or-false false = refl
+
+-- one of the n cells from an address on has a mark
+pub taken_any : (m : List ℕ) (at n : ℕ) → at + n ≤ length m → list_any (λ (x : ℕ). not (eqb x 0)) (take n (drop at m)) ≡ taken m at n
 unfolding taken
-taken_hit m at i zero h e = absurd (omega arith)
-taken_hit m at i (suc n) h e = go (eqb i n) refl (λ k. taken_hit m at i n k e)
-  where
-    go : (b : Bool) → eqb i n ≡ b → (i < n → true ≡ taken m at n) → true ≡ (taken m at n || not (eqb (get_or m (at + n) 0) 0))
-    go true q r =
-        let f : get_or m (at + n) 0 ≡ 0 → ⊥ = subst (λ (x : ℕ). get_or m (at + x) 0 ≡ 0 → ⊥) (eqb-true i n q) e in
-        rw (ne_eqb (get_or m (at + n) 0) 0 f) (or_true (taken m at n))
-    go false q r = let k : i ≡ n → ⊥ = eqb-false i n q in rw (← (r (omega (arith, k))))
+taken_any m at zero h = refl
+taken_any m at (suc n) h =
+    let cells = drop at m in
+    ap (list_any marked) (take-suc cells n 0 (omega (arith, h, length-drop at m)))
+    ∙ list_any-append marked (take n cells) (get_or cells n 0 ∷ [])
+    ∙ ap₂ (λ (a b : Bool). a || b) (taken_any m at n (omega (arith, h))) (or-false (marked (get_or cells n 0)) ∙ ap marked (get_or-drop at m n 0))
 
--- the first n cells from an address on have no mark
-abbrev pub Free : List ℕ → ℕ → ℕ → Type 0
-Free m at n = (j : ℕ) → j < n → get_or m (at + j) 0 ≡ 0
-
-pub taken_none : (m : List ℕ) (at n : ℕ) → Free m at n → false ≡ taken m at n
+-- none, where there are none
+pub taken_none : (m : List ℕ) (at n : ℕ) → n ≡ 0 → not (eqb n 0) ≡ taken m at n
 unfolding taken
-taken_none m at zero f = refl
-taken_none m at (suc n) f =
-    rw (← (taken_none m at n (λ j h. f j (omega arith))), eq-eqb (get_or m (at + n) 0) 0 (f n (omega arith)))
+taken_none m at n e = rw e
 
-pub free-none : (m : List ℕ) (at : ℕ) → Free m at 0
-free-none m at j h = absurd (omega arith)
+-- ---- marking
 
--- one cell more has no mark
-pub free_more : (m : List ℕ) (at i : ℕ) → Free m at i → get_or m (at + i) 0 ≡ 0 → Free m at (i + 1)
-free_more m at i f e j h = go (eqb j i) refl
-  where
-    go : (b : Bool) → eqb j i ≡ b → get_or m (at + j) 0 ≡ 0
-    go true q = subst (λ (x : ℕ). get_or m (at + x) 0 ≡ 0) (sym (eqb-true j i q)) e
-    go false q = let n : j ≡ i → ⊥ = eqb-false j i q in f j (omega (arith, n))
-
--- ---- marking: at the start, at a turn, at the end
-
-pub paint_from : (m : List ℕ) (at n v : ℕ) → sets m at (replicate n v) ≡ sets m (at + 0) (replicate (n - 0) v)
-paint_from m at n v = let p : at + 0 ≡ at = omega arith in let q : n - 0 ≡ n = omega arith in rw (p, q)
-
-pub paint_more : (m : List ℕ) (at i n v : ℕ) → i < n
-    → sets m (at + i) (replicate (n - i) v) ≡ sets (set m (at + i) v) (at + (i + 1)) (replicate (n - (i + 1)) v)
-paint_more m at i n v h =
-    let e : n - i ≡ suc (n - (i + 1)) = omega arith in
-    let q : suc (at + i) ≡ at + (i + 1) = omega arith in
-    ap (λ (k : ℕ). sets m (at + i) (replicate k v)) e ∙ ap (λ (a : ℕ). sets (set m (at + i) v) a (replicate (n - (i + 1)) v)) q
-
-pub paint_end : (m : List ℕ) (at i n v : ℕ) → n ≤ i → sets m (at + i) (replicate (n - i) v) ≡ m
-paint_end m at i n v h = let e : n - i ≡ 0 = omega arith in ap (λ (k : ℕ). sets m (at + i) (replicate k v)) e
+pub painted : (m : List ℕ) (at n v : ℕ) → at + n ≤ length m → put_mid at (at + n - at) m (replicate n v) ≡ sets m at (replicate n v)
+painted m at n v h =
+    let k : at + n - at ≡ n = omega arith in
+    let l = length-replicate n v in
+    rw k (sym (rw l at (sets-eq (replicate n v) m at (omega (arith, l, h)))))

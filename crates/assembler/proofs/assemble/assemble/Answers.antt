@@ -2,24 +2,18 @@
 use mathlib.Core.Logic.{inl, inr}
 use Rattle.assembler.proofs.Promised.{bad-loan, too_long, replies}
 use Rattle.assembler.proofs.assemble.assemble.Goals as goal
+use Rattle.assembler.proofs.assemble.assemble.Goals.{then-m-eq0-via-then-m-eq0, then-m-eq0-via-else-m-eq0+then-m-gt-MOST_CELLS, then-m-eq0-via-else-m-eq0+else-m-gt-MOST_CELLS+then-map-m}
 
--- no memory
+-- no memory, too much of it, or a map of another length
 pub returns-then-m-eq0 : goal.returns-then-m-eq0
 returns-then-m-eq0 c =
     let a = c.args in
-    bad-loan a.source.now a.memory.now a.map.now c.refused.result c.refused.ensures (inl c.if-m-eq0.true)
-
--- too much of it
-pub returns-then-m-gt-MOST_CELLS : goal.returns-then-m-gt-MOST_CELLS
-returns-then-m-gt-MOST_CELLS c =
-    let a = c.args in
-    bad-loan a.source.now a.memory.now a.map.now c.refused-then-m-gt-MOST_CELLS.result c.refused-then-m-gt-MOST_CELLS.ensures (inr (inl c.if-m-gt-MOST_CELLS.true))
-
--- a map of another length
-pub returns-then-map-m : goal.returns-then-map-m
-returns-then-map-m c =
-    let a = c.args in
-    bad-loan a.source.now a.memory.now a.map.now c.refused-then-map-m.result c.refused-then-map-m.ensures (inr (inr c.if-map-m.true))
+    bad-loan a.source.now a.memory.now a.map.now c.refused.result c.refused.ensures
+    (elim c.then-m-eq0.branch [
+      | then-m-eq0-via-then-m-eq0 w ↦ inl w.if-m-eq0.true
+      | then-m-eq0-via-else-m-eq0+then-m-gt-MOST_CELLS w ↦ inr (inl w.if-m-gt-MOST_CELLS.true)
+      | then-m-eq0-via-else-m-eq0+else-m-gt-MOST_CELLS+then-map-m w ↦ inr (inr w.if-map-m.true)
+    ])
 
 pub returns-then-source-gt-LONGEST_SOURCE : goal.returns-then-source-gt-LONGEST_SOURCE
 returns-then-source-gt-LONGEST_SOURCE c =
