@@ -1,24 +1,21 @@
 -- Rows counted, and begun with zeros.
 use Prim.Native.Nat.{ℕ, zero, suc, ◌+◌, ◌≤◌}
-use mathlib.Core.Bool.{Bool, true, false, cond}
+use mathlib.Core.Bool.{cond}
 use mathlib.Core.List.{List, [], ◌∷◌}
 use mathlib.Core.Path.{◌≡◌, refl, sym, ap, ◌∙◌}
 use native.Mathlib.Omega.{arith}
 use lib.Dec.{eqb}
 use lib.ListN.{length, take, replicate, length-replicate}
 use Rattle.std.specs.List.{count_by}
+use Rattle.std.proofs.lemmas.List.Recursion.{is_count_by}
 use Rattle.sources.specs.Image.{cells_marked}
 
 -- how many have a mark
-pub marked-count : (k : ℕ) (l : List ℕ) → count_by (λ (m : ℕ). eqb m k) l ≡ cells_marked k l
+pub marked-count : (k : ℕ) (l : List ℕ) → cells_marked k l ≡ count_by (λ (m : ℕ). eqb m k) l
 unfolding cells_marked
-marked-count k [] = refl
-marked-count k (m ∷ l) = go (eqb m k) (marked-count k l)
-  where
-    go : (b : Bool) → count_by (λ (x : ℕ). eqb x k) l ≡ cells_marked k l
-        → cond b 1 0 + count_by (λ (x : ℕ). eqb x k) l ≡ cond b (suc (cells_marked k l)) (cells_marked k l)
-    go true e = omega (arith, e)
-    go false e = omega (arith, e)
+marked-count k l =
+    is_count_by (cells_marked k) (λ (m : ℕ). eqb m k) refl
+    (λ m ms. let q : suc (cells_marked k ms) ≡ 1 + cells_marked k ms = omega arith in ap (λ (n : ℕ). cond (eqb m k) n (cells_marked k ms)) q) l
 
 pub take-zeros : (n m : ℕ) → m ≤ n → take m (replicate n zero) ≡ replicate m zero
 take-zeros zero zero h = refl
