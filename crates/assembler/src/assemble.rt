@@ -11,7 +11,6 @@ ghost use Rattle.walking.specs.Inner.Walking.{Lent};
 ghost use Rattle.assembler.specs.Promise.{told, refusal, Replies};
 ghost use Rattle.assembler.specs.Inner.Parts.{refusal_at, outcome, outcome_by, outcome_of_uses, outcome_of};
 
-use settling::Unsettled;
 use super::Reply;
 use super::counting::counted;
 use codes::limits::{LONGEST_SOURCE, MOST_CELLS, MOST_LABELS};
@@ -22,8 +21,8 @@ use labels::chains::KEY_CELLS;
 use settling::settle::settle;
 use sources::Line;
 use uses::keeping::{MOST_USES, ROW_CELLS};
-use walking::{Walked, Stopped};
 use walking::walk::walk;
+use walking::{Stopped, Walked};
 
 fn refused(number: u8, line: Line, column: Column, place: u8) -> Reply
     ensures { told result ≡ refusal (number on line.0) column.0 place }
@@ -95,9 +94,9 @@ fn settle_and_accept(
         cells.old marks.now memory.old map.old }
 {
     match settle(s, starts, keys, values, labels, row, aways, uses, cells) {
-        Err(Unsettled { number, line, second }) => {
-            let column = name_in(s, line.0, number, second);
-            refused(number, line, column, 0)
+        Err(why) => {
+            let column = name_in(s, why.line.0, why.number, why.second);
+            refused(why.number, why.line, column, 0)
         }
         Ok(()) => accept(cells, marks, memory, map),
     }

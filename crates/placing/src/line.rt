@@ -5,9 +5,9 @@ ghost use Rattle.codes.specs.Limits.{most_cells, longest_source};
 ghost use Rattle.labels.specs.Inner.Labels.{Part, Rows};
 ghost use Rattle.placing.specs.Inner.State.{place_in, Fair, FairDid, TellsLine};
 
+use super::Counters;
 use super::declaring::declare;
 use super::placing::place_statement;
-use super::Counters;
 use statements::LineRead;
 use values::Name;
 

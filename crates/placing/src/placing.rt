@@ -5,15 +5,15 @@ ghost use Rattle.sources.specs.Placing.{moved_by};
 ghost use Rattle.sources.specs.Inner.Assembling.{gives_start, reserves_too_far};
 ghost use Rattle.placing.specs.Inner.State.{state_of, Fair, FairDid, Keeps, WithNames, TellsAct, TellsStatement, Sound, past_at};
 
-use statements::{Statement, Failure};
+use super::Counters;
 use super::acts::act;
 use super::claims::{is_taken, paint};
 use super::naming::bind_by;
-use super::Counters;
 use codes::limits::MOST_CELLS;
 use isa::Address;
 use sources::{Act, Gives, Moves};
 use statements::refusals::number_of;
+use statements::{Failure, Statement};
 
 // A label that waits would get 65,536.
 fn label_out(g: Gives, waiting: usize, at: usize) -> bool
@@ -98,8 +98,6 @@ pub(crate) fn place_statement(
         × ((k : ℕ) → WithNames c (λ ws. TellsStatement (length marks.old) s
         (state_of ws values.old marks.old c) (state_of ws values.new marks.new) k result)) }
 {
-    match s {
-        Err(why) => Err(number_of(why)),
-        Ok(says) => place(values, marks, c, act(says)),
-    }
+    let says = s.map_err(number_of)?;
+    place(values, marks, c, act(says))
 }

@@ -35,7 +35,11 @@ pub fn settle(
         let w = match word(s, starts, keys, values, count, start, size, cell, away) {
             Ok(w) => w,
             Err(number) => {
-                return Err(Unsettled { number, line: Line(line), second: line == before });
+                return Err(Unsettled {
+                    number,
+                    line: Line(line),
+                    second: line == before,
+                });
             }
         };
         put(cells, cell, w);

@@ -13,15 +13,15 @@ ghost use Rattle.walking.specs.Inner.Walking.{Lent, work_in, SaysLines, Holds, E
 
 use super::noting::note_statement;
 use super::writing::write_statement;
-use super::{Lines, Walked, Stopped};
+use super::{Lines, Stopped, Walked};
 use codes::limits::MOST_CELLS;
 use isa::Address;
+use placing::Counters;
 use placing::line::place_line;
 use placing::naming::bind_here;
-use placing::Counters;
 use sources::Line;
 use statements::line::read_line;
-use statements::{Statement, Failure};
+use statements::{Failure, Statement};
 use tokens::lines::line_end;
 
 // Where the next line starts; behind END, the source's end.
@@ -94,13 +94,18 @@ fn walk_lines(
         let read = read_line(line);
         let at = c.at.0;
         number += 1;
-        c = place_line(s, from, line, read, starts, keys, values, marks, c)
-            .map_err(|f| Stopped::InLine(f, Line(number)))?;
+        c = place_line(s, from, line, read, starts, keys, values, marks, c).map_err(
+            |f| Stopped::InLine(f, Line(number)),
+        )?;
         let st = read.statement;
         uses = keep_line(line, from, number, st, at, cells, row, aways, uses);
         from = next_line(st, end + 1, s.len());
     }
-    Ok(Lines { counters: c, uses, last: Line(number) })
+    Ok(Lines {
+        counters: c,
+        uses,
+        last: Line(number),
+    })
 }
 
 // A label that waits at the source's end would get 65,536.
@@ -126,7 +131,11 @@ pub fn walk(
         (Holds s.now starts.new keys.new values.new marks.new
         cells.new row.new aways.new) result }
 {
-    let Lines { counters, uses, last } = walk_lines(s, starts, keys, values, marks, cells, row, aways)?;
+    let Lines {
+        counters,
+        uses,
+        last,
+    } = walk_lines(s, starts, keys, values, marks, cells, row, aways)?;
     let at = counters.at.0;
     if is_late(counters.waiting, at) {
         return Err(Stopped::Late(last));

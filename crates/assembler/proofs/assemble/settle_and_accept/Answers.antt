@@ -16,7 +16,7 @@ returns-in-Err c =
     let a = c.args in
     let bs = labels_in a.s.now a.starts.now a.keys.now a.values.now a.labels in
     let us = uses_held a.s.now a.row.now a.aways.now a.uses in
-    not-settled a.memory.now a.map.now a.s.now c.settle.result c.in-Err.field-0.number c.in-Err.field-0.line c.in-Err.field-0.second
+    not-settled a.memory.now a.map.now a.s.now c.settle.result c.in-Err.why.number c.in-Err.why.line c.in-Err.why.second
     (uses_verdict bs us) (second_refused 0 bs us) (filled bs us a.cells.now) c.settle.new.cells a.marks.now
     named.result.0 _ c.in-Err.is c.settle.ensures named.ensures c.refused.ensures
 

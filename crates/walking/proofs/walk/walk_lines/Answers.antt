@@ -2,14 +2,11 @@
 use borrow.Author.Rules.{rules}
 use native.Mathlib.Omega.{arith}
 use Prim.Native.Nat.{◌+◌, ◌≤◌}
-use mathlib.Core.Path.{◌≡◌, refl, sym, ap, subst, ◌∙◌}
+use mathlib.Core.Path.{◌≡◌, refl, sym, ap, ◌∙◌}
 use lib.ListN.{length}
-use Rattle.std.proofs.Common.{ℕ, Result, Ok, Err, MatchResult, IsErrAnd}
 use Rattle.std.proofs.lemmas.Result.{err_from_is_err_and}
 use Rattle.statements.specs.declared.LineRead.{LineRead}
-use Rattle.statements.proofs.Labelling.{never}
-use Rattle.placing.specs.declared.Counters.{Counters}
-use Rattle.walking.specs.declared.Stopped.{Stopped}
+use Rattle.placing.proofs.Mapped.{mapped-ok, mapped-err}
 use Rattle.walking.specs.declared.Stopped.TheVariants.{InLine}
 use Rattle.placing.specs.Inner.State.{place_in}
 use Rattle.walking.proofs.Walks.{left_at_start, end-within, line_part, further, line-fits, turns_over, turn-stops, turn-room, turn-goes}
@@ -44,20 +41,6 @@ place_line-requires c =
           (length a.aways.now) p.c p.from p.number p.uses p.invariant test e pre.short,
       line_part s p.from c.line_end-end.result,
     )
-
--- what passes is as `place_line` answered it
-mapped-ok : (r : Result Counters ℕ) {m : Result Counters Stopped} {d : Counters} (P : ℕ → Stopped → Type 0) → MatchResult r (λ x. m ≡ Ok x) (λ f. IsErrAnd m (P f))
-    → m ≡ Ok d
-    → r ≡ Ok d
-mapped-ok (Ok x) P h e = cc
-mapped-ok (Err f) P h e = absurd (subst (λ (x : Result Counters Stopped). IsErrAnd x (P f)) e h)
-
--- what fails has its number, and the closure has told the line
-mapped-err : (r : Result Counters ℕ) {m : Result Counters Stopped} {why : Stopped} (P : ℕ → Stopped → Type 0) → MatchResult r (λ x. m ≡ Ok x) (λ f. IsErrAnd m (P f))
-    → m ≡ Err why
-    → (f : ℕ) × (r ≡ Err f) × P f why
-mapped-err (Ok x) P h e = never (cc)
-mapped-err (Err f) P h e = (f, refl, subst (λ (x : Result Counters Stopped). IsErrAnd x (P f)) e h)
 
 pub returns-in_err-c : goal.returns-in_err-c
 returns-in_err-c c =
