@@ -69,20 +69,6 @@ pub in_line : (line : List ℕ) (p : ℕ) → p ≤ length line → column_at li
 unfolding column_at
 in_line line p h = rw (le-leb p (length line) h)
 
-pub past-line : (line : List ℕ) (p : ℕ) → length line < p → column_at line p ≡ 0
-unfolding column_at
-past-line line p h = rw (lt-leb p (length line) h)
-
--- the label's column, by the label that was read
-module _ (line : List ℕ) {l : Option Name} (read : l ≡ label_read (tokens_from line 0)) where
-  pub no_label : l ≡ None → label_column line ≡ 0
-  unfolding label_column
-  no_label e = ap (label_column_by line) (sym read ∙ e)
-
-  pub label-there : {n : Name} → l ≡ Some n → label_column line ≡ column_at line n.start
-  unfolding label_column
-  label-there e = ap (label_column_by line) (sym read ∙ e)
-
 -- the word's column and a failure's, by the token after any label
 module _ (line : List ℕ) (w : Token) (behind : after_label (tokens_from line 0) ≡ begun_by line w) where
   pub no-word : is_word w.kind ≡ false → word_column line ≡ 0
@@ -100,13 +86,6 @@ module _ (line : List ℕ) (w : Token) (behind : after_label (tokens_from line 0
 -- ---- a failure
 
 module _ (line : List ℕ) where
-  -- what the code says by the word and by the failure that it found
-  pub out-by : (ts : List Token) {x y : Word} {r : ℕ} → r ≡ out_place line y ts → x ≡ y → r ≡ out_place line x ts
-  out-by ts e f = e ∙ sym (ap (λ (z : Word). out_place line z ts) f)
-
-  pub place-by : (at : ℕ) (x : Word) (ts : List Token) {f g : Failure} {r : ℕ} → r ≡ place_by line g at x ts → f ≡ g → r ≡ place_by line f at x ts
-  place-by at x ts e h = e ∙ sym (ap (λ (z : Failure). place_by line z at x ts) h)
-
   -- the statement that a token begins, by what its word means
   pub by_its_word : (w : Token) (why : Failure) {x : Word} {r : ℕ} → is_word w.kind ≡ true → x ≡ word_of (word_at line w)
       → r ≡ place_by line why w.start x (tokens_from line w.next.at) → r ≡ place_in line why (begun_by line w)
@@ -116,19 +95,6 @@ module _ (line : List ℕ) where
 -- ---- what is pointed at
 
 module _ (line : List ℕ) where
-  pub passes-again : {l : LineRead} {s : Statement} {c : ℕ} {r : Pointed} → r ≡ pointed_at c 0 → l ≡ line_read line → l.statement ≡ Ok s
-      → c ≡ word_column line → r ≡ read_again line
-  unfolding read_again
-  passes-again e f g h = e ∙ ap (λ (k : ℕ). pointed_at k 0) h ∙ sym (ap (again_by line) (ap (λ (x : LineRead). x.statement) (sym f) ∙ g))
-
-  pub fails-again : {l : LineRead} {why : Failure} {c p : ℕ} → l ≡ line_read line → l.statement ≡ Err why → c ≡ column_of line why
-      → p ≡ operand_of why → pointed_at c p ≡ read_again line
-  unfolding read_again
-  fails-again {why = why} {c} {p} f g h k =
-      ap (λ (x : ℕ). pointed_at x p) h
-      ∙ ap (λ (x : ℕ). pointed_at (column_of line why) x) k
-      ∙ sym (ap (again_by line) (ap (λ (x : LineRead). x.statement) (sym f) ∙ g))
-
   -- by the number
   pub of_label : {number : ℕ} → (number ≡ 9) ⊎ (number ≡ 10) → pointed line number ≡ pointed_at (label_column line) 0
   unfolding pointed

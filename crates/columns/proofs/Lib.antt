@@ -1,7 +1,6 @@
 -- Laws by topic; Top.antt restates what is shown.
 pub mod Found
 pub mod LineStarts
-pub mod NameColumns
 pub mod Bounds
 pub mod Exactly
 pub mod Refused

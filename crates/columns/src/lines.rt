@@ -27,20 +27,24 @@ pub fn line_start(source: &[u8], number: usize) -> usize
     from
 }
 
+// The line of a number; behind the last line, one of no byte.
+fn line_numbered(source: &[u8], number: usize) -> &[u8]
+    ensures { result.now ≡ line_numbered source.now number }
+{
+    let from = line_start(source, number);
+    &source[from..line_end(source, from)]
+}
+
 // What a line of a source points at that is refused with a number.
 pub fn pointed_in(source: &[u8], line: usize, number: u8) -> Pointed
     ensures { result ≡ pointed (line_numbered source.now line) number }
 {
-    let from = line_start(source, line);
-    let end = line_end(source, from);
-    pointed(&source[from..end], number)
+    pointed(line_numbered(source, line), number)
 }
 
 // The same of a line that passes, whose first or second name in operands is refused.
 pub fn name_in(source: &[u8], line: usize, number: u8, second: bool) -> Column
     ensures { result.0 ≡ name_column (line_numbered source.now line) number second }
 {
-    let from = line_start(source, line);
-    let end = line_end(source, from);
-    name_column(&source[from..end], number, second)
+    name_column(line_numbered(source, line), number, second)
 }

@@ -77,6 +77,7 @@ fn beside(column: Column) -> Pointed
 }
 
 // By the line's reading: a line that passes its own checks was refused for an address.
+#[tactic(auto, unfolding(crate::specs::Columns::read_again))]
 fn read_again(line: &[u8]) -> Pointed
     ensures { result ≡ read_again line.now }
 {
@@ -90,6 +91,7 @@ fn read_again(line: &[u8]) -> Pointed
 }
 
 // What a line that is refused with a number points at.
+#[tactic(auto, unfolding(crate::specs::Columns::pointed))]
 pub fn pointed(line: &[u8], number: u8) -> Pointed
     ensures { result ≡ pointed line.now number }
 {

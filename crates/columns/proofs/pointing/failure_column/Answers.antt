@@ -6,4 +6,4 @@ use Rattle.columns.proofs.pointing.failure_column.Goals as goal
 pub returns : goal.returns
 returns c =
     let a = c.args in
-    c.column_at.ensures ∙ failure_at a.line.now c.label-found.result.word c.label-found.ensures.behind a.why c.place_in.ensures
+    c.column_at.ensures ∙ failure_at a.line.now c.label.result.word c.label.ensures.behind a.why c.place_in.ensures
