@@ -3,10 +3,10 @@ use Prim.Native.Nat.{ℕ, zero, suc, ◌+◌, ◌-◌, ◌≤◌, ◌<◌}
 use mathlib.Core.Bool.{true, false}
 use mathlib.Core.List.{List, [], ◌∷◌}
 use mathlib.Core.Logic.{◌⊎◌, inl, inr}
-use mathlib.Core.Path.{◌≡◌, refl, sym, ap, ◌∙◌}
+use mathlib.Core.Path.{◌≡◌, refl, ap, ◌∙◌}
 use native.Mathlib.Omega.{arith}
 use lib.ListN.{length, get_or}
-use borrow.Author.Tests.{ne_eqb, le-leb, lt-leb}
+use borrow.Author.Tests.{ne_eqb, le-leb}
 use Rattle.tokens.specs.Bytes.{is_blank}
 use Rattle.tokens.specs.Reading.{tokens_from}
 use Rattle.tokens.specs.declared.Kind.{Kind}
@@ -14,21 +14,15 @@ use Rattle.tokens.specs.declared.Kind.TheVariants as K
 use Rattle.tokens.specs.declared.Token.{Token}
 use Rattle.names.specs.Names.{word_of}
 use Rattle.names.specs.declared.Word.{Word}
-use Rattle.std.proofs.Common.{Option, Some, None, Ok, Err}
-use Rattle.values.specs.declared.Name.{Name}
 use Rattle.operands.specs.Operands.{word_at}
-use Rattle.statements.specs.Reading.{is_word, label_read, after_label, line_read}
+use Rattle.statements.specs.Reading.{is_word}
 use Rattle.statements.specs.Inner.Parts.{begun_by}
 use Rattle.statements.specs.declared.Failure.{Failure}
-use Rattle.statements.specs.declared.LineRead.{LineRead}
-use Rattle.statements.specs.declared.Statement.{Statement}
 use Rattle.statements.proofs.Beginning.{row_by}
 use Rattle.statements.proofs.CellsGiven.{word_row}
 use Rattle.statements.proofs.Labelling.{never}
 use Rattle.faults.specs.Walk.{place}
-use Rattle.columns.specs.Columns.{column_at, label_column_by, label_column, word_column_in, word_column, mark_before, out_place, place_by, place_in, column_of, pointed_at, again_by, read_again, pointed}
-use Rattle.columns.specs.Points.{operand_of}
-use Rattle.columns.specs.declared.Pointed.{Pointed}
+use Rattle.columns.specs.Columns.{column_at, label_column, word_column_in, word_column, mark_before, place_by, place_in, pointed_at, read_again, pointed}
 
 -- ---- the row that a token begins
 
@@ -50,47 +44,24 @@ module _ (line : List ℕ) (w : Token) where
   unfolding word_column_in
   no_word_column e = other_row (word_column_in line) 0 e refl (λ ts. rw e)
 
-  pub word-column : is_word w.kind ≡ true → word_column_in line (begun_by line w) ≡ column_at line w.start
+  pub some_word_column : is_word w.kind ≡ true → word_column_in line (begun_by line w) ≡ column_at line w.start
   unfolding word_column_in
-  word-column e = ap (word_column_in line) (word_row line w e) ∙ rw e
+  some_word_column e = ap (word_column_in line) (word_row line w e) ∙ rw e
 
   pub no_word_place : (why : Failure) → is_word w.kind ≡ false → place_in line why (begun_by line w) ≡ place line
   unfolding place_in
   no_word_place why e = other_row (place_in line why) (place line) e refl (λ ts. rw e)
 
-  pub word-place : (why : Failure) → is_word w.kind ≡ true
+  pub some_word_place : (why : Failure) → is_word w.kind ≡ true
       → place_in line why (begun_by line w) ≡ place_by line why w.start (word_of (word_at line w)) (tokens_from line w.next.at)
   unfolding place_in
-  word-place why e = ap (place_in line why) (word_row line w e) ∙ rw e
+  some_word_place why e = ap (place_in line why) (word_row line w e) ∙ rw e
 
 -- ---- columns
 
 pub in_line : (line : List ℕ) (p : ℕ) → p ≤ length line → column_at line p ≡ p + 1
 unfolding column_at
 in_line line p h = rw (le-leb p (length line) h)
-
--- the word's column and a failure's, by the token after any label
-module _ (line : List ℕ) (w : Token) (behind : after_label (tokens_from line 0) ≡ begun_by line w) where
-  pub no-word : is_word w.kind ≡ false → word_column line ≡ 0
-  unfolding word_column
-  no-word e = ap (word_column_in line) behind ∙ no_word_column line w e
-
-  pub word-there : is_word w.kind ≡ true → word_column line ≡ column_at line w.start
-  unfolding word_column
-  word-there e = ap (word_column_in line) behind ∙ word-column line w e
-
-  pub failure_at : (why : Failure) {p : ℕ} → p ≡ place_in line why (begun_by line w) → column_at line p ≡ column_of line why
-  unfolding column_of
-  failure_at why e = ap (column_at line) (e ∙ ap (place_in line why) (sym behind))
-
--- ---- a failure
-
-module _ (line : List ℕ) where
-  -- the statement that a token begins, by what its word means
-  pub by_its_word : (w : Token) (why : Failure) {x : Word} {r : ℕ} → is_word w.kind ≡ true → x ≡ word_of (word_at line w)
-      → r ≡ place_by line why w.start x (tokens_from line w.next.at) → r ≡ place_in line why (begun_by line w)
-  by_its_word w why e f g =
-      g ∙ ap (λ (z : Word). place_by line why w.start z (tokens_from line w.next.at)) f ∙ sym (word-place line w why e)
 
 -- ---- what is pointed at
 
@@ -114,18 +85,18 @@ module _ (line : List ℕ) where
 -- ---- the mark before a name
 
 module _ (line : List ℕ) where
-  pub blank-before : (at : ℕ) → 0 < at → is_blank (get_or line (at - 1) 0) ≡ true → mark_before line at ≡ mark_before line (at - 1)
+  pub blank_before : (at : ℕ) → 0 < at → is_blank (get_or line (at - 1) 0) ≡ true → mark_before line at ≡ mark_before line (at - 1)
   unfolding mark_before
-  blank-before zero l e = absurd (omega (arith, l))
-  blank-before (suc p) l e =
+  blank_before zero l e = absurd (omega (arith, l))
+  blank_before (suc p) l e =
       let z : suc p - 1 ≡ p = omega arith in
       let f : is_blank (get_or line p 0) ≡ true = rw z at e in
       rw (f, z)
 
-  pub mark-stands : (at : ℕ) → 0 < at → is_blank (get_or line (at - 1) 0) ≡ false → mark_before line at ≡ at - 1
+  pub mark_stands : (at : ℕ) → 0 < at → is_blank (get_or line (at - 1) 0) ≡ false → mark_before line at ≡ at - 1
   unfolding mark_before
-  mark-stands zero l e = absurd (omega (arith, l))
-  mark-stands (suc p) l e =
+  mark_stands zero l e = absurd (omega (arith, l))
+  mark_stands (suc p) l e =
       let z : suc p - 1 ≡ p = omega arith in
       let f : is_blank (get_or line p 0) ≡ false = rw z at e in
       rw (f, z)

@@ -52,16 +52,16 @@ module _ (s : List ℕ) where
   start-within zero from l = l
   start-within (suc i) from l = start-within i (next_start s from) (next-within from)
 
-  pub start-more : (left from : ℕ) → 0 < left → start_after s left from ≡ start_after s (left - 1) (next_start s from)
+  pub start_more : (left from : ℕ) → 0 < left → start_after s left from ≡ start_after s (left - 1) (next_start s from)
   unfolding start_after
-  start-more zero from l = absurd (omega (arith, l))
-  start-more (suc i) from l =
+  start_more zero from l = absurd (omega (arith, l))
+  start_more (suc i) from l =
       let a : suc i - 1 ≡ i = omega arith in
       rw a
 
-  pub start-there : (left from : ℕ) → left ≤ 0 → start_after s left from ≡ from
+  pub start_there : (left from : ℕ) → left ≤ 0 → start_after s left from ≡ from
   unfolding start_after
-  start-there left from l =
+  start_there left from l =
       let a : left ≡ 0 = omega (arith, l) in
       rw a
 

@@ -23,7 +23,7 @@ use Rattle.tokens.proofs.Places.{here-stands}
 use Rattle.tokens.proofs.Top.{line_row, one-row}
 use Rattle.statements.proofs.Labelling.{never, goes_on_lem}
 use Rattle.columns.specs.Columns.{mark_before}
-use Rattle.columns.proofs.Found.{blank-before, mark-stands}
+use Rattle.columns.proofs.Found.{blank_before, mark_stands}
 
 -- a mark is no blank
 solid : (b : ℕ) → T (is_mark b) → is_blank b ≡ false
@@ -48,7 +48,7 @@ module _ (line : List ℕ) where
           let z : at + suc n ≡ at + 1 + n = omega arith in
           let y : at + 1 - 1 ≡ at = omega arith in
           let f' : is_blank (get_or line (at + 1 - 1) 0) ≡ true = ap (λ (p : ℕ). is_blank (get_or line p 0)) y ∙ f in
-          ap (mark_before line) z ∙ h g ∙ blank-before line (at + 1) (omega arith) f' ∙ ap (mark_before line) y
+          ap (mark_before line) z ∙ h g ∙ blank_before line (at + 1) (omega arith) f' ∙ ap (mark_before line) y
       by_byte l false f = absurd (omega (arith, blanks-stop line at l f, e))
 
       by_place : (q : Bool) → ltb at (length line) ≡ q → mark_before line (at + suc n) ≡ mark_before line at
@@ -76,7 +76,7 @@ module _ (line : List ℕ) where
       let q : e ≡ p + 1 = omega (arith, w.0, w.1, ap length m.1, length-drop p line, length-drop e line) in
       let y : p + 1 - 1 ≡ p = omega arith in
       let s : is_blank (get_or line (p + 1 - 1) 0) ≡ false = ap (λ (x : ℕ). is_blank (get_or line x 0)) y ∙ ap is_blank i ∙ solid b m.0 in
-      ap (mark_before line) q ∙ mark-stands line (p + 1) (omega arith) s ∙ y
+      ap (mark_before line) q ∙ mark_stands line (p + 1) (omega arith) s ∙ y
     where
       same_head : {x y : ℕ} {xs ys : List ℕ} → x ∷ xs ≡ y ∷ ys → x ≡ y
       same_head e = cc

@@ -13,10 +13,15 @@ fn next_start(source: &[u8], from: usize) -> usize
     ensures { result ≡ next_start source.now from }
 {
     let end = line_end(source, from);
-    if end < source.len() { end + 1 } else { source.len() }
+    if end < source.len() {
+        end + 1
+    } else {
+        source.len()
+    }
 }
 
 // Where the line of a number starts; behind the last line, the source's end.
+#[tactic(auto, using(crate::proofs::LineStarts::start_more, crate::proofs::LineStarts::start_there))]
 pub fn line_start(source: &[u8], number: usize) -> usize
     ensures { result ≡ line_start source.now number }
 {
@@ -28,6 +33,7 @@ pub fn line_start(source: &[u8], number: usize) -> usize
 }
 
 // The line of a number; behind the last line, one of no byte.
+#[tactic(auto, using(crate::proofs::LineStarts::part_within, crate::proofs::LineStarts::part_there))]
 fn line_numbered(source: &[u8], number: usize) -> &[u8]
     ensures { result.now ≡ line_numbered source.now number }
 {

@@ -2,11 +2,11 @@
 ghost use Rattle.std.specs.Prelude.{◌≡◌};
 ghost use Rattle.columns.specs.Columns.{name_by, name_column_at, name_column_in, name_column};
 
-use values::Name;
 use super::Column;
 use super::own::{column_at, mark_before};
-use statements::line::read_line;
 use statements::Statement;
+use statements::line::read_line;
+use values::Name;
 
 // The first operand's label, or the second's.
 fn name_by(a: Option<Name>, b: Option<Name>, second: bool) -> Option<Name>
@@ -30,7 +30,11 @@ fn name_column_in(line: &[u8], number: u8, second: bool, says: Statement) -> Col
     ensures { result.0 ≡ name_column_in line.now number second says }
 {
     match says {
-        Statement::Instruction(_, a, b) => name_column_at(line, number, name_by(a.label, b.label, second)),
+        Statement::Instruction(_, a, b) => name_column_at(
+            line,
+            number,
+            name_by(a.label, b.label, second),
+        ),
         _ => Column(0),
     }
 }

@@ -12,7 +12,11 @@ use tokens::tokens::is_blank;
 pub(crate) fn column_at(line: &[u8], place: usize) -> Column
     ensures { result.0 ≡ column_at line.now place }
 {
-    if place <= line.len() { Column(place + 1) } else { Column(0) }
+    if place <= line.len() {
+        Column(place + 1)
+    } else {
+        Column(0)
+    }
 }
 
 // The label's column; 0 where the line has none.
@@ -27,11 +31,16 @@ pub fn label_column(line: &[u8]) -> Column
 }
 
 // The column of the statement's word; 0 where the line has none.
+#[tactic(auto, using(crate::proofs::Found::no_word_column, crate::proofs::Found::some_word_column), unfolding(crate::specs::Columns::word_column))]
 pub fn word_column(line: &[u8]) -> Column
     ensures { result.0 ≡ word_column line.now }
 {
     let w = label(line).word;
-    if is_word(w.kind) { column_at(line, w.start) } else { Column(0) }
+    if is_word(w.kind) {
+        column_at(line, w.start)
+    } else {
+        Column(0)
+    }
 }
 
 // Whether a blank stands at a place; past the line's end none does.
@@ -43,6 +52,7 @@ fn blank_at(line: &[u8], at: usize) -> bool
 }
 
 // The place, from 0, of what stands before the name that starts at a place: its operand's mark, with blanks between or none.
+#[tactic(auto, using(crate::proofs::Found::blank_before, crate::proofs::Found::mark_stands, crate::proofs::Found::none_before))]
 pub fn mark_before(line: &[u8], name: usize) -> usize
     ensures { result ≡ mark_before line.now name }
 {

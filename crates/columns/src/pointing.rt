@@ -13,9 +13,9 @@ use names::Word;
 use names::lookup::statement_word;
 use numerals::Cursor;
 use operands::places::operand_start;
+use statements::Failure;
 use statements::labels::{is_word, label};
 use statements::line::read_line;
-use statements::Failure;
 use tokens::Token;
 
 // The number out of range behind a statement's word: an operand's, an item's, or in an expression a number or an operation's mark.
@@ -45,15 +45,23 @@ fn place_by(line: &[u8], why: Failure, at: usize, word: Word, from: Cursor) -> u
 }
 
 // The same of the statement that a token begins.
+#[tactic(auto, using(crate::proofs::Found::no_word_place, crate::proofs::Found::some_word_place))]
 fn place_in(line: &[u8], why: Failure, w: Token) -> usize
     ensures { result ≡ place_in line.now why (begun_by line.now w) }
 {
     if !is_word(w.kind) {
         return place(line);
     }
-    place_by(line, why, w.start, statement_word(line, w.start, w.next.at), w.next)
+    place_by(
+        line,
+        why,
+        w.start,
+        statement_word(line, w.start, w.next.at),
+        w.next,
+    )
 }
 
+#[tactic(auto, unfolding(crate::specs::Columns::column_of))]
 fn failure_column(line: &[u8], why: Failure) -> Column
     ensures { result.0 ≡ column_of line.now why }
 {
@@ -90,7 +98,7 @@ fn read_again(line: &[u8]) -> Pointed
     }
 }
 
-// What a line that is refused with a number points at.
+// What a line that is refused with a number points at. The numbers are document 01's, and the promise is for each of them: no enum.
 #[tactic(auto, unfolding(crate::specs::Columns::pointed))]
 pub fn pointed(line: &[u8], number: u8) -> Pointed
     ensures { result ≡ pointed line.now number }
