@@ -1,4 +1,4 @@
--- An operand, found: a register by its code, a cell by its address, and past the modes the seventh. Assumes nothing.
+-- An operand, found: a cell counted from a register, and past the modes the seventh. Assumes nothing.
 use mathlib.Core.Path.{◌≡◌, ap}
 use mathlib.Core.Bool.{true, false}
 use mathlib.Core.List.{List}
@@ -22,43 +22,9 @@ use Rattle.effects.specs.declared.Located.{Located}
 abbrev pub cell_of : List ℕ → ℕ → Located
 cell_of m a = located_at (length m) (InCell a) (get_or m a 0)
 
-module _ (m : List ℕ) (a : ℕ) where
-  pub cell-inside : a < length m → cell_of m a ≡ record { place = InCell a; value = get_or m a 0; fault = none }
-  unfolding there_in
-  cell-inside h = rw (lt-ltb a (length m) h)
-
-  pub cell-outside : length m ≤ a → cell_of m a ≡ record { place = InCell a; value = 0; fault = memory_end }
-  unfolding there_in
-  cell-outside h = rw (le-ltb a (length m) h, get_or-eq_default m 0 h)
-
 -- a cell counted from a register
 pub counted : (m r : List ℕ) (k d : ℕ) {a : ℕ} → a ≡ plus (get_or r k 0) d → cell_of m a ≡ cell_of m (plus (get_or r k 0) d)
 counted m r k d e = ap (cell_of m) e
-
-module _ (r m : List ℕ) (next : ℕ) where
-  pub register-below : (k : ℕ) → k < PC → locate r m next (Register k) ≡ record { place = InRegister k; value = get_or r k 0; fault = none }
-  unfolding locate place_of value_at there_in see
-  register-below k h = rw (lt-ltb k 16 (omega arith), ne_eqb k PC (omega arith))
-
-  pub register-last : (k : ℕ) → k ≡ PC → locate r m next (Register k) ≡ record { place = InRegister PC; value = next % 65536; fault = none }
-  unfolding locate place_of value_at there_in see
-  register-last k e = rw e
-
-  pub register-past : (k : ℕ) → 16 ≤ k → locate r m next (Register k) ≡ unregistered
-  unfolding locate
-  register-past k h = rw (le-ltb k 16 h)
-
-  pub behind-below : (k : ℕ) → k < PC → locate r m next (Indirect k) ≡ cell_of m (get_or r k 0)
-  unfolding locate place_of value_at see
-  behind-below k h = rw (lt-ltb k 16 (omega arith), ne_eqb k PC (omega arith))
-
-  pub behind-last : (k : ℕ) → k ≡ PC → locate r m next (Indirect k) ≡ cell_of m (next % 65536)
-  unfolding locate place_of value_at see
-  behind-last k e = rw e
-
-  pub behind-past : (k : ℕ) → 16 ≤ k → locate r m next (Indirect k) ≡ unregistered
-  unfolding locate
-  behind-past k h = rw (le-ltb k 16 h)
 
 -- past the seven modes before it
 pub relative-operand : (k : Kinds) (mode word : ℕ) → 7 ≤ mode → is_target k ≡ true → operand_of k mode word ≡ Relative word

@@ -22,6 +22,7 @@ fn put(row: &mut [u16], at: usize, v: u16)
     }
 }
 
+#[tactic(auto, unfolding(crate::specs::Applied::with_register))]
 fn put_register(r: &mut [u16; 16], k: usize, v: u16)
     ensures { r.new ≡ with_register r.old k v }
 {
@@ -49,6 +50,7 @@ fn put_flags(r: &mut [u16; 16], flags: Option<usize>)
 }
 
 // The registers after an effect.
+#[tactic(auto, unfolding(crate::specs::Applied::registers_after))]
 pub fn change_registers(r: &mut [u16; 16], e: Effect)
     ensures { r.new ≡ registers_after r.old e }
 {

@@ -15,6 +15,7 @@ use codes::stops::{MEMORY_END, NO_REGISTER, NONE};
 use isa::{Kinds, Opcode};
 
 // One line for each opcode. `p` and `q` are the operands' places, `x` and `y` what stands there.
+#[tactic(auto, unfolding(crate::specs::Effects::by_opcode))]
 fn by_opcode(
     m: &[u16],
     next: usize,
@@ -118,6 +119,7 @@ fn judged(op: Opcode, a: u8, b: u8) -> u8
 }
 
 // What an instruction comes to, its operands being found and its address after it being `next`. Nothing is written.
+#[tactic(auto, unfolding(crate::specs::Inner::Located::performs_on))]
 pub fn perform(
     r: &[u16; 16],
     m: &[u16],

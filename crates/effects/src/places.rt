@@ -35,6 +35,7 @@ fn found(place: Place, value: u16) -> Located
     }
 }
 
+#[tactic(auto, unfolding(crate::specs::Places::there_in))]
 fn at_cell(m: &[u16], a: u16) -> Located
     ensures { result ≡ located_at (length m.now) (Place.InCell a) (get_or m.now a 0) }
 {
@@ -59,6 +60,7 @@ fn no_register() -> Located
     }
 }
 
+#[tactic(auto, unfolding(crate::specs::Inner::Located::locate, crate::specs::Places::place_of, crate::specs::Places::value_at, crate::specs::Places::there_in, crate::specs::Seen::see))]
 fn at_register(r: &[u16; 16], next: usize, code: u16) -> Located
     ensures { (m : List ℕ) → result ≡ locate r.now m next (Operand.Register code) }
 {
@@ -72,6 +74,7 @@ fn at_register(r: &[u16; 16], next: usize, code: u16) -> Located
     no_register()
 }
 
+#[tactic(auto, unfolding(crate::specs::Inner::Located::locate, crate::specs::Places::place_of, crate::specs::Places::value_at, crate::specs::Places::there_in, crate::specs::Seen::see))]
 fn behind(r: &[u16; 16], m: &[u16], next: usize, code: u16) -> Located
     ensures { result ≡ locate r.now m.now next (Operand.Indirect code) }
 {

@@ -92,6 +92,7 @@ pub(crate) fn jumped(next: usize, sp: u16, p: Place, taken: bool) -> Performed
 }
 
 // A value pushed on the way to the next address; a cell outside memory is stop 5.
+#[tactic(auto, unfolding(crate::specs::Effects::pushes, crate::specs::Stack::push_cell, crate::specs::Stack::pushed_sp))]
 pub(crate) fn pushed(m: &[u16], sp: u16, value: u16, next: usize) -> Performed
     ensures { result ≡ pushes m.now sp value next }
 {
@@ -104,6 +105,7 @@ pub(crate) fn pushed(m: &[u16], sp: u16, value: u16, next: usize) -> Performed
 }
 
 // What is popped, written to a place; a cell outside memory is stop 5.
+#[tactic(auto, unfolding(crate::specs::Effects::pops, crate::specs::Stack::pop_cell, crate::specs::Stack::popped_sp))]
 pub(crate) fn popped(m: &[u16], sp: u16, next: usize, place: Place) -> Performed
     ensures { result ≡ pops m.now sp next place }
 {

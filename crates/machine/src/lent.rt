@@ -13,21 +13,22 @@ use effects::apply::{change_memory, change_registers};
 use effects::perform::{has_target, perform};
 use effects::places::located;
 use effects::{Effect, Performed, Place, Port};
-use isa::decoding::{first_word, size_of, word_at};
 use isa::Opcode;
+use isa::decoding::{first_word, size_of, word_at};
 use ports::Taken;
 
 fn answered(stop: u8, completed: bool, taken: usize, written: usize) -> Inner
     ensures { result ≡ record { stop = stop; completed = completed; taken = taken; written = written } }
 {
     Inner {
-        stop: stop,
-        completed: completed,
-        taken: taken,
-        written: written,
+        stop,
+        completed,
+        taken,
+        written,
     }
 }
 
+#[tactic(auto, unfolding(crate::specs::Steps::stop_at))]
 fn stop_at(next: usize, size: usize) -> u8
     ensures { result ≡ stop_at next size }
 {
@@ -38,13 +39,11 @@ fn stop_at(next: usize, size: usize) -> u8
 pub(crate) fn code_after(completed: bool, stop: u8) -> u8
     ensures { result ≡ code_after completed stop }
 {
-    if completed {
-        return stop;
+    if completed || (NO_OPCODE <= stop && stop <= ZERO_DIVISOR) {
+        stop
+    } else {
+        NONE
     }
-    if stop < NO_OPCODE {
-        return NONE;
-    }
-    if stop <= ZERO_DIVISOR { stop } else { NONE }
 }
 
 // An effect, with the positions after it.
@@ -54,10 +53,10 @@ fn do_effect(r: &mut [u16; 16], m: &mut [u16], e: Effect, taken: usize, written:
 {
     change_registers(r, e);
     change_memory(m, e);
-    let stop = stop_at(e.next, m.len());
-    answered(stop, true, taken, written)
+    answered(stop_at(e.next, m.len()), true, taken, written)
 }
 
+#[tactic(auto, unfolding(crate::specs::Steps::halts))]
 fn halt(r: &mut [u16; 16], next: usize, taken: usize, written: usize) -> Inner
     ensures { (m out : List ℕ) → left r.new m out result ≡ halts (running r.old m out taken written) next }
 {
@@ -89,6 +88,7 @@ fn take(
 }
 
 // PC goes on, nothing else of the registers changes.
+#[tactic(auto, unfolding(crate::specs::Steps::goes_on))]
 fn go_on(r: &mut [u16; 16], size: usize, next: usize, taken: usize, written: usize) -> Inner
     ensures { (m m' out out' : List ℕ) (was is : ℕ) → length m ≡ size →
         left r.new m' out' result ≡ goes_on (running r.old m out was is) next taken written m' out' }

@@ -7,23 +7,14 @@ use super::Registers;
 use codes::limits::{LARGEST_SR, LARGEST_STOP_CODE, MOST_CELLS};
 use codes::registers::SR;
 
+#[tactic(auto, unfolding(crate::specs::Stops::good_loan))]
 pub(crate) fn is_good(g: Registers, m: &[u16], input: &[u8], out: &[u8]) -> bool
     ensures { result ≡ good_loan input.now (state g m.now out.now) }
 {
-    if m.len() == 0 {
-        return false;
-    }
-    if MOST_CELLS < m.len() {
-        return false;
-    }
-    if input.len() < g.taken {
-        return false;
-    }
-    if out.len() < g.written {
-        return false;
-    }
-    if LARGEST_SR < g.r[SR] {
-        return false;
-    }
-    g.stop <= LARGEST_STOP_CODE
+    0 < m.len()
+        && m.len() <= MOST_CELLS
+        && g.taken <= input.len()
+        && g.written <= out.len()
+        && g.r[SR] <= LARGEST_SR
+        && g.stop <= LARGEST_STOP_CODE
 }

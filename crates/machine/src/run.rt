@@ -14,9 +14,9 @@ fn ended(registers: Registers, stop: u8, count: u32) -> Ran
     ensures { result ≡ record { registers = registers; stop = stop; count = count } }
 {
     Ran {
-        registers: registers,
-        stop: stop,
-        count: count,
+        registers,
+        stop,
+        count,
     }
 }
 
@@ -38,10 +38,10 @@ fn running_on(g: Registers, m: &mut [u16], input: &[u8], out: &mut [u8], budget:
             let code = code_after(false, a.stop);
             return ended(
                 Registers {
-                    r: r,
+                    r,
                     stop: code,
-                    taken: taken,
-                    written: written,
+                    taken,
+                    written,
                 },
                 a.stop,
                 count,
@@ -51,10 +51,10 @@ fn running_on(g: Registers, m: &mut [u16], input: &[u8], out: &mut [u8], budget:
         if a.stop != NONE {
             return ended(
                 Registers {
-                    r: r,
+                    r,
                     stop: a.stop,
-                    taken: taken,
-                    written: written,
+                    taken,
+                    written,
                 },
                 a.stop,
                 count,
@@ -63,10 +63,10 @@ fn running_on(g: Registers, m: &mut [u16], input: &[u8], out: &mut [u8], budget:
     }
     ended(
         Registers {
-            r: r,
+            r,
             stop: NONE,
-            taken: taken,
-            written: written,
+            taken,
+            written,
         },
         BUDGET_SPENT,
         count,

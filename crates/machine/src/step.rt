@@ -21,10 +21,8 @@ pub fn step(g: Registers, m: &mut [u16], input: &[u8], out: &mut [u8]) -> Steppe
         ≡ reply_of input.now (state g m.old out.old) }
 {
     let ran = run(g, m, input, out, 1);
-    let left = ran.registers;
-    let stop = of_one_step(ran.stop);
     Stepped {
-        registers: left,
-        stop: stop,
+        registers: ran.registers,
+        stop: of_one_step(ran.stop),
     }
 }

@@ -16,7 +16,14 @@ fn longest() -> [u8; 400]
 }
 
 // A record that fits is written at the head of the room.
-fn put(room: &mut [u8], stop: u8, steps: u32, r: [u16; 16], taken: u32, written: u32) -> Result<usize, NotRecorded>
+fn put(
+    room: &mut [u8],
+    stop: u8,
+    steps: u32,
+    r: [u16; 16],
+    taken: u32,
+    written: u32,
+) -> Result<usize, NotRecorded>
     ensures { leaves result room.new ≡ fitted (record_text stop steps r taken written) room.old }
 {
     let mut text = longest();

@@ -9,6 +9,6 @@ use Rattle.machine.proofs.step.step.Goals as goal
 
 pub returns : goal.returns
 returns c =
-    rw c.of_one_step-stop.ensures
+    rw c.of_one_step.ensures
     (ap (λ (e : Ending). reply e.after (of_one_step e.stop)) c.run-ran.ensures ∙
     reply_by_run c.args.input.now (state c.args.g c.args.m.now c.args.out.now))
