@@ -7,6 +7,24 @@ use Rattle.codes.specs.Registers.{A, SR, IX, IY, SP, PC, register_count, is_regi
 use Rattle.codes.specs.Flags.{for_z, for_c, for_v, for_p, for_s, for_h, is_on}
 use Rattle.codes.specs.Stops.{none, halted, no_opcode, no_mode, no_register, memory_end, zero_divisor, budget_spent, input_end, output_short, bad_loan}
 use Rattle.codes.specs.Marks.{free, code_mark, data_mark, reserved_mark, largest_mark}
+use Rattle.codes.specs.Refusals.{number}
+use Rattle.codes.specs.declared.refusals.Refusal.TheVariants.{
+  BadLoan,
+  LongSource,
+  WrongForm,
+  UnknownWord,
+  OutOfRange,
+  ByZero,
+  TooDeep,
+  LabelAgain,
+  LabelPastLimits,
+  PastMemory,
+  ClaimedTwice,
+  UnknownLabel,
+  FarLabel,
+  WrongCount,
+  WrongKind,
+}
 use Rattle.codes.specs.Limits.{
   most_cells,
   longest_source,
@@ -50,6 +68,15 @@ pub stops :
     none ∷ halted ∷ no_opcode ∷ no_mode ∷ no_register ∷ memory_end ∷ zero_divisor ∷ budget_spent ∷ input_end ∷ output_short ∷ bad_loan ∷ []
     ≡ 0 ∷ 1 ∷ 2 ∷ 3 ∷ 4 ∷ 5 ∷ 6 ∷ 7 ∷ 8 ∷ 9 ∷ 10 ∷ []
 stops = refl
+
+-- "1 M or map length wrong, 2 source too long, 3 form, 4 statement's word unknown, 6 number, expression or label address out of range, 7 expression
+-- divides by zero, 8 too deep, 9 label again, 10 a line's label too long, or the 513th, 11 past cell M-1, 12 a cell claimed twice, 13 label unknown,
+-- 14 `$label` outside -32768..32767"; "Split refusal 5 into 15, wrong number of operands, and 16, kind not allowed" (02, K4)
+pub refusals :
+    number BadLoan ∷ number LongSource ∷ number WrongForm ∷ number UnknownWord ∷ number OutOfRange ∷ number ByZero ∷ number TooDeep ∷ number LabelAgain
+    ∷ number LabelPastLimits ∷ number PastMemory ∷ number ClaimedTwice ∷ number UnknownLabel ∷ number FarLabel ∷ number WrongCount ∷ number WrongKind ∷ []
+    ≡ 1 ∷ 2 ∷ 3 ∷ 4 ∷ 6 ∷ 7 ∷ 8 ∷ 9 ∷ 10 ∷ 11 ∷ 12 ∷ 13 ∷ 14 ∷ 15 ∷ 16 ∷ []
+refusals = refl
 
 -- "0 free, 1 code, 2 data"; RES's cells "marked 3 in the map" (02, K2)
 pub marks : free ∷ code_mark ∷ data_mark ∷ reserved_mark ∷ [] ≡ 0 ∷ 1 ∷ 2 ∷ 3 ∷ []

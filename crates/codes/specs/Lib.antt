@@ -4,3 +4,4 @@ pub mod Flags
 pub mod Stops
 pub mod Marks
 pub mod Limits
+pub mod Refusals
