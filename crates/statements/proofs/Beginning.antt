@@ -29,11 +29,6 @@ use Rattle.statements.proofs.Labelling.{never, word-kind, colon_kind}
 
 -- ---- the statement's word
 
--- what the code says by the word that it found
-pub said_by : (line : List ℕ) (at : ℕ) {x y : Word} {st : Result Statement Failure} → st ≡ by_word line y (tokens_from line at) → x ≡ y
-    → st ≡ by_word line x (tokens_from line at)
-said_by line at e f = e ∙ sym (ap (λ (z : Word). by_word line z (tokens_from line at)) f)
-
 module _ (line : List ℕ) (w : Token) where
   -- the row that it begins, by its kind
   pub row_by : {k : Kind} → w.kind ≡ k → begun_by line w ≡ after_kind k w (tokens_from line)
@@ -48,17 +43,16 @@ module _ (line : List ℕ) (w : Token) where
   unfolding statement_read
   no_word_read ts f = rw f
 
-  pub no-word : (k : Kind) → w.kind ≡ k → is_word k ≡ false → (k ≡ K.End → ⊥) → Err WrongForm ≡ statement_read line (begun_by line w)
-  no-word k e f n = sym (ap (statement_read line) (row_by e) ∙ go k e f n)
+  pub no-word : (w.kind ≡ K.End → ⊥) → (w.kind ≡ K.Word → ⊥) → Err WrongForm ≡ statement_read line (begun_by line w)
+  no-word n m = sym (ap (statement_read line) (row_by refl) ∙ go w.kind refl)
     where
-      go : (j : Kind) → w.kind ≡ j → is_word j ≡ false → (j ≡ K.End → ⊥)
-          → statement_read line (after_kind j w (tokens_from line)) ≡ Err WrongForm
-      go K.End e f n = absurd (n refl)
-      go K.Stray e f n = no_word_read [] (ap is_word e ∙ f)
-      go K.Word e f n = never (cc)
-      go (K.Number v r) e f n = no_word_read (tokens_from line w.next.at) (ap is_word e ∙ f)
-      go K.Text e f n = no_word_read (tokens_from line w.next.at) (ap is_word e ∙ f)
-      go (K.Mark b) e f n = no_word_read (tokens_from line w.next.at) (ap is_word e ∙ f)
+      go : (j : Kind) → w.kind ≡ j → statement_read line (after_kind j w (tokens_from line)) ≡ Err WrongForm
+      go K.End e = absurd (n e)
+      go K.Stray e = no_word_read [] (ap is_word e)
+      go K.Word e = absurd (m e)
+      go (K.Number v r) e = no_word_read (tokens_from line w.next.at) (ap is_word e)
+      go K.Text e = no_word_read (tokens_from line w.next.at) (ap is_word e)
+      go (K.Mark b) e = no_word_read (tokens_from line w.next.at) (ap is_word e)
 
   pub by_its_word : {x : Word} {st : Result Statement Failure} → w.kind ≡ K.Word → x ≡ word_of (word_at line w) → st ≡ by_word line x (tokens_from line w.next.at)
       → st ≡ statement_read line (begun_by line w)
@@ -76,9 +70,9 @@ module _ (line : List ℕ) where
   row-there : (at : ℕ) {w : Token} → w ≡ token_at line at → tokens_from line at ≡ begun_by line w
   row-there at t = row_goes_on line at ∙ ap (begun_by line) (sym t)
 
-  unlabelled-done : labelled (tokens_from line 0) ≡ false → {w : Token} → w ≡ token_at line 0 → {r : Labelled} → r ≡ no_label w → LabelDone line r
+  unlabelled-done : labelled (tokens_from line 0) ≡ false → {w : Token} → w ≡ token_at line 0 → LabelDone line (no_label w)
   unfolding label_read after_label
-  unlabelled-done f t e = rw e (record { named = rw f; behind = rw f (row-there 0 t) })
+  unlabelled-done f t = record { named = rw f; behind = rw f (row-there 0 t) }
 
   not-labelled : (w : Token) (ts : List Token) → is_word w.kind ≡ false → labelled (w ∷ ts) ≡ false
   not-labelled w [] f = refl
@@ -86,8 +80,8 @@ module _ (line : List ℕ) where
 
   module _ {w : Token} (t : w ≡ token_at line 0) where
     -- the first token is no word
-    pub no_label_word : is_word w.kind ≡ false → {r : Labelled} → r ≡ no_label w → LabelDone line r
-    no_label_word f e = unlabelled-done (go (token_at line 0).kind refl) t e
+    pub no_label_word : is_word w.kind ≡ false → LabelDone line (no_label w)
+    no_label_word f = unlabelled-done (go (token_at line 0).kind refl) t
       where
         g : is_word (token_at line 0).kind ≡ false
         g = ap (λ (v : Token). is_word v.kind) (sym t) ∙ f
@@ -128,8 +122,8 @@ module _ (line : List ℕ) where
           go (K.Mark b) e = ap labelled (row-two e) ∙ rw f
 
       -- no `:` stands right behind it
-      pub no_colon : colon_at line w.next.at ≡ false → {r : Labelled} → r ≡ no_label w → LabelDone line r
-      no_colon g e = unlabelled-done (labelled_by ∙ go (is_colon c.kind) refl) t e
+      pub no_colon : colon_at line w.next.at ≡ false → LabelDone line (no_label w)
+      no_colon g = unlabelled-done (labelled_by ∙ go (is_colon c.kind) refl) t
         where
           go : (b : Bool) → is_colon c.kind ≡ b → (is_colon c.kind && c.directly) ≡ false
           go true h = rw (h, no_colon_token line w.next.at g (colon_kind c.kind h))

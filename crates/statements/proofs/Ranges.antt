@@ -8,6 +8,7 @@ use lib.IntN.{ℤ, pos, negsuc, ◌+ℤ◌}
 use lib.Signed.{mag, lt_z, le_z}
 use mir.Syntax.{w16}
 use mir.Val.{of_z}
+use Rattle.std.specs.Int.{int_rem_euclid}
 use Rattle.std.proofs.Common.{Result, Ok, Err}
 use Rattle.statements.specs.declared.Failure.{Failure}
 use Rattle.expressions.specs.declared.Fault.TheVariants.{OutOfRange, ByZero}
@@ -57,13 +58,9 @@ near (negsuc m) (negsuc n) h e f = omega (arith, ltb-false m n e)
 
 -- ---- the cell
 
-pub cell-raised : (z : ℤ) → lt_z z (pos 0) ≡ true → mag z < 65536 → z +ℤ pos 65536 ≡ pos (of_z w16 z)
-cell-raised (negsuc n) t h = simp (le-ltb 65536 (suc n) (omega arith))
-cell-raised (pos n) t h = absurd (omega (arith, ltb-true n 0 t))
-
-pub cell_as_is : (z : ℤ) → lt_z z (pos 0) ≡ false → z ≡ pos (of_z w16 z)
-cell_as_is (pos n) t = refl
-cell_as_is (negsuc n) t = never (cc)
+pub cell-rest : (z : ℤ) → mag z < 65536 → int_rem_euclid z (pos 65536) ≡ pos (of_z w16 z)
+cell-rest (pos n) h = ap pos (omega arith)
+cell-rest (negsuc n) h = ap pos (omega arith)
 
 pub cell-small : (z : ℤ) → mag z < 65536 → of_z w16 z < 65536
 cell-small (pos n) h = h
@@ -80,16 +77,14 @@ module _ (least : ℤ) (makes : ℕ → Statement) where
       go true = refl
       go false = refl
 
-  worth-said : (w : Worth) → said makes (worth_outcome least w) ≡ worth_result least makes w
-  worth-said (Ok z) = cell-said z
-  worth-said (Err OutOfRange) = refl
-  worth-said (Err ByZero) = refl
-
   outcome-said : (r : Result Worth Malformed) → said makes (outcome_of least r) ≡ expression_result least makes r
-  outcome-said (Ok w) = worth-said w
-  outcome-said (Err TooDeep) = refl
-  outcome-said (Err WrongForm) = refl
+  outcome-said (Ok (Ok z)) = cell-said z
+  outcome-said (Ok (Err why)) = refl
+  outcome-said (Err why) = refl
 
   -- what the code hands back, by the outcome that it found
-  pub says-outcome : {o p : Result ℕ Failure} {r r' : Result Worth Malformed} → r ≡ r' → o ≡ outcome_of least r → o ≡ p → said makes p ≡ expression_result least makes r'
-  says-outcome {r = r} e f g = ap (said makes) (sym g ∙ f) ∙ outcome-said r ∙ ap (expression_result least makes) e
+  pub says_value : (r : Result Worth Malformed) {v : ℕ} → Ok v ≡ outcome_of least r → Ok (makes v) ≡ expression_result least makes r
+  says_value r e = ap (said makes) e ∙ outcome-said r
+
+  pub says_failure : (r : Result Worth Malformed) {why : Failure} → Err why ≡ outcome_of least r → Err why ≡ expression_result least makes r
+  says_failure r e = ap (said makes) e ∙ outcome-said r

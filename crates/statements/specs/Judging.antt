@@ -10,7 +10,12 @@ use Rattle.expressions.specs.Worths.{worth_of}
 use Rattle.expressions.specs.Worths.{Worth}
 use Rattle.std.specs.Prelude.{Result, Ok, Err}
 use Rattle.operands.specs.declared.Operands.{Operands}
+use Rattle.expressions.specs.declared.Fault.{Fault}
 use Rattle.expressions.specs.declared.Fault.TheVariants.{OutOfRange, ByZero}
+use Rattle.expressions.specs.declared.Malformed.{Malformed}
+use Rattle.expressions.specs.declared.Malformed.TheVariants.{WrongForm, TooDeep}
+use Rattle.items.specs.declared.ItemsFault.{ItemsFault}
+use Rattle.items.specs.declared.ItemsFault.TheVariants.{WrongForm, OutOfRange}
 use Rattle.operands.specs.declared.OperandsFault.{OperandsFault}
 use Rattle.operands.specs.declared.OperandsFault.TheVariants.{WrongForm, WrongCount, WrongKind, OutOfRange}
 use Rattle.operands.specs.Checks as Operands
@@ -39,6 +44,26 @@ abbrev pub refusal_of : Result Statement Failure → ℕ
 refusal_of (Ok s) = 0
 refusal_of (Err f) = number_of f
 
+-- ---- the check that fails where a part of the line does not pass
+
+abbrev pub form_failure : Malformed → Failure
+form_failure WrongForm = WrongForm
+form_failure TooDeep = TooDeep
+
+abbrev pub worth_failure : Fault → Failure
+worth_failure OutOfRange = OutOfRange
+worth_failure ByZero = ByZero
+
+abbrev pub operands_failure : OperandsFault → Failure
+operands_failure WrongForm = WrongForm
+operands_failure WrongCount = WrongCount
+operands_failure (WrongKind place) = WrongKind place
+operands_failure OutOfRange = OutOfRange
+
+abbrev pub items_failure : ItemsFault → Failure
+items_failure WrongForm = WrongForm
+items_failure OutOfRange = OutOfRange
+
 -- ---- an expression: 8, then 6 or 7, then the result, "kept modulo 65536"
 
 unfoldable pub result_of : ℤ → (ℕ → Statement) → ℤ → Result Statement Failure
@@ -46,8 +71,7 @@ result_of least says z = cond (result_in least z) (Ok (says (of_z w16 z))) (Err 
 
 abbrev pub worth_result : ℤ → (ℕ → Statement) → Worth → Result Statement Failure
 worth_result least says (Ok z) = result_of least says z
-worth_result least says (Err OutOfRange) = Err OutOfRange
-worth_result least says (Err ByZero) = Err ByZero
+worth_result least says (Err why) = Err (worth_failure why)
 
 unfoldable pub tree_result : ℤ → (ℕ → Statement) → Tree → Result Statement Failure
 tree_result least says e = cond (leb (depth e) deepest) (worth_result least says (worth_of e)) (Err TooDeep)
@@ -56,10 +80,7 @@ tree_result least says e = cond (leb (depth e) deepest) (worth_result least says
 
 abbrev pub instruction_result : Opcode → Result Operands OperandsFault → Result Statement Failure
 instruction_result op (Ok r) = Ok (Instruction op r.first r.second)
-instruction_result op (Err WrongForm) = Err WrongForm
-instruction_result op (Err WrongCount) = Err WrongCount
-instruction_result op (Err (WrongKind place)) = Err (WrongKind place)
-instruction_result op (Err OutOfRange) = Err OutOfRange
+instruction_result op (Err why) = Err (operands_failure why)
 
 -- ---- what a reading comes to
 

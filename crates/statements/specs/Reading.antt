@@ -14,16 +14,14 @@ use Rattle.std.specs.Prelude.{Option, Some, None, Result, Ok, Err}
 use Rattle.statements.specs.declared.Failure.{Failure}
 use Rattle.values.specs.declared.Name.{Name}
 use Rattle.items.specs.declared.ItemsFault.{ItemsFault}
-use Rattle.items.specs.declared.ItemsFault.TheVariants.{WrongForm, OutOfRange}
 use Rattle.expressions.specs.declared.Malformed.{Malformed}
-use Rattle.expressions.specs.declared.Malformed.TheVariants.{TooDeep, WrongForm}
 use Rattle.expressions.specs.Reading.{expression_read}
 use Rattle.operands.specs.Operands.{word_at}
 use Rattle.operands.specs.Checks.{instruction_read}
 use Rattle.items.specs.Reading.{items_read}
 use Rattle.statements.specs.Checks.{least_unsigned, least_signed}
-use Rattle.statements.specs.Judging.{worth_result, instruction_result}
-use Rattle.statements.specs.declared.Failure.TheVariants.{UnknownWord, WrongForm, TooDeep, OutOfRange}
+use Rattle.statements.specs.Judging.{form_failure, items_failure, worth_result, instruction_result}
+use Rattle.statements.specs.declared.Failure.TheVariants.{UnknownWord, WrongForm}
 use Rattle.statements.specs.declared.LineRead.{LineRead}
 use Rattle.statements.specs.declared.Statement.{Statement}
 use Rattle.statements.specs.declared.Statement.TheVariants.{Nothing, Org, Equ, Res, Data, End}
@@ -71,13 +69,11 @@ after_label ts = cond (labelled ts) (behind_two ts) ts
 
 abbrev pub expression_result : ℤ → (ℕ → Statement) → Result Worth Malformed → Result Statement Failure
 expression_result least says (Ok w) = worth_result least says w
-expression_result least says (Err TooDeep) = Err TooDeep
-expression_result least says (Err WrongForm) = Err WrongForm
+expression_result least says (Err why) = Err (form_failure why)
 
 abbrev pub items_result : Result ℕ ItemsFault → Result Statement Failure
 items_result (Ok n) = Ok (Data n)
-items_result (Err WrongForm) = Err WrongForm
-items_result (Err OutOfRange) = Err OutOfRange
+items_result (Err why) = Err (items_failure why)
 
 module _ (line : List ℕ) where
   abbrev pub by_word : Word → List Token → Result Statement Failure

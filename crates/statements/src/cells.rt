@@ -12,31 +12,16 @@ use tokens::Token;
 fn is_data(w: Word) -> bool
     ensures { result ≡ is_data w }
 {
-    match w {
-        Word::Instructs(_) => false,
-        Word::Org => false,
-        Word::Equ => false,
-        Word::Res => false,
-        Word::Data => true,
-        Word::End => false,
-        Word::Unknown => false,
-    }
+    matches!(w, Word::Data)
 }
 
 // The statement that a token begins.
 fn write_body(s: &[u8], w: Token, row: &mut [u16], at: usize)
     ensures { row.new ≡ sets row.old at (body_cells s.now (begun_by s.now w)) }
 {
-    let kind = w.kind;
-    let start = w.start;
-    let next = w.next;
-    if !is_word(kind) {
-        return;
+    if is_word(w.kind) && is_data(statement_word(s, w.start, w.next.at)) {
+        items::writing::write_cells(s, w.next, row, at);
     }
-    if !is_data(statement_word(s, start, next.at)) {
-        return;
-    }
-    items::writing::write_cells(s, next, row, at);
 }
 
 // The cells that a line gives by DATA, into a lent row from a place on; what does not fit is left out, and a line that is refused
@@ -44,7 +29,5 @@ fn write_body(s: &[u8], w: Token, row: &mut [u16], at: usize)
 pub fn write_cells(line: &[u8], row: &mut [u16], at: usize)
     ensures { row.new ≡ sets row.old at (cells_in line.now) }
 {
-    let found = label(line);
-    let word = found.word;
-    write_body(line, word, row, at);
+    write_body(line, label(line).word, row, at);
 }

@@ -1,7 +1,7 @@
 // A line's label, and the token after it (specs/Reading.antt, specs/Inner/Parts.antt).
 ghost use Rattle.std.specs.Prelude.{◌≡◌};
 ghost use Rattle.statements.specs.Reading.{is_word};
-ghost use Rattle.statements.specs.Inner.Parts.{colon_at, no_label, LabelDone};
+ghost use Rattle.statements.specs.Inner.Parts.{colon_at, LabelDone};
 
 use super::Labelled;
 use numerals::Cursor;
@@ -12,52 +12,27 @@ use values::Name;
 pub fn is_word(k: Kind) -> bool
     ensures { result ≡ is_word k }
 {
-    match k {
-        Kind::End => false,
-        Kind::Stray => false,
-        Kind::Word => true,
-        Kind::Number(_, _) => false,
-        Kind::Text => false,
-        Kind::Mark(_) => false,
-    }
+    matches!(k, Kind::Word)
 }
 
 // Whether a `:` stands at a place; past the line's end none does.
 fn colon_at(s: &[u8], at: usize) -> bool
     ensures { result ≡ colon_at s.now at }
 {
-    if at < s.len() { s[at] == b':' } else { false }
+    at < s.len() && s[at] == b':'
 }
 
-// Without a label the statement begins with the line's first token.
-fn unlabelled(w: Token) -> Labelled
-    ensures { result ≡ no_label w }
-{
-    Labelled {
-        label: None,
-        word: w,
-    }
-}
-
-// The line's first token, if it is a word directly followed by `:`.
+// The line's first token, if it is a word directly followed by `:`; without a label the statement begins with that token.
 pub fn label(s: &[u8]) -> Labelled
     ensures { LabelDone s.now result }
 {
     let w = next_token(s, Cursor { at: 0 });
-    let kind = w.kind;
-    let start = w.start;
-    let next = w.next;
-    if !is_word(kind) {
-        return unlabelled(w);
-    }
-    if !colon_at(s, next.at) {
-        return unlabelled(w);
+    let end = w.next.at;
+    if !is_word(w.kind) || !colon_at(s, end) {
+        return Labelled { label: None, word: w };
     }
     Labelled {
-        label: Some(Name {
-            start,
-            end: next.at,
-        }),
-        word: next_token(s, Cursor { at: next.at + 1 }),
+        label: Some(Name { start: w.start, end }),
+        word: next_token(s, Cursor { at: end + 1 }),
     }
 }

@@ -10,8 +10,8 @@ use tokens::Token;
 pub mod cells; // the cells that a line's DATA gives
 pub mod labels; // a line's label, and the token after it
 pub mod line; // a line's reading
-pub mod refusals; // the paper's number of a check that fails
-mod results; // what an expression, operands and items come to
+pub mod refusals; // the check that a part of the line fails, and the paper's number of it
+mod results; // what an expression comes to
 
 // What a line's statement says: what it is, with its operands, its value, or the number of its cells.
 #[derive(Clone, Copy)]
@@ -27,7 +27,7 @@ pub enum Statement {
 
 // A check of a line that fails: refusal 4, 3, 15, 16, 8, 6 or 7. A wrong kind names the operand's place, 1 or 2; out of range is a number or
 // an operation, or else the statement's result.
-#[derive(Clone, Copy)]
+#[derive(Clone, Copy, Debug, PartialEq, Eq)]
 pub enum Failure {
     UnknownWord,
     WrongForm,

@@ -7,13 +7,12 @@ use Rattle.tokens.specs.Reading.{after_kind, tokens_from}
 use Rattle.tokens.specs.declared.Token.{Token}
 use Rattle.std.specs.Prelude.{None, Result, Ok, Err}
 use Rattle.statements.specs.declared.Failure.{Failure}
-use Rattle.expressions.specs.declared.Fault.TheVariants.{OutOfRange, ByZero}
 use Rattle.expressions.specs.declared.Malformed.{Malformed}
-use Rattle.expressions.specs.declared.Malformed.TheVariants.{TooDeep, WrongForm}
 use Rattle.expressions.specs.Worths.{Worth}
 use Rattle.statements.specs.Checks.{result_in}
+use Rattle.statements.specs.Judging.{form_failure, worth_failure}
 use Rattle.statements.specs.Reading.{label_read, after_label}
-use Rattle.statements.specs.declared.Failure.TheVariants.{WrongForm, TooDeep, OutOfRange, ByZero, ResultOut}
+use Rattle.statements.specs.declared.Failure.TheVariants.{ResultOut}
 use Rattle.statements.specs.declared.Labelled.{Labelled}
 use Rattle.statements.specs.declared.Statement.{Statement}
 
@@ -40,13 +39,11 @@ cell_in least z = cond (result_in least z) (Ok (of_z w16 z)) (Err ResultOut)
 
 abbrev pub worth_outcome : ℤ → Worth → Result ℕ Failure
 worth_outcome least (Ok z) = cell_in least z
-worth_outcome least (Err OutOfRange) = Err OutOfRange
-worth_outcome least (Err ByZero) = Err ByZero
+worth_outcome least (Err why) = Err (worth_failure why)
 
 abbrev pub outcome_of : ℤ → Result Worth Malformed → Result ℕ Failure
 outcome_of least (Ok w) = worth_outcome least w
-outcome_of least (Err TooDeep) = Err TooDeep
-outcome_of least (Err WrongForm) = Err WrongForm
+outcome_of least (Err why) = Err (form_failure why)
 
 -- what a statement makes of its outcome
 abbrev pub said : (ℕ → Statement) → Result ℕ Failure → Result Statement Failure

@@ -11,4 +11,4 @@ unfolding cells_in
 returns c =
     let a = c.args in
     c.write_body.ensures
-    ∙ ap (λ (ts : List Token). sets a.row.now a.at (body_cells a.line.now ts)) (sym c.label-found.ensures.behind)
+    ∙ ap (λ (ts : List Token). sets a.row.now a.at (body_cells a.line.now ts)) (sym c.label.ensures.behind)

@@ -1,35 +1,22 @@
--- The tests are the range's, of the number that the `i32` holds; a number below 0 is raised by 65536, any other is kept: both are the number's cell.
-use mathlib.Core.Path.{sym, ◌∙◌}
+-- The tests are the range's, of the number that the `i32` holds; what is left modulo 65536 is the number's cell (Ranges).
+use mathlib.Core.Path.{sym}
 use native.Mathlib.Omega.{arith}
 use mir.Syntax.{w16, w32}
 use mir.Val.{of_z}
 use mir.ValLaws.{to_z_pos, to_z-of_z}
-use Rattle.statements.proofs.Ranges.{below, above, inside, near, cell-raised, cell_as_is, cell-small}
+use Rattle.statements.proofs.Ranges.{below, above, inside, near, cell-rest, cell-small}
+use Rattle.statements.proofs.results.in_range.Goals.{then-z-least-via-then-z-least, then-z-least-via-else-z-least+then-z-gt65535}
 use Rattle.statements.proofs.results.in_range.Goals as goal
 
 pub returns-then-z-least : goal.returns-then-z-least
 returns-then-z-least c =
     let e = to_z-of_z w32 c.args.z c.ranges.z in
     let l = to_z-of_z w32 c.args.least c.ranges.least in
-    sym (below c.args.least c.args.z (rw (e, l) at c.if-z-least.true))
-
-pub returns-then-z-gt65535 : goal.returns-then-z-gt65535
-returns-then-z-gt65535 c =
-    let e = to_z-of_z w32 c.args.z c.ranges.z in
-    let l = to_z-of_z w32 c.args.least c.ranges.least in
-    sym (above c.args.least c.args.z (rw (e, l) at c.if-z-least.false) (rw e at c.if-z-gt65535.true))
-
-pub returns-then-z-lt0 : goal.returns-then-z-lt0
-returns-then-z-lt0 c =
-    let z = c.args.z in
-    let e = to_z-of_z w32 z c.ranges.z in
-    let l = to_z-of_z w32 c.args.least c.ranges.least in
-    let f = rw (e, l) at c.if-z-least.false in
-    let g = rw e at c.if-z-gt65535.false in
-    let m = near c.args.least z c.requires f g in
-    let r = cell-raised z (rw e at c.if-z-lt0.true) m in
-    let h = to_z_pos w32 (of_z w16 z) (omega (arith, cell-small z m)) in
-    rw (e, r, h) (sym (inside c.args.least z f g))
+    elim c.then-z-least.branch [
+      then-z-least-via-then-z-least w ↦ sym (below c.args.least c.args.z (rw (e, l) at w.if-z-least.true))
+    | then-z-least-via-else-z-least+then-z-gt65535 w ↦
+        sym (above c.args.least c.args.z (rw (e, l) at w.if-z-least.false) (rw e at w.if-z-gt65535.true))
+    ]
 
 pub returns : goal.returns
 returns c =
@@ -38,4 +25,6 @@ returns c =
     let l = to_z-of_z w32 c.args.least c.ranges.least in
     let f = rw (e, l) at c.if-z-least.false in
     let g = rw e at c.if-z-gt65535.false in
-    rw (e ∙ cell_as_is z (rw e at c.if-z-lt0.false)) (sym (inside c.args.least z f g))
+    let m = near c.args.least z c.requires f g in
+    let h = to_z_pos w32 (of_z w16 z) (omega (arith, cell-small z m)) in
+    rw (c.rem_euclid.ensures.value, e, cell-rest z m, h) (sym (inside c.args.least z f g))
