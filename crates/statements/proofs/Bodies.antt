@@ -101,12 +101,12 @@ module _ (least : ℤ) (makes : ℕ → Statement) where
   no_tree_result : {ts : List Token} → ((e : Tree) → Expression ts e → ⊥) → expression_result least makes (expression_read ts) ≡ Err WrongForm
   no_tree_result {ts} n = ap (expression_result least makes) ((Trees.wrong-exactly ts).1 n)
 
-operands-result : (line : List ℕ) (op : Opcode) (ts : List Token) {o : Walk.Result} → operands_of line ts ≡ o
+operands-result : (line : List ℕ) (op : Opcode) (ts : List Token) {o : Walk.RowRead} → operands_of line ts ≡ o
     → instruction_result op (Operands.instruction_read line op ts) ≡ instruction_result op (Operands.judged_form op o)
 unfolding Operands.instruction_read
 operands-result line op ts f = ap (λ o. instruction_result op (Operands.judged_form op o)) f
 
-items-result : (line : List ℕ) (ts : List Token) {o : Listed.Result} → Listed.walk line Listed.item ts ≡ o
+items-result : (line : List ℕ) (ts : List Token) {o : Listed.RowRead} → Listed.walk line Listed.item ts ≡ o
     → items_result (Listed.items_read line ts) ≡ items_result (Listed.judged o)
 unfolding Listed.items_read
 items-result line ts f = ap (λ o. items_result (Listed.judged o)) f
@@ -165,7 +165,7 @@ module _ (line : List ℕ) where
     unfolding judged
     by-opcode op e = go (operands_of line ts) refl
       where
-        go : (o : Walk.Result) → operands_of line ts ≡ o → Found line (w ∷ ts)
+        go : (o : Walk.RowRead) → operands_of line ts ≡ o → Found line (w ∷ ts)
         go (Walk.reads os) f =
             says (instruction op os) (opcode (word_is (W.Instructs op) e) ((reads-exactly line ts).0 f))
             (λ r b. let h = by_is (W.Instructs op) e r b in let g = (reads-exactly line ts).1 h.1 in cc (h.2, g, f))
@@ -179,7 +179,7 @@ module _ (line : List ℕ) where
     by_items : word_of (word_at line w) ≡ W.Data → Found line (w ∷ ts)
     by_items e = go (Listed.walk line Listed.item ts) refl
       where
-        go : (o : Listed.Result) → Listed.walk line Listed.item ts ≡ o → Found line (w ∷ ts)
+        go : (o : Listed.RowRead) → Listed.walk line Listed.item ts ≡ o → Found line (w ∷ ts)
         go (Listed.reads is) f =
             says (cells is) (items (word_is W.Data e) ((items-exactly line w.next.at).0 f))
             (λ r b. let h = by_is W.Data e r b in let g = (items-exactly line w.next.at).1 h.1 in cc (h.2, g, f))

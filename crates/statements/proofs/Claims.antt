@@ -24,7 +24,7 @@ use Rattle.items.specs.Reading as Items
 use Rattle.statements.specs.Statements.{cells, Says}
 use Rattle.statements.specs.Judging.{refusal_of, instruction_result, judged, claim_of}
 use Rattle.statements.specs.Reading.{expression_result, items_result, line_read}
-use Rattle.statements.specs.declared.Failure.TheVariants.{OutOfRange}
+use Rattle.statements.specs.declared.Failure.TheVariants as F
 use Rattle.statements.specs.declared.LineRead.{LineRead}
 use Rattle.statements.specs.declared.Statement.{Statement}
 use Rattle.statements.specs.declared.Statement.TheVariants.{Data}
@@ -38,7 +38,7 @@ pub cells-claimed : (line : List ℕ) {l : Option Name} {is : List Item} {s : St
 unfolding judged
 cells-claimed line {is = is} {s} x e = go (all_in_range is) (sym (ap (λ (a : LineRead). a.statement) (read-judged line x)) ∙ e)
   where
-    go : (b : Bool) → cond b (Ok (Data (length (cells_of is)))) (Err OutOfRange) ≡ Ok s → claim_of s ≡ length (cells_of is)
+    go : (b : Bool) → cond b (Ok (Data (length (cells_of is)))) (Err F.OutOfRange) ≡ Ok s → claim_of s ≡ length (cells_of is)
     go true q = let h : s ≡ Data (length (cells_of is)) = cc in ap claim_of h
     go false q = never (cc)
 

@@ -13,7 +13,7 @@ use mir.Val.{of_z}
 use borrow.Author.Tests.{eqb-true, le-leb, leb-true, leb-false}
 use Rattle.std.proofs.Common.{Option, Some, None, Result, Ok, Err}
 use Rattle.expressions.specs.declared.Fault.TheVariants.{OutOfRange, ByZero}
-use Rattle.operands.specs.declared.OperandsFault.TheVariants.{WrongCount, WrongKind, OutOfRange}
+use Rattle.operands.specs.declared.OperandsFault.TheVariants as I
 use Rattle.isa.specs.Opcodes.{count_of}
 use Rattle.isa.specs.declared.Opcode.{Opcode}
 use Rattle.isa.proofs.Top.{few-operands}
@@ -155,7 +155,7 @@ module _ (op : Opcode) (os : List Written) where
 
       by_kinds : (x y z : Bool) → right_count op os ≡ x → kind_allowed op os 0 ≡ y → kind_allowed op os 1 ≡ z
           → Outcome (reading_checks (instruction op os))
-          (instruction_result op (cond x (cond y (cond z (Operands.ranged a (word_of a) b (word_of b)) (Err (WrongKind 2))) (Err (WrongKind 1))) (Err WrongCount)))
+          (instruction_result op (cond x (cond y (cond z (Operands.ranged a (word_of a) b (word_of b)) (Err (I.WrongKind 2))) (Err (I.WrongKind 1))) (Err I.WrongCount)))
       by_kinds true true true c k l = by_words (word_of a) (word_of b) refl refl c k l
       by_kinds true true false c k l = refused (F.WrongKind 2) refl (inr (counted c, inr (allowed 0 k, inl ((c, l), refl))))
       by_kinds true false z c k l = refused (F.WrongKind 1) refl (inr (counted c, inl ((c, k), refl)))

@@ -56,8 +56,7 @@ tree_makes least makes e {s} h = by_depth (leb (depth e) deepest) h
 
     by_worth : (w : Worth) → worth_result least makes w ≡ Ok s → (v : ℕ) × (s ≡ makes v)
     by_worth (Ok z) q = by_result z (result_in least z) q
-    by_worth (Err OutOfRange) q = never (cc)
-    by_worth (Err ByZero) q = never (cc)
+    by_worth (Err why) q = never (cc)
 
     by_depth : (b : Bool) → cond b (worth_result least makes (worth_of e)) (Err F.TooDeep) ≡ Ok s → (v : ℕ) × (s ≡ makes v)
     by_depth true q = by_worth (worth_of e) q
@@ -79,10 +78,7 @@ module _ (op : Opcode) (a b : Given) where
           let p : g.first ≡ a = cc in
           let r : g.second ≡ b = cc in
           (os, ap (λ (o : Opcode). instruction o os) o, subst (λ (o : Opcode). Operands.judged o os ≡ Ok (record { first = a; second = b })) o (rw (p, r) at q))
-      go (Err WrongForm) q e = never (cc)
-      go (Err WrongCount) q e = never (cc)
-      go (Err (WrongKind place)) q e = never (cc)
-      go (Err OutOfRange) q e = never (cc)
+      go (Err why) q e = never (cc)
   given_by (org t) e = let h = (tree_makes least_unsigned Org t e).1 in never (cc)
   given_by (equ t) e = let h = (tree_makes least_signed Equ t e).1 in never (cc)
   given_by (res t) e = let h = (tree_makes least_unsigned Res t e).1 in never (cc)
@@ -107,10 +103,7 @@ module _ (n : ℕ) where
     where
       go : (i : Result Operands OperandsFault) → instruction_result op i ≡ Ok (Data n) → Taken_by (instruction op os)
       go (Ok r) e = never (cc)
-      go (Err WrongForm) e = never (cc)
-      go (Err WrongCount) e = never (cc)
-      go (Err (WrongKind place)) e = never (cc)
-      go (Err OutOfRange) e = never (cc)
+      go (Err why) e = never (cc)
   taken_by (org t) e = let h = (tree_makes least_unsigned Org t e).1 in never (cc)
   taken_by (equ t) e = let h = (tree_makes least_signed Equ t e).1 in never (cc)
   taken_by (res t) e = let h = (tree_makes least_unsigned Res t e).1 in never (cc)

@@ -103,15 +103,12 @@ module _ (line line' : List ℕ) where
       → AlikeStatement line line' (expression_result least makes r) (expression_result least makes r)
   unfolding result_of
   expression-says least makes p (Ok (Ok z)) = passing (result_in least z) (makes (of_z w16 z)) ResultOut (p (of_z w16 z))
-  expression-says least makes p (Ok (Err OutOfRange)) = fails _
-  expression-says least makes p (Ok (Err ByZero)) = fails _
-  expression-says least makes p (Err TooDeep) = fails _
-  expression-says least makes p (Err WrongForm) = fails _
+  expression-says least makes p (Ok (Err why)) = fails _
+  expression-says least makes p (Err why) = fails _
 
   items_say : (r : Result ℕ ItemsFault) → AlikeStatement line line' (items_result r) (items_result r)
   items_say (Ok n) = other (S.Data n) tt
-  items_say (Err WrongForm) = fails _
-  items_say (Err OutOfRange) = fails _
+  items_say (Err why) = fails _
 
   -- ORG, EQU and RES look at their tokens' kinds alone
   of_expression : {ts ts' : List Token} → SameKinds ts ts' → (least : ℤ) (makes : ℕ → Statement) → ((v : ℕ) → T (placeless (makes v)))
