@@ -51,10 +51,7 @@ module _ (line line' : List ℕ) where
 
   pub data AlikeRead : Result Operands OperandsFault → Result Operands OperandsFault → Type 0 where
     read : {a a' b b' : Given} → AlikeGiven a a' → AlikeGiven b b' → AlikeRead (Ok (record { first = a; second = b })) (Ok (record { first = a'; second = b' }))
-    wrong-form : AlikeRead (Err WrongForm) (Err WrongForm)
-    wrong-count : AlikeRead (Err WrongCount) (Err WrongCount)
-    wrong-kind : (place : ℕ) → AlikeRead (Err (WrongKind place)) (Err (WrongKind place))
-    out_of_range : AlikeRead (Err OutOfRange) (Err OutOfRange)
+    fails : (why : OperandsFault) → AlikeRead (Err why) (Err why)
 
   -- ---- the walk
 
@@ -242,8 +239,8 @@ module _ (line line' : List ℕ) where
   ranged-alike : {a a' b b' : Written} → AlikeWritten a a' → AlikeWritten b b' → (x y : Option ℕ) → AlikeRead (ranged a x b y) (ranged a' x b' y)
   ranged-alike h g (Some x) (Some y) =
       read (record { operand = shape_same x h; label = label-alike h }) (record { operand = shape_same y g; label = label-alike g })
-  ranged-alike h g (Some x) None = out_of_range
-  ranged-alike h g None y = out_of_range
+  ranged-alike h g (Some x) None = fails OutOfRange
+  ranged-alike h g None y = fails OutOfRange
 
   judged-alike : (op : Opcode) {os os' : List Written} → AlikeList AlikeWritten os os' → AlikeRead (judged op os) (judged op os')
   unfolding judged
@@ -253,7 +250,7 @@ module _ (line line' : List ℕ) where
       rw (length-same l, shape_same 0 h, shape_same 0 g, word_same h, word_same g)
       (pick (right_count op os')
       (pick (kind_allowed op os' 0)
-      (pick (kind_allowed op os' 1) (ranged-alike h g (word_of (operand_at os' 0)) (word_of (operand_at os' 1))) (wrong-kind 2)) (wrong-kind 1)) wrong-count)
+      (pick (kind_allowed op os' 1) (ranged-alike h g (word_of (operand_at os' 0)) (word_of (operand_at os' 1))) (fails (WrongKind 2))) (fails (WrongKind 1))) (fails WrongCount))
     where
       pick : (y : Bool) {r r' x x' : Result Operands OperandsFault} → AlikeRead r r' → AlikeRead x x' → AlikeRead (cond y r x) (cond y r' x')
       pick true h g = h
@@ -261,7 +258,7 @@ module _ (line line' : List ℕ) where
 
   form-alike : (op : Opcode) {r r' : W.RowRead} → AlikeResult AlikeWritten r r' → AlikeRead (judged_form op r) (judged_form op r')
   form-alike op (reads l) = judged-alike op l
-  form-alike op wrong = wrong-form
+  form-alike op wrong = fails WrongForm
 
   -- what an opcode's operands come to
   pub instruction-alike : (op : Opcode) {before : Kind} {ts ts' : List Token} → AlikeRow line line' true before ts ts'

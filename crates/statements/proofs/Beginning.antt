@@ -22,7 +22,6 @@ use Rattle.statements.specs.declared.Failure.{Failure}
 use Rattle.operands.specs.Operands.{word_at}
 use Rattle.statements.specs.Reading.{is_word, is_colon, labelled, label_read, after_label, by_word, statement_read}
 use Rattle.statements.specs.Inner.Parts.{colon_at, begun_by, no_label, LabelDone}
-use Rattle.statements.specs.declared.Labelled.{Labelled}
 use Rattle.statements.specs.declared.Failure.TheVariants.{WrongForm}
 use Rattle.statements.specs.declared.Statement.TheVariants.{Nothing}
 use Rattle.statements.proofs.Labelling.{never, word-kind, colon_kind}

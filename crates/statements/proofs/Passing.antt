@@ -20,9 +20,7 @@ use Rattle.expressions.specs.Worths.{Worth}
 use Rattle.std.proofs.Common.{Result, Ok, Err}
 use Rattle.statements.specs.declared.Failure.{Failure}
 use Rattle.operands.specs.declared.Operands.{Operands}
-use Rattle.expressions.specs.declared.Fault.TheVariants.{OutOfRange, ByZero}
 use Rattle.operands.specs.declared.OperandsFault.{OperandsFault}
-use Rattle.operands.specs.declared.OperandsFault.TheVariants.{WrongForm, WrongCount, WrongKind, OutOfRange}
 use Rattle.operands.specs.Checks.{instruction_read}
 use Rattle.operands.specs.Checks as Operands
 use Rattle.operands.specs.Settling.{settled_instruction}

@@ -1,24 +1,22 @@
 -- The range of a statement's result, as `in_range` tests it, and the cell that keeps it; laws that the code's proofs cite.
-use Prim.Native.Nat.{ℕ, suc, ◌<◌}
+use Prim.Native.Nat.{ℕ, ◌<◌}
 use mathlib.Core.Bool.{Bool, true, false, cond}
-use mathlib.Core.Path.{◌≡◌, refl, sym, ap, ◌∙◌}
+use mathlib.Core.Path.{◌≡◌, refl, ap, ◌∙◌}
 use native.Mathlib.Omega.{arith}
-use borrow.Author.Tests.{lt-leb, le-leb, le-ltb, ltb-true, ltb-false}
-use lib.IntN.{ℤ, pos, negsuc, ◌+ℤ◌}
+use borrow.Author.Tests.{lt-leb, le-leb, ltb-true, ltb-false}
+use lib.IntN.{ℤ, pos, negsuc}
 use lib.Signed.{mag, lt_z, le_z}
 use mir.Syntax.{w16}
 use mir.Val.{of_z}
 use Rattle.std.specs.Int.{int_rem_euclid}
 use Rattle.std.proofs.Common.{Result, Ok, Err}
 use Rattle.statements.specs.declared.Failure.{Failure}
-use Rattle.expressions.specs.declared.Fault.TheVariants.{OutOfRange, ByZero}
 use Rattle.expressions.specs.declared.Malformed.{Malformed}
-use Rattle.expressions.specs.declared.Malformed.TheVariants.{TooDeep, WrongForm}
 use Rattle.expressions.specs.Worths.{Worth}
 use Rattle.statements.specs.Checks.{result_in}
-use Rattle.statements.specs.Judging.{result_of, worth_result}
+use Rattle.statements.specs.Judging.{result_of}
 use Rattle.statements.specs.Reading.{expression_result}
-use Rattle.statements.specs.Inner.Parts.{cell_in, worth_outcome, outcome_of, said}
+use Rattle.statements.specs.Inner.Parts.{cell_in, outcome_of, said}
 use Rattle.statements.specs.declared.Failure.TheVariants.{ResultOut}
 use Rattle.statements.specs.declared.Statement.{Statement}
 use Rattle.statements.proofs.Labelling.{never}

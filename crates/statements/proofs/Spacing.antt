@@ -25,20 +25,16 @@ use Rattle.names.specs.declared.Word.TheVariants as W
 use Rattle.values.specs.Values.{name_at}
 use Rattle.std.proofs.Common.{Option, Some, None, Result, Ok, Err}
 use Rattle.operands.specs.declared.Operands.{Operands}
-use Rattle.expressions.specs.declared.Fault.TheVariants.{OutOfRange, ByZero}
 use Rattle.items.specs.declared.ItemsFault.{ItemsFault}
-use Rattle.items.specs.declared.ItemsFault.TheVariants.{WrongForm, OutOfRange}
 use Rattle.expressions.specs.declared.Malformed.{Malformed}
-use Rattle.expressions.specs.declared.Malformed.TheVariants.{TooDeep, WrongForm}
 use Rattle.operands.specs.declared.OperandsFault.{OperandsFault}
-use Rattle.operands.specs.declared.OperandsFault.TheVariants.{WrongForm, OutOfRange}
 use Rattle.values.specs.declared.Name.{Name}
 use Rattle.values.proofs.Spacing.{SameName, AlikeLabel, absent, named}
 use Rattle.expressions.specs.Reading.{expression_read}
 use Rattle.expressions.proofs.Spacing.{SameKinds, alike-kinds, expression-same}
 use Rattle.operands.specs.Operands.{word_at}
 use Rattle.operands.specs.declared.Given.{Given}
-use Rattle.operands.proofs.Spacing.{AlikeGiven, AlikeRead, read, wrong-form, wrong-count, wrong-kind, out_of_range, instruction-alike}
+use Rattle.operands.proofs.Spacing.{AlikeGiven, AlikeRead, read, fails as refused, instruction-alike}
 use Rattle.items.specs.Reading.{items_read}
 use Rattle.items.proofs.Spacing.{items-same, cells_same}
 use Rattle.statements.specs.Statements.{StatementWord, WordIn, behind, first, Says, HasWord}
@@ -88,10 +84,7 @@ module _ (line line' : List ℕ) where
   instruction-says : (op : Opcode) {r r' : Result Operands OperandsFault} → AlikeRead line line' r r'
       → AlikeStatement line line' (instruction_result op r) (instruction_result op r')
   instruction-says op (read h g) = instruction h g
-  instruction-says op wrong-form = fails _
-  instruction-says op wrong-count = fails _
-  instruction-says op (wrong-kind place) = fails _
-  instruction-says op out_of_range = fails _
+  instruction-says op (refused why) = fails _
 
   passing : (y : Bool) (s : Statement) (why : Failure) → T (placeless s)
       → AlikeStatement line line' (cond y (Ok s) (Err why)) (cond y (Ok s) (Err why))

@@ -26,6 +26,7 @@ fn write_body(s: &[u8], w: Token, row: &mut [u16], at: usize)
 
 // The cells that a line gives by DATA, into a lent row from a place on; what does not fit is left out, and a line that is refused
 // or says something else writes nothing.
+#[tactic(auto, unfolding(crate::specs::Cells::cells_in))]
 pub fn write_cells(line: &[u8], row: &mut [u16], at: usize)
     ensures { row.new ≡ sets row.old at (cells_in line.now) }
 {

@@ -29,10 +29,16 @@ pub fn label(s: &[u8]) -> Labelled
     let w = next_token(s, Cursor { at: 0 });
     let end = w.next.at;
     if !is_word(w.kind) || !colon_at(s, end) {
-        return Labelled { label: None, word: w };
+        return Labelled {
+            label: None,
+            word: w,
+        };
     }
     Labelled {
-        label: Some(Name { start: w.start, end }),
+        label: Some(Name {
+            start: w.start,
+            end,
+        }),
         word: next_token(s, Cursor { at: end + 1 }),
     }
 }

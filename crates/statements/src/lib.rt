@@ -2,10 +2,10 @@
 // is in specs/: Statements.antt and Checks.antt.
 #![tactic(auto)]
 
-use values::Name;
 use isa::Opcode;
 use operands::Given;
 use tokens::Token;
+use values::Name;
 
 pub mod cells; // the cells that a line's DATA gives
 pub mod labels; // a line's label, and the token after it

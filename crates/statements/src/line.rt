@@ -7,9 +7,9 @@ ghost use Rattle.statements.specs.Inner.Parts.{begun_by};
 use super::labels::label;
 use super::results::outcome;
 use super::{Failure, LineRead, Statement};
+use items::reading::items;
 use names::Word;
 use names::lookup::statement_word;
-use items::reading::items;
 use numerals::Cursor;
 use operands::Operands;
 use operands::instruction::instruction;
@@ -45,6 +45,7 @@ fn statement(s: &[u8], w: Token) -> Result<Statement, Failure>
     }
 }
 
+#[tactic(auto, unfolding(crate::specs::Reading::line_read))]
 pub fn read_line(line: &[u8]) -> LineRead
     ensures { result ≡ line_read line.now }
 {

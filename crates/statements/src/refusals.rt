@@ -70,6 +70,7 @@ impl From<Failure> for u8 {
     }
 }
 
+// The number as a function: its promise is cited by the crates above.
 pub fn number_of(f: Failure) -> u8
     ensures { result ≡ number_of f }
 {

@@ -15,8 +15,8 @@ returns-then-is_data c =
 pub returns-else-is_word : goal.returns-else-is_word
 returns-else-is_word c =
     elim c.else-is_word.branch [
-      else-is_word-via-then-is_word+else-is_data w ↦
-        let g = ap is_data (sym w.statement_word.ensures) ∙ sym w.if-is_data.ensures in
-        sym (ap (sets c.args.row.now c.args.at) (no_data_cells c.args.s.now c.args.w (sym w.if-is_word.ensures) g))
-    | else-is_word-via-else-is_word w ↦ sym (ap (sets c.args.row.now c.args.at) (no_word_cells c.args.s.now c.args.w (sym w.if-is_word.ensures)))
+      | else-is_word-via-then-is_word+else-is_data w ↦
+          let g = ap is_data (sym w.statement_word.ensures) ∙ sym w.if-is_data.ensures in
+          sym (ap (sets c.args.row.now c.args.at) (no_data_cells c.args.s.now c.args.w (sym w.if-is_word.ensures) g))
+      | else-is_word-via-else-is_word w ↦ sym (ap (sets c.args.row.now c.args.at) (no_word_cells c.args.s.now c.args.w (sym w.if-is_word.ensures)))
     ]

@@ -7,9 +7,9 @@ use Rattle.statements.proofs.labels.label.Goals as goal
 pub returns-then-not-is_word : goal.returns-then-not-is_word
 returns-then-not-is_word c =
     elim c.then-not-is_word.branch [
-      then-not-is_word-via-then-not-is_word w ↦ no_label_word c.args.s.now c.next_token-w.ensures (sym w.if-not-is_word.ensures)
-    | then-not-is_word-via-else-not-is_word+then-not-colon_at w ↦
-        no_colon c.args.s.now c.next_token-w.ensures (sym w.if-not-is_word.ensures) (sym w.if-not-colon_at.ensures)
+      | then-not-is_word-via-then-not-is_word w ↦ no_label_word c.args.s.now c.next_token-w.ensures (sym w.if-not-is_word.ensures)
+      | then-not-is_word-via-else-not-is_word+then-not-colon_at w ↦
+          no_colon c.args.s.now c.next_token-w.ensures (sym w.if-not-is_word.ensures) (sym w.if-not-colon_at.ensures)
     ]
 
 pub returns : goal.returns

@@ -13,9 +13,9 @@ returns-then-z-least c =
     let e = to_z-of_z w32 c.args.z c.ranges.z in
     let l = to_z-of_z w32 c.args.least c.ranges.least in
     elim c.then-z-least.branch [
-      then-z-least-via-then-z-least w ↦ sym (below c.args.least c.args.z (rw (e, l) at w.if-z-least.true))
-    | then-z-least-via-else-z-least+then-z-gt65535 w ↦
-        sym (above c.args.least c.args.z (rw (e, l) at w.if-z-least.false) (rw e at w.if-z-gt65535.true))
+      | then-z-least-via-then-z-least w ↦ sym (below c.args.least c.args.z (rw (e, l) at w.if-z-least.true))
+      | then-z-least-via-else-z-least+then-z-gt65535 w ↦
+          sym (above c.args.least c.args.z (rw (e, l) at w.if-z-least.false) (rw e at w.if-z-gt65535.true))
     ]
 
 pub returns : goal.returns
