@@ -1,13 +1,13 @@
--- Laws of windows, of keys and chains of names, of `same`, of the words held and of the values filled in.
+-- Laws of windows, of keys and chains of names, of `same` and of the words held.
 use mathlib.Core.Path.{◌≡◌, refl, sym, ap, ap₂, subst, ◌∙◌}
-use mathlib.Core.List.{List, [], ◌∷◌, ◌++◌, append_assoc}
+use mathlib.Core.List.{List, [], ◌∷◌, ◌++◌}
 use mathlib.Core.Bool.{true, false}
 use Prim.Native.Nat.{ℕ, zero, suc, ◌+◌, ◌*◌, ◌/◌, ◌%◌, ◌-◌, ◌≤◌, ◌<◌}
 use native.Mathlib.Numerals.{add-one}
 use native.Mathlib.Omega.{arith}
 use lib.Dec.{ltb}
-use lib.ListN.{length, get_or, drop, take, set, replicate, length-append}
-use lib.Seq.{take-suc-set, get_or-take, get_or-drop, slice, slice_empty, slice-cons}
+use lib.ListN.{length, get_or, drop, take, length-append}
+use lib.Seq.{get_or-take, get_or-drop, slice, slice_empty, slice-cons}
 use borrow.Author.Tests.{eq-eqb, ne_eqb, lt-ltb, le-ltb}
 use Rattle.values.specs.declared.Name.{Name}
 use Rattle.names.specs.Names.{same}
@@ -177,16 +177,3 @@ length-listed f (suc n) = length-append (listed f n) (f n ∷ []) ∙ add-one (l
 pub length-words : (s xs ls : List ℕ) (n : ℕ) → length (words s xs ls n) ≡ n
 unfolding words
 length-words s xs ls n = length-listed (held_at s xs ls n) n
-
--- ---- values
-
-replicate_snoc : (n v : ℕ) → replicate (suc n) v ≡ replicate n v ++ (v ∷ [])
-replicate_snoc zero v = refl
-replicate_snoc (suc n) v = ap (λ (r : List ℕ). v ∷ r) (replicate_snoc n v)
-
--- one value more is filled in
-pub filled_more : (l m : List ℕ) (from i v : ℕ) → from ≤ i → i < length l → take i l ≡ m ++ replicate (i - from) v
-    → take (i + 1) (set l i v) ≡ m ++ replicate (i + 1 - from) v
-filled_more l m from i v h k e =
-    let q : i + 1 - from ≡ suc (i - from) = omega arith in
-    rw (q, replicate_snoc (i - from) v, add-one i, take-suc-set l i v k, e) (append_assoc m (replicate (i - from) v) (v ∷ []))

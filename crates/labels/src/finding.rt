@@ -56,7 +56,7 @@ pub fn find(
     let wanted = key(line, start, size as u16);
     let chain = chain_of(line, start, size);
     let mut found = count;
-    // the last label of the chain first: the first of like ones is the last that is met
+    // the last label of the chain first: the first of like ones is the last that is met; a walk along links, which no iterator makes
     let mut named = onward(keys, chain, count, cell(keys, LASTS_FROM + chain));
     while 0 < named {
         let j = named - 1;

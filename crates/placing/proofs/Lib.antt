@@ -1,6 +1,5 @@
 -- Laws that the proofs of this crate's functions cite, by topic.
 pub mod CellLaws
-pub mod Mapped
 pub mod ActLaws
 pub mod NameLaws
 pub mod TestLaws

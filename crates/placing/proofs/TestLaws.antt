@@ -1,52 +1,25 @@
 -- The code's tests of a statement at a place, by numbers.
 use Prim.Native.Nat.{ℕ, ◌+◌, ◌-◌, ◌≤◌, ◌<◌}
-use mathlib.Core.Bool.{Bool, true, false, ◌&&◌}
+use mathlib.Core.Bool.{Bool, true, false}
 use mathlib.Core.Logic.{◌⊎◌, inl, inr}
 use mathlib.Core.Path.{◌≡◌, refl, sym, ap, ◌∙◌}
 use native.Mathlib.Omega.{arith}
-use lib.Dec.{ltb, leb}
+use lib.Dec.{ltb}
 use borrow.Author.Tests.{lt-ltb, le-ltb, ltb-true, ltb-false}
 use Rattle.codes.specs.Limits.{most_cells}
 use Rattle.sources.specs.Placing.{moved_by}
-use Rattle.sources.specs.Inner.Assembling.{gives_start, reserves_too_far}
-use Rattle.sources.specs.declared.Gives.{Gives}
-use Rattle.sources.specs.declared.Gives.TheVariants.{Start}
+use Rattle.sources.specs.Inner.Assembling.{reserves_too_far}
 use Rattle.sources.specs.declared.Moves.{Moves}
 use Rattle.sources.specs.declared.Moves.TheVariants.{On, Reserving, To}
 use Rattle.placing.specs.Inner.State.{Sound, past_at}
 
 -- ---- 11: past the memory's end
 
-pub past-none : (M at n : ℕ) → n ≡ 0 → false ≡ past_at M at n
-past-none M at n e = rw e
-
-pub past_big : (M at n : ℕ) → (n ≡ 0 → ⊥) → M < n → true ≡ past_at M at n
-past_big M at n h k = rw (lt-ltb 0 n (omega (arith, h)), lt-ltb M (at + n) (omega arith))
-
-pub past-test : (M at n : ℕ) → (n ≡ 0 → ⊥) → n ≤ M → ltb (M - n) at ≡ past_at M at n
-past-test M at n h k = rw (lt-ltb 0 n (omega (arith, h))) (go (ltb (M - n) at) refl)
-  where
-    go : (b : Bool) → ltb (M - n) at ≡ b → b ≡ ltb M (at + n)
-    go true e = let l = ltb-true (M - n) at e in sym (lt-ltb M (at + n) (omega arith))
-    go false e = let l = ltb-false (M - n) at e in sym (le-ltb M (at + n) (omega arith))
-
 -- what `is_taken` and `paint` ask for
 pub not-past : (M at n : ℕ) → past_at M at n ≡ false → 0 < n → at + n ≤ M
 not-past M at n e h =
     let f : ltb M (at + n) ≡ false = rw (lt-ltb 0 n h) at e in
     ltb-false M (at + n) f
-
--- ---- 6: a label that waits would get 65,536
-
-and-false : (b : Bool) → (b && false) ≡ false
-and-false true = refl
-and-false false = refl
-
-pub label-none : (g : Gives) (w at : ℕ) → w ≡ 0 → false ≡ (gives_start g && (ltb 0 w && leb most_cells at))
-label-none g w at e = rw e (sym (and-false (gives_start g)))
-
-pub label-some : (g : Gives) (w at : ℕ) → g ≡ Start → (w ≡ 0 → ⊥) → leb most_cells at ≡ (gives_start g && (ltb 0 w && leb most_cells at))
-label-some g w at e h = rw (e, lt-ltb 0 w (omega (arith, h)))
 
 -- ---- 6: RES goes too far
 

@@ -32,16 +32,12 @@ pub fn settle(
         let cell = row[base + 2] as usize;
         let line = row[base + 3] as usize;
         let away = aways[i] as usize;
-        let w = match word(s, starts, keys, values, count, start, size, cell, away) {
-            Ok(w) => w,
-            Err(number) => {
-                return Err(Unsettled {
-                    number,
-                    line: Line(line),
-                    second: line == before,
-                });
-            }
-        };
+        let found = word(s, starts, keys, values, count, start, size, cell, away);
+        let w = found.map_err(|number| Unsettled {
+            number,
+            line: Line(line),
+            second: line == before,
+        })?;
         put(cells, cell, w);
         before = line;
     }

@@ -88,15 +88,15 @@ fn walk_lines(
     let mut from: usize = 0;
     let mut number: usize = 0;
     let mut uses: usize = 0;
+    // a line begins where the one before ended, and none does behind END: an iterator of lines would not say where
     while from < s.len() {
         let end = line_end(s, from);
         let line = &s[from..end];
         let read = read_line(line);
         let at = c.at.0;
         number += 1;
-        c = place_line(s, from, line, read, starts, keys, values, marks, c).map_err(
-            |f| Stopped::InLine(f, Line(number)),
-        )?;
+        let placed = place_line(s, from, line, read, starts, keys, values, marks, c);
+        c = placed.map_err(|f| Stopped::InLine(f, Line(number)))?;
         let st = read.statement;
         uses = keep_line(line, from, number, st, at, cells, row, aways, uses);
         from = next_line(st, end + 1, s.len());

@@ -6,7 +6,7 @@ use Rattle.std.proofs.lemmas.Result.{err_from_is_err_and}
 use Rattle.statements.specs.Judging.{number_of}
 use Rattle.placing.specs.Inner.State.{state_of}
 use Rattle.placing.proofs.LineLaws.{own-fails, own-passes}
-use Rattle.placing.proofs.Mapped.{mapped-ok, mapped-err}
+use Rattle.labels.proofs.Mapped.{mapped-ok, mapped-err}
 use Rattle.placing.proofs.placing.place_statement.Goals as goal
 
 pub returns-in_err-says : goal.returns-in_err-says

@@ -6,7 +6,7 @@ use mathlib.Core.Path.{◌≡◌, refl, sym, ap, ◌∙◌}
 use lib.ListN.{length}
 use Rattle.std.proofs.lemmas.Result.{err_from_is_err_and}
 use Rattle.statements.specs.declared.LineRead.{LineRead}
-use Rattle.placing.proofs.Mapped.{mapped-ok, mapped-err}
+use Rattle.labels.proofs.Mapped.{mapped-ok, mapped-err}
 use Rattle.walking.specs.declared.Stopped.TheVariants.{InLine}
 use Rattle.placing.specs.Inner.State.{place_in}
 use Rattle.walking.proofs.Walks.{left_at_start, end-within, line_part, further, line-fits, turns_over, turn-stops, turn-room, turn-goes}
@@ -23,8 +23,8 @@ pub overflow_add-number : goal.overflow_add-number
 overflow_add-number c =
     omega (arith, c.loop-from.invariant.few-lines, c.loop-from-test.true, c.requires.short)
 
-pub place_line-requires : goal.place_line-requires
-place_line-requires c =
+pub place_line-placed-requires : goal.place_line-placed-requires
+place_line-placed-requires c =
     let e = c.line_end-end.ensures in
     let test = c.loop-from-test.true in
     let p = c.loop-from in
@@ -50,7 +50,7 @@ returns-in_err-c c =
     let a = c.args in
     let s = a.s.now in
     let m = length a.marks.now in
-    let l = c.place_line in
+    let l = c.place_line-placed in
     let starts = l.new.starts in
     let keys = l.new.keys in
     let values = l.new.values in
@@ -71,7 +71,7 @@ keep_line-uses-requires c =
     let m = length a.marks.now in
     let pre = c.requires in
     let i = p.invariant in
-    let l = c.place_line in
+    let l = c.place_line-placed in
     let starts = l.new.starts in
     let keys = l.new.keys in
     let values = l.new.values in
@@ -113,7 +113,7 @@ loop-from-preserved c =
     let a = c.args in
     let s = a.s.now in
     let m = length a.marks.now in
-    let l = c.place_line in
+    let l = c.place_line-placed in
     let starts = l.new.starts in
     let keys = l.new.keys in
     let values = l.new.values in
