@@ -1,20 +1,16 @@
 -- What the code keeps of an item is the item's; and an item takes no more cells than bytes.
 use Prim.Native.Nat.{ℕ, ◌+◌, ◌≤◌, ◌<◌}
-use mathlib.Core.Bool.{Bool, true, false, cond}
+use mathlib.Core.Bool.{true}
 use mathlib.Core.List.{List, [], ◌∷◌, ◌++◌}
 use mathlib.Core.Path.{◌≡◌, refl, sym, ap, subst, ◌∙◌}
 use native.Mathlib.Omega.{arith}
 use lib.ListN.{length, drop, length-drop, length-append}
-use mir.Syntax.{w16}
-use mir.Val.{of_z}
-use Rattle.numerals.specs.Numbers.{value_of, in_range, kept_of}
 use Rattle.numerals.specs.declared.Cursor.{Cursor}
 use Rattle.std.proofs.Common.{Option, Some, None}
 use Rattle.numerals.specs.Reading.{upto}
 use Rattle.numerals.specs.declared.Read.{Read}
 use Rattle.values.specs.declared.Value.{Value}
 use Rattle.items.specs.declared.Measure.{Measure}
-use Rattle.numerals.specs.declared.Numeral.{Numeral}
 use Rattle.tokens.specs.Strings.{Characters}
 use Rattle.tokens.specs.Reading.{token_at}
 use Rattle.tokens.specs.declared.Kind.{Kind}
@@ -23,7 +19,6 @@ use Rattle.tokens.specs.declared.Token.{Token}
 use Rattle.tokens.proofs.Meanings.{Means, token-means}
 use Rattle.tokens.proofs.Places.{token_placed}
 use Rattle.values.specs.Reading.{value_at}
-use Rattle.values.specs.declared.Name.{Name}
 use Rattle.values.specs.declared.Value.TheVariants.{Number, Label}
 use Rattle.values.proofs.Finds.{value-stands}
 use Rattle.tokens.proofs.Heads.{ends_of}
@@ -32,25 +27,6 @@ use Rattle.items.specs.Reading.{characters}
 use Rattle.items.specs.Inner.Turns.{Standing, stands, none, string_by, string_at, number_item, item_by, item_at, measured}
 use Rattle.numerals.proofs.SameReads.{same-value, same-next}
 use Rattle.items.proofs.Counts.{characters_of, characters_fit}
-
--- ---- ranges
-
-module _ (n : Numeral) where
-  pub kept_in : {x : ℕ} → kept_of n ≡ Some x → in_range (value_of n) ≡ true
-  unfolding kept_of
-  kept_in {x} e = go (in_range (value_of n)) refl e
-    where
-      go : (b : Bool) → in_range (value_of n) ≡ b → cond b (Some (of_z w16 (value_of n))) None ≡ Some x → in_range (value_of n) ≡ true
-      go true q e = q
-      go false q e = let z : ◌≡◌ {A = ℕ} 0 1 = cc in absurd (omega arith)
-
-  pub kept_out : kept_of n ≡ None → in_range (value_of n) ≡ false
-  unfolding kept_of
-  kept_out e = go (in_range (value_of n)) refl e
-    where
-      go : (b : Bool) → in_range (value_of n) ≡ b → cond b (Some (of_z w16 (value_of n))) None ≡ None → in_range (value_of n) ≡ false
-      go true q e = let z : ◌≡◌ {A = ℕ} 0 1 = cc in absurd (omega arith)
-      go false q e = q
 
 -- ---- strings
 
@@ -104,19 +80,6 @@ module _ (s : List ℕ) (at : ℕ) {t : Token} (e : t ≡ token_at s at) (q : t.
 -- ---- an item
 
 module _ (s : List ℕ) (at : ℕ) where
-  pub number-measured : {n : Numeral} {c : Cursor} {b : Bool} → value_at s at ≡ Some (upto (Number n) c) → b ≡ in_range (value_of n)
-      → Some (upto (record { cells = 1; fits = b }) c) ≡ measured (item_at s at)
-  unfolding item_at
-  number-measured e q = rw (e, q)
-
-  pub label-measured : {w : Name} {c : Cursor} → value_at s at ≡ Some (upto (Label w) c) → None ≡ measured (item_at s at)
-  unfolding item_at
-  label-measured e = rw e
-
-  pub other-measured : {r : Option (Read Measure)} → value_at s at ≡ None → r ≡ measured (string_at s (token_at s at)) → r ≡ measured (item_at s at)
-  unfolding item_at
-  other-measured e q = rw e q
-
   -- each item takes no more cells than bytes
   abbrev Small : Standing → Type 0
   Small (stands i c) = (at < c.at) × (at + length (item_cells i) ≤ c.at) × (c.at ≤ length s)

@@ -11,10 +11,8 @@ use mir.Syntax.{w16}
 use mir.Val.{of_z}
 use Rattle.numerals.specs.Numbers.{value_of, in_range, kept_of}
 use Rattle.numerals.specs.declared.Cursor.{Cursor}
-use Rattle.std.proofs.Common.{Option, Some, None, Result, Ok, Err, is_ok}
-use Rattle.numerals.specs.Reading.{upto}
+use Rattle.std.proofs.Common.{Some, None, Result, Ok, Err, is_ok}
 use Rattle.numerals.specs.declared.Read.{Read}
-use Rattle.values.specs.declared.Value.{Value}
 use Rattle.items.specs.declared.ItemsFault.{ItemsFault}
 use Rattle.items.specs.declared.ItemsFault.TheVariants.{OutOfRange}
 use Rattle.numerals.specs.declared.Numeral.{Numeral}
@@ -27,15 +25,12 @@ use Rattle.tokens.specs.declared.Follows.TheVariants.{Comma, Over, Neither}
 use Rattle.tokens.specs.declared.Kind.TheVariants as K
 use Rattle.tokens.specs.declared.Token.{Token}
 use Rattle.tokens.proofs.Quoted.{ReadAt, characters-read}
-use Rattle.values.specs.Reading.{value_at}
-use Rattle.values.specs.declared.Name.{Name}
-use Rattle.values.specs.declared.Value.TheVariants.{Number, Label}
 use Rattle.items.specs.Items.{Item, number, item_cells, item_in_range, cells_of, all_in_range}
 use Rattle.items.specs.Reading.{characters, item, RowRead, reads, wrong, cons, walk, judged, items_read}
-use Rattle.items.specs.Inner.Turns.{string_at, item_by, item_at, measured, accepted, cells_at}
+use Rattle.items.specs.Inner.Turns.{string_at, item_at, measured, accepted, cells_at}
 use Rattle.items.specs.Writing.{accepted_cells, cells_from}
 use Rattle.items.specs.declared.Measure.{Measure}
-use Rattle.items.proofs.Measures.{kept_in, kept_out, quote_at, FoundItem, no_item}
+use Rattle.items.proofs.Measures.{quote_at, FoundItem, no_item}
 use Rattle.items.proofs.Walks.{item_on, item-turn, walked}
 
 -- a row written after another
@@ -98,31 +93,6 @@ number-cell n {x} e = go (in_range (value_of n)) e
     go : (b : Bool) → cond b (Some (of_z w16 (value_of n))) None ≡ Some x → item_cells (number n) ≡ x ∷ []
     go true e = cc
     go false e = let z : ◌≡◌ {A = ℕ} 0 1 = cc in absurd (omega arith)
-
-module _ (s : List ℕ) (at : ℕ) (row : List ℕ) (to : ℕ) where
-  -- what is written where a value stands
-  by_value : {r : Option (Read Value)} → value_at s at ≡ r → sets row to (cells_at (item_at s at)) ≡ sets row to (cells_at (item_by s at r))
-  unfolding item_at
-  by_value e = ap (λ (r : Option (Read Value)). sets row to (cells_at (item_by s at r))) e
-
-  by_range : (n : Numeral) {c : Cursor} {b : Bool} → value_at s at ≡ Some (upto (Number n) c) → in_range (value_of n) ≡ b
-      → sets row to (cells_at (item_at s at)) ≡ sets row to (cond b (item_cells (number n)) [])
-  by_range n e q = by_value e ∙ ap (λ (b : Bool). sets row to (cond b (item_cells (number n)) [])) q
-
-  pub number-written : {n : Numeral} {c : Cursor} {x : ℕ} {ms : List ℕ} → value_at s at ≡ Some (upto (Number n) c) → kept_of n ≡ Some x
-      → ms ≡ set row to x → ms ≡ sets row to (cells_at (item_at s at))
-  number-written {n} e k w = w ∙ sym (by_range n e (kept_in n k) ∙ ap (sets row to) (number-cell n k))
-
-  pub number-out : {n : Numeral} {c : Cursor} → value_at s at ≡ Some (upto (Number n) c) → kept_of n ≡ None
-      → row ≡ sets row to (cells_at (item_at s at))
-  number-out {n} e k = sym (by_range n e (kept_out n k))
-
-  pub label-written : {w : Name} {c : Cursor} → value_at s at ≡ Some (upto (Label w) c) → row ≡ sets row to (cells_at (item_at s at))
-  label-written e = sym (by_value e)
-
-  pub other-written : {ms : List ℕ} → value_at s at ≡ None → ms ≡ sets row to (cells_at (string_at s (token_at s at)))
-      → ms ≡ sets row to (cells_at (item_at s at))
-  other-written e w = w ∙ sym (by_value e)
 
 -- ---- the items of a row
 

@@ -5,7 +5,7 @@ use mathlib.Core.Bool.{Bool, true, false, cond, not, ◌&&◌, ◌||◌, and-fal
 use mathlib.Core.Path.{◌≡◌, refl, sym, ◌∙◌}
 use native.Mathlib.Omega.{arith}
 use lib.Dec.{leb, ltb, eqb}
-use borrow.Author.Tests.{le-leb, lt-leb, lt-ltb, le-ltb, ne_eqb, leb-true, leb-false, ltb-false, eqb-true, eqb-false}
+use borrow.Author.Tests.{le-leb, lt-leb, lt-ltb, le-ltb, ne_eqb, leb-true, leb-false, ltb-true, ltb-false, eqb-true, eqb-false}
 use Rattle.numerals.specs.Bytes.{between, is_digit, is_letter, is_word_byte, rank}
 use Rattle.numerals.proofs.Ranks.{rank-low, rank_high}
 use Rattle.tokens.specs.Bytes.{is_blank, is_quote, is_semicolon, is_printable, is_mark, is_stray}
@@ -116,18 +116,14 @@ module _ (b : ℕ) where
   unfolding is_mark
   is-mark w k q c p = rw (w, p, k, q, c)
 
-  -- a byte of a word is no mark, nor is a quote or a semicolon
-  pub no_word_mark : is_word_byte b ≡ true → is_mark b ≡ false
+  pub mark_by_rank : 32 < b → b ≤ 126 → (b ≡ code "\"" → ⊥) → (b ≡ code ";" → ⊥) → leb 17 (rank b) ≡ is_mark b
   unfolding is_mark
-  no_word_mark w = rw (w, and-false (is_printable b))
-
-  pub no_quote_mark : b ≡ code "\"" → is_mark b ≡ false
-  unfolding is_mark is_blank
-  no_quote_mark e = rw e
-
-  pub no_semicolon_mark : b ≡ code ";" → is_mark b ≡ false
-  unfolding is_mark is_blank
-  no_semicolon_mark e = rw e
+  mark_by_rank l m q c =
+      rw (is_inside 32 126 b (omega arith) m, high_no_blank l, ne_eqb b 34 q, ne_eqb b 59 c, word_ranks) (go (ltb (rank b) 17) refl)
+    where
+      go : (x : Bool) → ltb (rank b) 17 ≡ x → leb 17 (rank b) ≡ (not x && true)
+      go true e = lt-leb 17 (rank b) (ltb-true (rank b) 17 e)
+      go false e = le-leb 17 (rank b) (ltb-false (rank b) 17 e)
 
   -- what a mark is not
   pub record NoOther : Type 0 where

@@ -9,7 +9,7 @@ use native.Mathlib.Numerals.{one-add}
 use native.Mathlib.Omega.{arith}
 use lib.Dec.{eqb}
 use lib.Ieee.Bits.{is_true}
-use lib.ListN.{length, get_or, drop, drop_of_length-le}
+use lib.ListN.{length, get_or, drop}
 use lib.Seq.{get_or-drop, drop-drop}
 use borrow.Author.Tests.{ne_eqb, eqb-true, eqb-false}
 use Rattle.numerals.proofs.Radixes.{within, begins}
@@ -254,11 +254,11 @@ module _ (s : List ℕ) (at i : ℕ) (h : at + 1 ≤ i) (e : closing (drop (at +
   told k = subst (Tells s i) k (tells s i)
 
   pub string_on : {b : ℕ} {c : Cursor} → character_at s i ≡ Stands b c
-      → (i < c.at) × (closing (drop (at + 1) s) ≡ further (c.at - (at + 1)) (closing (drop c.at s)))
+      → (i < c.at) × (c.at ≤ length s) × (closing (drop (at + 1) s) ≡ further (c.at - (at + 1)) (closing (drop c.at s)))
   string_on {b} {c} k =
       let t : Tells s i (Stands b c) = told k in
       let n : i - (at + 1) + (c.at - i) ≡ c.at - (at + 1) = omega (arith, t.0) in
-      (t.0, e ∙ ap (further (i - (at + 1))) t.2 ∙ further-further (i - (at + 1)) (c.at - i) (closing (drop c.at s)) ∙ rw n)
+      (t.0, t.1, e ∙ ap (further (i - (at + 1))) t.2 ∙ further-further (i - (at + 1)) (c.at - i) (closing (drop c.at s)) ∙ rw n)
 
   pub string-closed : (d : Bool) {c : Cursor} → character_at s i ≡ Closed c
       → string_token (closing (drop (at + 1) s)) at d ≡ token Text at d c.at
@@ -268,12 +268,5 @@ module _ (s : List ℕ) (at i : ℕ) (h : at + 1 ≤ i) (e : closing (drop (at +
       let n : at + 1 + (i - (at + 1) + 1) ≡ c.at = omega (arith, t.0) in
       rw (e, t.2, n)
 
-  never-found : (d : Bool) → closing (drop i s) ≡ never → string_token (closing (drop (at + 1) s)) at d ≡ token Stray at d at
-  never-found d k = rw (e, k)
-
   pub string-broken : (d : Bool) → character_at s i ≡ Broken → string_token (closing (drop (at + 1) s)) at d ≡ token Stray at d at
-  string-broken d k = never-found d (told k)
-
-  pub string-unclosed : (d : Bool) → length s ≤ i → string_token (closing (drop (at + 1) s)) at d ≡ token Stray at d at
-  unfolding closing
-  string-unclosed d k = never-found d (rw (drop_of_length-le s k))
+  string-broken d k = let n : closing (drop i s) ≡ never = told k in rw (e, n)

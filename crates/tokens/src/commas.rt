@@ -11,15 +11,12 @@ pub fn follows(s: &[u8], from: Cursor) -> Follows
     ensures { result ≡ follows_of (token_at s.now from.at) }
 {
     let at = skip(s, from.at);
-    if s.len() <= at {
-        return Follows::Over;
+    let Some(&b) = s.get(at) else {
+        return Follows::Over
+    };
+    match b {
+        b';' => Follows::Over,
+        b',' => Follows::Comma(Cursor { at: at + 1 }),
+        _ => Follows::Neither,
     }
-    let b = s[at];
-    if b == b';' {
-        return Follows::Over;
-    }
-    if b == b',' {
-        return Follows::Comma(Cursor { at: at + 1 });
-    }
-    Follows::Neither
 }

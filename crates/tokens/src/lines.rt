@@ -6,12 +6,10 @@ ghost use Rattle.tokens.specs.Reading.{line_length};
 pub fn line_end(s: &[u8], from: usize) -> usize
     ensures { result ≡ from + line_length (drop from s.now) }
 {
-    let mut i = from;
-    while i < s.len() {
+    for i in from..s.len() {
         if s[i] == b'\n' {
             return i;
         }
-        i += 1;
     }
-    i
+    from.max(s.len())
 }

@@ -6,31 +6,21 @@ use super::Character;
 use numerals::Cursor;
 
 // What stands at a cursor inside a string.
+#[tactic(auto, unfolding(crate::specs::Reading::character_at))]
 pub fn character(s: &[u8], from: Cursor) -> Character
     ensures { result ≡ character_at s.now from.at }
 {
     let at = from.at;
-    if s.len() <= at {
-        return Character::Broken;
+    let Some(&b) = s.get(at) else {
+        return Character::Broken
+    };
+    match b {
+        b'"' => Character::Closed(Cursor { at: at + 1 }),
+        b'\\' => match s.get(at + 1) {
+            Some(b'n') => Character::Stands(b'\n', Cursor { at: at + 2 }),
+            _ => Character::Broken,
+        },
+        32..=126 => Character::Stands(b, Cursor { at: at + 1 }),
+        _ => Character::Broken,
     }
-    let b = s[at];
-    if b == b'"' {
-        return Character::Closed(Cursor { at: at + 1 });
-    }
-    if b == b'\\' {
-        if s.len() - at < 2 {
-            return Character::Broken;
-        }
-        if s[at + 1] != b'n' {
-            return Character::Broken;
-        }
-        return Character::Stands(b'\n', Cursor { at: at + 2 });
-    }
-    if b < 32 {
-        return Character::Broken;
-    }
-    if 126 < b {
-        return Character::Broken;
-    }
-    Character::Stands(b, Cursor { at: at + 1 })
 }

@@ -10,30 +10,23 @@ use super::{Character, Kind, Token};
 use numerals::bytes::{rank_of, run_end};
 use numerals::{Cursor, Read};
 
+#[tactic(auto, unfolding(crate::specs::Bytes::is_blank))]
 pub fn is_blank(b: u8) -> bool
     ensures { result ≡ is_blank b }
 {
-    if b == b' ' {
-        return true;
-    }
-    if b == b'\t' {
-        return true;
-    }
-    b == b'\r'
+    matches!(b, b' ' | b'\t' | b'\r')
 }
 
 // The place after the blanks that stand from a place on.
 pub(crate) fn skip(s: &[u8], from: usize) -> usize
     ensures { result ≡ from + blanks (drop from s.now) }
 {
-    let mut i = from;
-    while i < s.len() {
+    for i in from..s.len() {
         if !is_blank(s[i]) {
             return i;
         }
-        i += 1;
     }
-    i
+    from.max(s.len())
 }
 
 // A token from a place to the place after it.
@@ -53,7 +46,12 @@ fn number_token(s: &[u8], at: usize, directly: bool) -> Token
     ensures { result ≡ number_token (unsigned_at s.now at) at directly }
 {
     match (Cursor { at }).unsigned(s) {
-        Some(Read { value: n, next }) => spanning(Kind::Number(n.magnitude, n.radix), at, directly, next.at),
+        Some(Read { value: n, next }) => spanning(
+            Kind::Number(n.magnitude, n.radix),
+            at,
+            directly,
+            next.at,
+        ),
         None => spanning(Kind::Stray, at, directly, at),
     }
 }
@@ -63,21 +61,14 @@ fn string_token(s: &[u8], at: usize, directly: bool) -> Token
     requires { at < length s.now }
     ensures { result ≡ string_token (closing (drop (at + 1) s.now)) at directly }
 {
-    let mut i = at + 1;
-    while i < s.len() {
-        match character(s, Cursor { at: i }) {
-            Character::Stands(_, next) => {
-                i = next.at;
-            }
-            Character::Closed(next) => {
-                return spanning(Kind::Text, at, directly, next.at);
-            }
-            Character::Broken => {
-                return spanning(Kind::Stray, at, directly, at);
-            }
+    let mut inside = Cursor { at: at + 1 };
+    loop {
+        match character(s, inside) {
+            Character::Stands(_, next) => inside = next,
+            Character::Closed(next) => return spanning(Kind::Text, at, directly, next.at),
+            Character::Broken => return spanning(Kind::Stray, at, directly, at),
         }
     }
-    spanning(Kind::Stray, at, directly, at)
 }
 
 // The token that begins at a place where no blank stands.
@@ -101,10 +92,7 @@ fn token_here(s: &[u8], at: usize, directly: bool) -> Token
     if b == b';' {
         return spanning(Kind::End, at, directly, at);
     }
-    if b < 33 {
-        return spanning(Kind::Stray, at, directly, at);
-    }
-    if 126 < b {
+    if b < 33 || 126 < b {
         return spanning(Kind::Stray, at, directly, at);
     }
     spanning(Kind::Mark(b), at, directly, at + 1)

@@ -1,28 +1,26 @@
 -- Each way cites what the byte after the blanks tells (Peeks.antt).
+use Rattle.std.proofs.Common.{◌≡◌, sym, ◌∙◌, get_or, arith}
 use Rattle.tokens.proofs.Peeks.{follows-past, follows-comment, follows-comma, follows-neither}
 use Rattle.tokens.proofs.commas.follows.Goals as goal
+use Rattle.tokens.proofs.commas.follows.Goals.{In-Some}
 
-pub returns-then-s-at : goal.returns-then-s-at
-returns-then-s-at c =
-    let a = c.args in
-    let p = c.skip-at in
-    follows-past a.s.now a.from.at p.result p.ensures c.if-s-at.true
+byte : (c : In-Some) → get_or c.args.s.now c.skip-at.result 0 ≡ c.in-Some.field-0.now
+byte c = sym (c.in-Some.ensures.lookup.4 (omega arith) 0)
 
-pub returns-then-b-eq59 : goal.returns-then-b-eq59
-returns-then-b-eq59 c =
-    let a = c.args in
-    let p = c.skip-at in
-    follows-comment a.s.now a.from.at p.result p.ensures c.if-s-at.false c.if-b-eq59.true
+pub returns-in_default : goal.returns-in_default
+returns-in_default c = follows-past c.args.s.now c.args.from.at c.skip-at.result c.skip-at.ensures c.in_default.ensures.lookup.3
 
-pub returns-then-b-eq44 : goal.returns-then-b-eq44
-returns-then-b-eq44 c =
-    let a = c.args in
-    let p = c.skip-at in
-    follows-comma a.s.now a.from.at p.result p.ensures c.if-s-at.false c.if-b-eq44.true
+pub returns-in-59 : goal.returns-in-59
+returns-in-59 c =
+    let e = byte (goal.at.returns-in-59 c).In-Some in
+    follows-comment c.args.s.now c.args.from.at c.skip-at.result c.skip-at.ensures c.in-Some.ensures.lookup.3.0 (e ∙ c.in-59.is)
 
-pub returns : goal.returns
-returns c =
-    let a = c.args in
-    let p = c.skip-at in
-    follows-neither a.s.now a.from.at p.result p.ensures c.if-s-at.false c.if-b-eq59.false
-    c.if-b-eq44.false
+pub returns-in-44 : goal.returns-in-44
+returns-in-44 c =
+    let e = byte (goal.at.returns-in-44 c).In-Some in
+    follows-comma c.args.s.now c.args.from.at c.skip-at.result c.skip-at.ensures c.in-Some.ensures.lookup.3.0 (e ∙ c.in-44.is)
+
+pub returns-in_default-b : goal.returns-in_default-b
+returns-in_default-b c =
+    let e = byte (goal.at.returns-in_default-b c).In-Some in
+    follows-neither c.args.s.now c.args.from.at c.skip-at.result c.skip-at.ensures c.in-Some.ensures.lookup.3.0 (omega arith) (omega arith)

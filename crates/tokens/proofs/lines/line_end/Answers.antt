@@ -16,4 +16,4 @@ loop-i-preserved c =
 pub returns : goal.returns
 returns c =
     let a = c.args in
-    omega (arith, line-none a.s.now c.loop-i.i (omega arith))
+    grind (arith, line-none a.s.now c.loop-i.i, line-none a.s.now a.from, c.loop-i.auto.i-end)

@@ -17,4 +17,4 @@ loop-i-preserved c =
 pub returns : goal.returns
 returns c =
     let a = c.args in
-    omega (arith, blanks-none a.s.now c.loop-i.i (omega arith))
+    grind (arith, blanks-none a.s.now c.loop-i.i, blanks-none a.s.now a.from, c.loop-i.auto.i-end)

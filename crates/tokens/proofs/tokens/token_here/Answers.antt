@@ -1,4 +1,5 @@
 -- Each way tests the byte's class as the definition does (Here.antt), by its rank and as a number (Classes.antt).
+use mathlib.Core.Logic.{⊎_elim}
 use mathlib.Core.Path.{sym, ap, ◌∙◌}
 use Prim.Native.Nat.{ℕ}
 use native.Mathlib.Omega.{arith}
@@ -58,18 +59,7 @@ returns-then-b-lt33 c =
     let q = ne_eqb b 34 c.if-b-eq34.false in
     let k = ne_eqb b 59 c.if-b-eq59.false in
     c.spanning-then-b-lt33.ensures
-    ∙ sym (here-stray a.s.now a.at a.directly l w q k (no_low_mark b c.if-b-lt33.true))
-
-pub returns-then-b-gt126 : goal.returns-then-b-gt126
-returns-then-b-gt126 c =
-    let a = c.args in
-    let b = get_or a.s.now a.at 0 in
-    let l = c.if-s-at.false in
-    let w = no-word b (omega arith) in
-    let q = ne_eqb b 34 c.if-b-eq34.false in
-    let k = ne_eqb b 59 c.if-b-eq59.false in
-    c.spanning-then-b-gt126.ensures
-    ∙ sym (here-stray a.s.now a.at a.directly l w q k (no_high_mark b c.if-b-gt126.true))
+    ∙ sym (here-stray a.s.now a.at a.directly l w q k (⊎_elim (no_low_mark b) (λ h. no_high_mark b h.1) c.then-b-lt33.either))
 
 pub returns : goal.returns
 returns c =
@@ -79,6 +69,6 @@ returns c =
     let w = no-word b (omega arith) in
     let q = ne_eqb b 34 c.if-b-eq34.false in
     let k = ne_eqb b 59 c.if-b-eq59.false in
-    let m = is-mark b w (high_no_blank b c.if-b-lt33.false) q k (is_inside 32 126 b (omega arith) c.if-b-gt126.false) in
+    let m = is-mark b w (high_no_blank b (omega arith)) q k (is_inside 32 126 b (omega arith) (omega arith)) in
     c.spanning-2.ensures
     ∙ sym (here-mark a.s.now a.at a.directly l w q k m)
