@@ -1,19 +1,20 @@
 -- Sizes of sums, products and quotients of 32-bit numbers, and the test of the range.
 use Prim.Native.Nat.{ℕ, zero, suc, ◌+◌, ◌*◌, ◌-◌, ◌/◌, ◌^◌, ◌≤◌, ◌<◌}
-use mathlib.Core.Bool.{Bool, true, false, cond}
-use mathlib.Core.Path.{◌≡◌, refl, ap, ap₂, subst⁻¹, ◌∙◌}
+use mathlib.Core.Bool.{Bool, true, false, cond, ◌&&◌}
+use mathlib.Core.Path.{◌≡◌, refl, sym, ap, ap₂, subst⁻¹, ◌∙◌}
 use native.Mathlib.Nat.{mul-le-mul, div-le_self}
 use native.Mathlib.Omega.{arith}
-use lib.Dec.{ltb}
+use lib.Dec.{ltb, leb}
 use lib.IntN.{ℤ, pos, negsuc, neg_ℤ, sub_ℕ, ◌+ℤ◌, ◌-ℤ◌, ◌*ℤ◌}
-use lib.Signed.{mag, lt_z, quot_z, rem_z, mag_rem}
-use borrow.Author.Tests.{le-leb, lt-leb, ltb-true, ltb-false}
+use lib.Signed.{mag, quot_z, rem_z, mag_rem}
+use borrow.Author.Tests.{le-leb, lt-leb, leb-true}
 use mir.Syntax.{w32, w64}
 use mir.Val.{SFits, to_z, of_z}
 use mir.Facts.{to_z-of_z, sfits_widen}
 use Rattle.expressions.specs.Worths.{within32, is_zero}
 use Rattle.expressions.specs.Worths.{Worth}
-use Rattle.std.proofs.Common.{Ok, Err}
+use Rattle.std.proofs.Common.{Result, Ok, Err, ok_or}
+use Rattle.std.specs.Result.{OkIff, result_ok}
 use Rattle.expressions.specs.declared.Fault.TheVariants.{OutOfRange}
 
 -- ---- 64 bits are enough
@@ -93,27 +94,28 @@ module _ (f : ℤ → ℤ → ℤ) {a b : ℤ} (h : SFits w32 a) (k : SFits w32 
 
 -- ---- the range
 
-never : {X : Type 0} → false ≡ true → X
-never e = let z : ◌≡◌ {A = ℕ} 0 1 = cc in absurd (omega arith)
-
-pub below_range : (z : ℤ) → lt_z z (negsuc 2147483647) ≡ true → within32 z ≡ Err OutOfRange
-unfolding within32
-below_range (pos n) e = never e
-below_range (negsuc n) e = rw (lt-leb n 2147483647 (ltb-true 2147483647 n e))
-
-pub above_range : (z : ℤ) → lt_z (pos 2147483647) z ≡ true → within32 z ≡ Err OutOfRange
-unfolding within32
-above_range (pos n) e = rw (lt-leb n 2147483647 (ltb-true 2147483647 n e))
-above_range (negsuc n) e = never e
-
-pub in-range : (z : ℤ) → lt_z z (negsuc 2147483647) ≡ false → lt_z (pos 2147483647) z ≡ false → mag z < 2 ^ 31
-in-range (pos n) e f = let h = ltb-false 2147483647 n f in omega arith
-in-range (negsuc n) e f = let h = ltb-false 2147483647 n e in omega arith
-
-pub kept_range : (z : ℤ) → mag z < 2 ^ 31 → within32 z ≡ Ok z
+kept_range : (z : ℤ) → mag z < 2 ^ 31 → within32 z ≡ Ok z
 unfolding within32
 kept_range (pos n) h = rw (le-leb n 2147483647 (omega arith))
 kept_range (negsuc n) h = rw (le-leb n 2147483647 (omega arith))
+
+outside_range : (z : ℤ) → (SFits w32 z → ⊥) → within32 z ≡ Err OutOfRange
+unfolding within32
+outside_range (pos n) f = go (leb n 2147483647) refl
+  where
+    go : (q : Bool) → leb n 2147483647 ≡ q → cond q (Ok (pos n)) (Err OutOfRange) ≡ Err OutOfRange
+    go true e = absurd (f (record { sfits = omega (arith, leb-true n 2147483647 e) }))
+    go false e = refl
+outside_range (negsuc n) f = go (leb n 2147483647) refl
+  where
+    go : (q : Bool) → leb n 2147483647 ≡ q → cond (q && true) (Ok (negsuc n)) (Err OutOfRange) ≡ Err OutOfRange
+    go true e = absurd (f (record { sfits = omega (arith, leb-true n 2147483647 e) }))
+    go false e = refl
+
+-- a number that is kept where 32 bits hold it
+pub kept : {E : Type 0} (z : ℤ) (t : Result ℤ E) → OkIff t (SFits w32 z) z → ok_or (result_ok t) OutOfRange ≡ within32 z
+kept z (Ok x) f = ap Ok f.1 ∙ sym (kept_range z f.0.sfits)
+kept z (Err e) n = sym (outside_range z n)
 
 -- ---- zero
 

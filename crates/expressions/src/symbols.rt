@@ -6,6 +6,8 @@ ghost use Rattle.expressions.specs.Inner.Parts.{is_end};
 use super::{Operation, Symbol};
 use tokens::Kind;
 
+// What a mark is.
+#[tactic(auto, unfolding(crate::specs::Reading::mark_symbol))]
 pub fn mark_symbol(b: u8) -> Symbol
     ensures { result ≡ mark_symbol b }
 {

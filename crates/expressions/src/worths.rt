@@ -9,16 +9,11 @@ use super::{Found, Operation, Worth, Fault, FaultAt};
 fn within(v: i64) -> Worth
     ensures { result ≡ within32 v }
 {
-    if v < -2147483648 {
-        return Err(Fault::OutOfRange);
-    }
-    if 2147483647 < v {
-        return Err(Fault::OutOfRange);
-    }
-    Ok(v as i32)
+    i32::try_from(v).ok().ok_or(Fault::OutOfRange)
 }
 
 // The worth of a number that stands in an expression.
+#[tactic(auto, unfolding(crate::specs::Worths::of_number))]
 pub(crate) fn number_worth(v: u32) -> Worth
     ensures { result ≡ of_number v }
 {

@@ -1,7 +1,6 @@
 -- The fault's place stays that from here on; a byte opens one parenthesis at most.
-use mathlib.Core.Path.{sym, subst, ◌∙◌}
+use mathlib.Core.Path.{sym, ◌∙◌}
 use native.Mathlib.Omega.{arith}
-use Rattle.faults.specs.Inner.Turns.{Turned}
 use Rattle.faults.proofs.Tests.{cond_is, cond-not}
 use Rattle.faults.proofs.Turns.{from_start, at-end}
 use Rattle.faults.proofs.place.place.Goals as goal

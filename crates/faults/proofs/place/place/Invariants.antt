@@ -1,7 +1,6 @@
 -- The fault's place stays that from here on; a byte opens one parenthesis at most.
 use Prim.Native.Nat.{◌≤◌}
 use mathlib.Core.Path.{◌≡◌}
-use lib.ListN.{length}
 use Rattle.faults.specs.Walk.{place}
 use Rattle.faults.specs.Inner.Stages.{opens_in}
 use Rattle.faults.specs.Inner.Turns.{lex_at, place_at}

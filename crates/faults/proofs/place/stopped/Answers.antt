@@ -1,7 +1,7 @@
 -- Each way is one of the definition's (Tests).
 use mathlib.Core.Path.{sym, ◌∙◌}
 use Rattle.faults.specs.Inner.Turns.{lex_at}
-use Rattle.faults.proofs.Tests.{stops-other, stops-comment}
+use Rattle.faults.proofs.Tests.{stops-comment}
 use Rattle.faults.proofs.Turns.{blank-parts, blank-live}
 use Rattle.faults.proofs.place.stopped.Goals as goal
 

@@ -1,5 +1,5 @@
 -- Each test leads where the definition's does (Tests).
-use mathlib.Core.Path.{sym, ◌∙◌}
+use mathlib.Core.Path.{◌∙◌}
 use lib.Seq.{slice}
 use Rattle.faults.proofs.Tests.{word_open, word-off}
 use Rattle.faults.proofs.stages.word_end.Goals as goal
