@@ -2,20 +2,15 @@
 use mathlib.Core.Path.{◌≡◌, ap}
 use mathlib.Core.Bool.{true, false}
 use mathlib.Core.List.{List}
-use Prim.Native.Nat.{ℕ, ◌%◌, ◌≤◌, ◌<◌}
-use native.Mathlib.Omega.{arith}
-use borrow.Author.Tests.{lt-ltb, le-ltb, ne_eqb}
+use Prim.Native.Nat.{ℕ, ◌≤◌}
 use lib.ListN.{length, get_or, get_or-eq_default}
-use Rattle.codes.specs.Registers.{PC}
-use Rattle.codes.specs.Stops.{none, memory_end}
 use Rattle.isa.specs.Operands.{is_target, operand_of}
 use Rattle.isa.specs.declared.Kinds.{Kinds}
-use Rattle.isa.specs.declared.Operand.TheVariants.{Register, Indirect, IndexedSp, Relative}
+use Rattle.isa.specs.declared.Operand.TheVariants.{IndexedSp, Relative}
 use Rattle.isa.proofs.Modes.{seventh-target, seventh-other}
-use Rattle.effects.specs.Seen.{see}
-use Rattle.effects.specs.Places.{plus, place_of, value_at, there_in}
-use Rattle.effects.specs.Inner.Located.{located_at, unregistered, locate}
-use Rattle.effects.specs.declared.Place.TheVariants.{InRegister, InCell}
+use Rattle.effects.specs.Places.{plus}
+use Rattle.effects.specs.Inner.Located.{located_at}
+use Rattle.effects.specs.declared.Place.TheVariants.{InCell}
 use Rattle.effects.specs.declared.Located.{Located}
 
 -- a cell with what stands there

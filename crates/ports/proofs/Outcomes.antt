@@ -9,7 +9,6 @@ use borrow.Author.Tests.{lt-ltb, le-ltb, le-leb, lt-leb}
 use lib.Dec.{leb}
 use lib.ListN.{length, get_or, take, drop, length-drop, length-map}
 use lib.Seq.{length-take-le, take_all}
-use Rattle.numerals.specs.Bytes.{LF}
 use Rattle.numerals.specs.Reading.{line_number}
 use Rattle.numerals.specs.Writing.{signed_decimal, written}
 use Rattle.numerals.specs.declared.Written.{Written}

@@ -1,10 +1,9 @@
 -- Writing one text after another into a room is writing both at once; and the places of a decimal are its text.
-use mathlib.Core.Path.{◌≡◌, refl, sym, ap, ◌∙◌}
+use mathlib.Core.Path.{◌≡◌, sym, ap, ◌∙◌}
 use mathlib.Core.List.{List, [], ◌∷◌, ◌++◌, append_assoc}
 use Prim.Native.Nat.{ℕ, ◌+◌, ◌-◌, ◌≤◌, ◌<◌}
 use native.Mathlib.Nat.{add_assoc}
 use native.Mathlib.Omega.{arith}
-use borrow.Author.Tests.{le-leb}
 use lib.ListN.{length, set, take, drop, length-append}
 use lib.Seq.{take_all, take_at, drop-drop, length-take-le}
 use Rattle.numerals.specs.Writing.{decimal, signed_decimal, written}

@@ -1,6 +1,4 @@
 -- The text that was written, put into the room (`put-answers`).
-use native.Mathlib.Omega.{arith}
-use lib.ListN.{length-take}
 use Rattle.std.proofs.Common.{rules}
 use Rattle.record.specs.Record.{record_text}
 use Rattle.record.proofs.Outcomes.{put-answers}
