@@ -8,7 +8,6 @@ use lib.Dec.{leb, eqb}
 use lib.ListN.{length, length-append}
 use Rattle.codes.specs.Limits.{deepest}
 use Rattle.std.proofs.Common.{Option, Some, None, Ok, Err}
-use Rattle.expressions.specs.declared.Fault.TheVariants.{OutOfRange, ByZero}
 use Rattle.tokens.specs.Commas.{on_comma}
 use Rattle.tokens.specs.Marks.{on_mark}
 use Rattle.tokens.specs.Reading.{tokens_from}
@@ -68,8 +67,7 @@ module _ (n : ℕ) where
 
   fault_at : (at : ℕ) (w : Worth) → at ≤ n → fault_place (found_at at w) ≤ n
   fault_at at (Ok z) l = omega arith
-  fault_at at (Err OutOfRange) l = l
-  fault_at at (Err ByZero) l = l
+  fault_at at (Err why) l = l
 
   fault-of : (at : ℕ) (o : Operation) (a b : Found) → at ≤ n → fault_place a ≤ n → fault_place b ≤ n → fault_place (evaluate at o a b) ≤ n
   unfolding evaluate

@@ -62,9 +62,9 @@ use Rattle.faults.specs.Walk.{place}
 use Rattle.faults.proofs.Top as Faults
 use Rattle.columns.specs.Points as P
 use Rattle.columns.specs.Points.{AfterLabel, labelled, unlabelled, Statement, TakesExpression, org, equ, res, OfWord, unknown, count, result, Points, operand_of}
-use Rattle.columns.specs.Columns.{column_at, label_column, word_column_in, word_column, place_by, place_in, column_of, pointed_at, again_by, read_again, pointed}
+use Rattle.columns.specs.Columns.{column_at, label_column_by, label_column, word_column_in, word_column, place_by, place_in, column_of, pointed_at, again_by, read_again, pointed}
 use Rattle.columns.proofs.Bounds.{Below, row_below, placed_bounded, fault_below, deep-below, form-below, operand_below, number_out_below, item_out_below}
-use Rattle.columns.proofs.Found.{in_line, label-there, of_checks}
+use Rattle.columns.proofs.Found.{in_line, of_checks}
 
 -- ---- the statement
 
@@ -135,7 +135,7 @@ data Why : Result Worth Malformed → Failure → Type 0 where
   zero : Why (Ok (Err ByZero)) ByZero
   result-out : {z : ℤ} → Why (Ok (Ok z)) ResultOut
 
-fails-one : {f g : Failure} → ◌≡◌ {A = Result Statement Failure} (Err f) (Err g) → f ≡ g
+fails-one : {f g : Failure} → ◌≡◌ {A = Result Said Failure} (Err f) (Err g) → f ≡ g
 fails-one e = cc
 
 why_of : (least : ℤ) (makes : ℕ → Said) (r : Result Worth Malformed) {why : Failure} → expression_result least makes r ≡ Err why → Why r why
@@ -369,10 +369,10 @@ module _ (line : List ℕ) (number : ℕ) (nine : number ≡ 9 → ⊥) (ten : n
 
 module _ (line : List ℕ) where
   pub label-column : {n : Name} → Labelled line n → label_column line ≡ n.start + 1
-  unfolding line_read
+  unfolding line_read label_column
   label-column {n} x =
       let within = label-within line x in
-      label-there line refl ((label-exactly line n).1 x) ∙ in_line line n.start (omega (arith, within.0, within.1))
+      ap (label_column_by line) ((label-exactly line n).1 x) ∙ in_line line n.start (omega (arith, within.0, within.1))
 
   pub word-column : {w : Token} {x : Word} {ts : List Token} → Statement line w x ts → word_column line ≡ w.start + 1
   unfolding word_column word_column_in

@@ -46,7 +46,7 @@ module _ (line : List ℕ) where
   passes : Pass (failures line) → (s : Said) × ((line_read line).statement ≡ Ok s)
   passes p = go (line_read line).statement refl
     where
-      go : (r : Result Statement Failure) → (line_read line).statement ≡ r → (s : Said) × ((line_read line).statement ≡ Ok s)
+      go : (r : Result Said Failure) → (line_read line).statement ≡ r → (s : Said) × ((line_read line).statement ≡ Ok s)
       go (Ok s) e = (s, e)
       go (Err why) e = absurd (pass-none (failures line) why p ((fails-exactly line why).0 e))
 

@@ -19,9 +19,7 @@ use Rattle.tokens.proofs.Respacing.{NoStray, line-itself, comment-added}
 use Rattle.std.proofs.Common.{Option, Result, Ok, Err}
 use Rattle.operands.specs.declared.Operands.{Operands}
 use Rattle.values.specs.declared.Name.{Name}
-use Rattle.expressions.specs.declared.Fault.TheVariants.{OutOfRange, ByZero}
 use Rattle.operands.specs.declared.OperandsFault.{OperandsFault}
-use Rattle.operands.specs.declared.OperandsFault.TheVariants.{WrongForm, WrongCount, WrongKind, OutOfRange}
 use Rattle.values.proofs.Spacing.{none, some}
 use Rattle.codes.specs.Limits.{deepest, most_cells, longest_source}
 use Rattle.expressions.specs.Trees.{Tree, depth}
@@ -57,8 +55,7 @@ module _ (least : ℤ) (makes : ℕ → Statement) (n : (v : ℕ) → makes v �
   worth_no_end : (w : Worth) → worth_result least makes w ≡ Ok S.End → ⊥
   unfolding result_of
   worth_no_end (Ok z) e = kept_no_end (result_in least z) (of_z w16 z) ResultOut e
-  worth_no_end (Err OutOfRange) e = never (cc e)
-  worth_no_end (Err ByZero) e = never (cc e)
+  worth_no_end (Err why) e = never (cc e)
 
   deep_no_end : (y : Bool) (w : Worth) (why : Failure) → cond y (worth_result least makes w) (Err why) ≡ Ok S.End → ⊥
   deep_no_end true w why e = worth_no_end w e
@@ -70,10 +67,7 @@ module _ (least : ℤ) (makes : ℕ → Statement) (n : (v : ℕ) → makes v �
 
 instruction_no_end : (op : Opcode) (r : Result Operands OperandsFault) → instruction_result op r ≡ Ok S.End → ⊥
 instruction_no_end op (Ok r) e = never (cc e)
-instruction_no_end op (Err WrongForm) e = never (cc e)
-instruction_no_end op (Err WrongCount) e = never (cc e)
-instruction_no_end op (Err (WrongKind place)) e = never (cc e)
-instruction_no_end op (Err OutOfRange) e = never (cc e)
+instruction_no_end op (Err why) e = never (cc e)
 
 data_no_end : (y : Bool) (n : ℕ) (why : Failure) → cond y (Ok (S.Data n)) (Err why) ≡ Ok S.End → ⊥
 data_no_end true n why e = never (cc e)

@@ -22,9 +22,7 @@ use Rattle.std.proofs.Common.{Option, Some, None, Result, Ok, Err}
 use Rattle.statements.specs.declared.Failure.{Failure}
 use Rattle.operands.specs.declared.Operands.{Operands}
 use Rattle.values.specs.declared.Name.{Name}
-use Rattle.expressions.specs.declared.Fault.TheVariants.{OutOfRange, ByZero}
 use Rattle.operands.specs.declared.OperandsFault.{OperandsFault}
-use Rattle.operands.specs.declared.OperandsFault.TheVariants.{WrongForm, WrongCount, WrongKind, OutOfRange}
 use Rattle.codes.specs.Limits.{deepest}
 use Rattle.expressions.specs.Trees.{Tree, depth}
 use Rattle.expressions.specs.Worths.{worth_of, Worth}
@@ -67,8 +65,7 @@ tree_makes least makes e {s} h = by_depth (leb (depth e) deepest) h
 
     by_worth : (w : Worth) → worth_result least makes w ≡ Ok s → (v : ℕ) × (s ≡ makes v)
     by_worth (Ok z) q = by_result z (result_in least z) q
-    by_worth (Err OutOfRange) q = never (cc)
-    by_worth (Err ByZero) q = never (cc)
+    by_worth (Err why) q = never (cc)
 
     by_depth : (b : Bool) → cond b (worth_result least makes (worth_of e)) (Err F.TooDeep) ≡ Ok s → (v : ℕ) × (s ≡ makes v)
     by_depth true q = by_worth (worth_of e) q
@@ -92,10 +89,7 @@ passes_as (instruction op os) {s} e = go (Operands.judged op os) refl e
   where
     go : (i : Result Operands OperandsFault) → Operands.judged op os ≡ i → instruction_result op i ≡ Ok s → PassesAs (instruction op os) s
     go (Ok r) f q = let t : S.Instruction op r.first r.second ≡ s = cc in subst (PassesAs (instruction op os)) t (as_instruction f)
-    go (Err WrongForm) f q = never (cc)
-    go (Err WrongCount) f q = never (cc)
-    go (Err (WrongKind place)) f q = never (cc)
-    go (Err OutOfRange) f q = never (cc)
+    go (Err why) f q = never (cc)
 passes_as (org t) e = let h = tree_makes least_unsigned S.Org t e in subst (PassesAs (org t)) (sym h.1) as_org
 passes_as (equ t) e = let h = tree_makes least_signed S.Equ t e in subst (PassesAs (equ t)) (sym h.1) as_equ
 passes_as (res t) e = let h = tree_makes least_unsigned S.Res t e in subst (PassesAs (res t)) (sym h.1) (as_res (e ∙ ap Ok h.1))

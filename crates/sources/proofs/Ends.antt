@@ -14,9 +14,7 @@ use Rattle.expressions.specs.Trees.{Tree, depth}
 use Rattle.expressions.specs.Worths.{worth_of, Worth}
 use Rattle.std.proofs.Common.{Result, Ok, Err}
 use Rattle.operands.specs.declared.Operands.{Operands}
-use Rattle.expressions.specs.declared.Fault.TheVariants.{OutOfRange, ByZero}
 use Rattle.operands.specs.declared.OperandsFault.{OperandsFault}
-use Rattle.operands.specs.declared.OperandsFault.TheVariants.{WrongForm, WrongCount, WrongKind, OutOfRange}
 use Rattle.operands.specs.Checks as Operands
 use Rattle.items.specs.Items.{cells_of, all_in_range}
 use Rattle.statements.specs.Statements.{Reading, nothing, instruction, org, equ, res, cells, end}
@@ -37,8 +35,7 @@ module _ (least : ℤ) (makes : ℕ → Statement) (on : (v : ℕ) → is_end (m
       go : (b : Bool) → ends_it (cond b (Ok (makes (of_z w16 z))) (Err F.ResultOut)) ≡ false
       go true = on (of_z w16 z)
       go false = refl
-  worth_on (Err OutOfRange) = refl
-  worth_on (Err ByZero) = refl
+  worth_on (Err why) = refl
 
   tree_on : (e : Tree) → ends_it (tree_result least makes e) ≡ false
   unfolding tree_result
@@ -50,10 +47,7 @@ module _ (least : ℤ) (makes : ℕ → Statement) (on : (v : ℕ) → is_end (m
 
 instruction_on : (op : Opcode) (i : Result Operands OperandsFault) → ends_it (instruction_result op i) ≡ false
 instruction_on op (Ok g) = refl
-instruction_on op (Err WrongForm) = refl
-instruction_on op (Err WrongCount) = refl
-instruction_on op (Err (WrongKind place)) = refl
-instruction_on op (Err OutOfRange) = refl
+instruction_on op (Err why) = refl
 
 cells_on : (n : ℕ) (b : Bool) → ends_it (cond b (Ok (Data n)) (Err F.OutOfRange)) ≡ false
 cells_on n true = refl

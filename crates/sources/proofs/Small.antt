@@ -21,9 +21,7 @@ use Rattle.std.proofs.Common.{Option, Some, None, Result, Ok, Err}
 use Rattle.operands.specs.declared.Operands.{Operands}
 use Rattle.values.specs.declared.Name.{Name}
 use Rattle.statements.specs.declared.Failure.{Failure}
-use Rattle.expressions.specs.declared.Fault.TheVariants.{OutOfRange, ByZero}
 use Rattle.operands.specs.declared.OperandsFault.{OperandsFault}
-use Rattle.operands.specs.declared.OperandsFault.TheVariants.{OutOfRange}
 use Rattle.numerals.specs.declared.Numeral.{Numeral}
 use Rattle.numerals.specs.declared.Radix.{Radix}
 use Rattle.numerals.specs.declared.Radix.TheVariants.{Decimal, Hexadecimal}
@@ -242,8 +240,7 @@ equ-small t v h = by_depth (leb (depth t) deepest) h
 
     by_worth : (w : Worth) → worth_result least_signed S.Equ w ≡ Ok (S.Equ v) → v < 65536
     by_worth (Ok z) q = by_result z (result_in least_signed z) refl q
-    by_worth (Err OutOfRange) q = never (cc)
-    by_worth (Err ByZero) q = never (cc)
+    by_worth (Err why) q = never (cc)
 
     by_depth : (b : Bool) → cond b (worth_result least_signed S.Equ (worth_of t)) (Err F.TooDeep) ≡ Ok (S.Equ v) → v < 65536
     by_depth true q = by_worth (worth_of t) q

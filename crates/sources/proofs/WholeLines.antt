@@ -19,7 +19,6 @@ use Rattle.values.proofs.Walks.{un_cons}
 use Rattle.std.proofs.Common.{Result, Ok, Err}
 use Rattle.expressions.specs.Worths.{Worth}
 use Rattle.expressions.specs.declared.Malformed.{Malformed}
-use Rattle.expressions.specs.declared.Malformed.TheVariants.{TooDeep, WrongForm}
 use Rattle.expressions.specs.Reading.{expression_read}
 use Rattle.expressions.proofs.Spacing.{expression-whole}
 use Rattle.operands.specs.Operands.{word_at}
@@ -109,8 +108,7 @@ of_expression_whole least makes ts {s} e = go (expression_read ts) refl e
   where
     go : (r : Result Worth Malformed) → expression_read ts ≡ r → expression_result least makes r ≡ Ok s → NoStray ts
     go (Ok w) q e = expression-whole ts q
-    go (Err TooDeep) q e = never (cc e)
-    go (Err WrongForm) q e = never (cc e)
+    go (Err why) q e = never (cc e)
 
 data_whole : (line : List ℕ) (ts : List Token) {s : Statement} → items_result (I.items_read line ts) ≡ Ok s → NoStray ts
 unfolding I.items_read
