@@ -1,5 +1,5 @@
 -- A code run that is listed is its instructions' words, one after another; one that is not has a first instruction that fails.
-use Prim.Native.Nat.{ℕ, zero, suc, ◌+◌, ◌-◌}
+use Prim.Native.Nat.{ℕ, zero, suc, ◌+◌, ◌-◌, ◌<◌}
 use mathlib.Core.Bool.{true}
 use mathlib.Core.List.{List, [], ◌∷◌, ◌++◌}
 use mathlib.Core.Logic.{◌↔◌}
@@ -9,7 +9,7 @@ use lib.ListN.{length, take, drop, take-append-drop}
 use lib.Seq.{drop-nil, drop-append_seam}
 use Rattle.isa.specs.Operands.{operand_words}
 use Rattle.isa.specs.Encoding.{words_of, first_word_of, allowed}
-use Rattle.isa.specs.Decoding.{decode_of, stop_of}
+use Rattle.isa.specs.Decoding.{decode_of, stop_of, undecoded_stop}
 use Rattle.isa.specs.declared.Decoded.{Decoded}
 use Rattle.std.proofs.Common.{Result, Ok, Err}
 use Rattle.isa.specs.declared.Undecoded.{Undecoded}
@@ -52,10 +52,7 @@ parts-words (w ∷ ws) zero at is e = go (decode_of (w ∷ ws) 0) refl e (λ mor
         → ((more : ℕ) (js : List Instruction) → parts_from ws more (at + 1) ≡ whole js → Instructions (drop more ws) js)
         → Instructions (w ∷ ws) is
     go (Ok r) f e h = on r.instruction r.next f (parts_from ws (r.next.0 - 1) (at + 1)) e (h (r.next.0 - 1))
-    go (Err NoOpcode) f e h = never (cc)
-    go (Err NoMode) f e h = never (cc)
-    go (Err NoRegister) f e h = never (cc)
-    go (Err PastMemory) f e h = never (cc)
+    go (Err why) f e h = never (cc)
 
 -- ---- exactly
 
@@ -93,11 +90,15 @@ fails-back (here {w} {at} {ws} n) = go (decode_of (w ∷ ws) 0) n
   where
     go : (d : Result Decoded Undecoded) → (stop_of d ≡ 0 → ⊥) → parts_by at d (λ more. parts_from ws more (at + 1)) ≡ fails at
     go (Ok r) n = absurd (n refl)
-    go (Err NoOpcode) n = refl
-    go (Err NoMode) n = refl
-    go (Err NoRegister) n = refl
-    go (Err PastMemory) n = refl
+    go (Err why) n = refl
 fails-back (further {at} {a} {ws} i t h) = parts-head i ws at t ∙ ap (before i) (fails-back h)
+
+-- what is not decoded has a stop
+stops : (why : Undecoded) → 0 < undecoded_stop why
+stops NoOpcode = omega arith
+stops NoMode = omega arith
+stops NoRegister = omega arith
+stops PastMemory = omega arith
 
 first-fails : (ws : List ℕ) (more at a : ℕ) → parts_from ws more at ≡ fails a → FirstUndecoded (drop more ws) (at + more) a
 unfolding parts_from
@@ -127,10 +128,7 @@ first-fails (w ∷ ws) zero at a e =
         → ((more b : ℕ) → parts_from ws more (at + 1) ≡ fails b → FirstUndecoded (drop more ws) (at + 1 + more) b)
         → FirstUndecoded (w ∷ ws) at a
     go (Ok r) f e h = on r.instruction r.next f (parts_from ws (r.next.0 - 1) (at + 1)) e (h (r.next.0 - 1))
-    go (Err NoOpcode) f e h = none-there (λ z. let y = ap stop_of f in omega (arith, y, z)) e
-    go (Err NoMode) f e h = none-there (λ z. let y = ap stop_of f in omega (arith, y, z)) e
-    go (Err NoRegister) f e h = none-there (λ z. let y = ap stop_of f in omega (arith, y, z)) e
-    go (Err PastMemory) f e h = none-there (λ z. let y = ap stop_of f in omega (arith, y, z)) e
+    go (Err why) f e h = none-there (λ z. let y = ap stop_of f in omega (arith, y, z, stops why)) e
 
 -- a code run is listed exactly where it is the words of instructions, those
 pub whole-exactly : (ws : List ℕ) (at : ℕ) (is : List Instruction) → (parts_from ws 0 at ≡ whole is) ↔ Instructions ws is

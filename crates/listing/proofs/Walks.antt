@@ -3,13 +3,14 @@ use Prim.Native.Nat.{ℕ, zero, suc, ◌+◌, ◌-◌, ◌≤◌, ◌<◌}
 use mathlib.Core.Bool.{Bool, true, false, cond, ◌&&◌, false≢true}
 use mathlib.Core.List.{List, [], ◌∷◌, ◌++◌, map, append_assoc}
 use mathlib.Core.Path.{◌≡◌, refl, sym, ap, ap₂, subst, ◌∙◌}
-use native.Mathlib.Nat.{min-le_left, sub-zero}
+use native.Mathlib.Nat.{sub-zero}
 use native.Mathlib.Decide.{dec_lt}
-use native.Mathlib.Numerals.{add-one}
 use native.Mathlib.Omega.{arith}
 use lib.Dec.{eqb, leb}
-use lib.ListN.{length, get_or, take, drop, length-drop, length-take, take-append-drop, drop_of_length-le}
-use lib.Seq.{drop-cons, ext_get_or, get_or-drop, get_or-take, take-take, length-take-le, slice, slice-cons}
+use lib.ListN.{length, get_or, take, drop, length-drop, take-append-drop, drop_of_length-le}
+use lib.Seq.{drop-cons, ext_get_or, get_or-drop, get_or-take, take-take, length-take-le, slice}
+use Rattle.std.specs.List.{list_all, prefix_len}
+use Rattle.std.proofs.lemmas.List.{drop-take}
 use borrow.Author.Tests.{eqb-true, eqb-false, eq-eqb, ne_eqb, leb-false, le-leb}
 use Rattle.codes.specs.Limits.{most_cells}
 use Rattle.codes.specs.Marks.{free, code_mark, reserved_mark}
@@ -19,7 +20,6 @@ use Rattle.isa.specs.Decoding.{decode_of}
 use Rattle.isa.specs.declared.Decoded.{Decoded}
 use Rattle.std.proofs.Common.{Result, Ok, Err}
 use Rattle.isa.specs.declared.Undecoded.{Undecoded}
-use Rattle.isa.specs.declared.Undecoded.TheVariants.{NoOpcode, NoMode, NoRegister, PastMemory}
 use Rattle.isa.specs.declared.Address.{Address}
 use Rattle.isa.specs.declared.Instruction.{Instruction}
 use Rattle.isa.proofs.Tests.{both_true, never}
@@ -40,26 +40,17 @@ use Rattle.listing.proofs.Exactly.{run-complete}
 
 -- ---- marks of code
 
-module _ (marks : List ℕ) where
-  pub every-none : (at to : ℕ) → to ≤ at → every_code (slice at to marks) ≡ true
-  unfolding every_code
-  every-none at to h = rw (drop_of_length-le (take to marks) short)
-    where
-      short : length (take to marks) ≤ at
-      short = omega (arith, length-take to marks, min-le_left to (length marks))
+-- std's test of each mark
+pub every_by_each : (ks : List ℕ) → every_code ks ≡ list_all (λ (k : ℕ). eqb k code_mark) ks
+unfolding every_code
+every_by_each [] = refl
+every_by_each (k ∷ ks) = rw (every_by_each ks)
 
-  -- one mark, and those behind it
-  first-mark : (at to : ℕ) → at < to → to ≤ length marks
-      → every_code (slice at to marks) ≡ eqb (get_or marks at free) code_mark && every_code (slice (at + 1) to marks)
-  unfolding every_code
-  first-mark at to h l = rw (slice-cons at to marks free h l, add-one at)
-
-  pub every_more : (at to : ℕ) → at < to → to ≤ length marks → get_or marks at free ≡ code_mark
-      → every_code (slice at to marks) ≡ every_code (slice (at + 1) to marks)
-  every_more at to h l e = first-mark at to h l ∙ rw (eq-eqb (get_or marks at free) code_mark e)
-
-  pub every-stop : (at to : ℕ) → at < to → to ≤ length marks → (get_or marks at free ≡ code_mark → ⊥) → every_code (slice at to marks) ≡ false
-  every-stop at to h l n = first-mark at to h l ∙ rw (ne_eqb (get_or marks at free) code_mark n)
+-- the marks from one address up to another, as they are read
+pub read-slice : (marks : List ℕ) (at to : ℕ) → at ≤ to → take (to - at) (drop at marks) ≡ slice at to marks
+read-slice marks at to h =
+    let q : at + (to - at) ≡ to = omega arith in
+    sym (rw q at (drop-take at (to - at) marks))
 
 -- mark by mark
 all-marks : (ks : List ℕ) → every_code ks ≡ true → (j : ℕ) → j < length ks → get_or ks j free ≡ code_mark
@@ -91,23 +82,14 @@ coded-every marks at to l f =
 
 -- ---- marks of reserved cells
 
-module _ (marks : List ℕ) where
-  -- one mark, and those behind it
-  first-reserved : (at : ℕ) → at < length marks
-      → reserved_run (drop at marks) ≡ cond (eqb (get_or marks at free) reserved_mark) (suc (reserved_run (drop (at + 1) marks))) 0
-  unfolding reserved_run
-  first-reserved at h = rw (drop-cons marks at free h, add-one at)
-
-  pub reserved-more : (at : ℕ) → at < length marks → get_or marks at free ≡ reserved_mark
-      → reserved_run (drop at marks) ≡ suc (reserved_run (drop (at + 1) marks))
-  reserved-more at h e = first-reserved at h ∙ rw (eq-eqb (get_or marks at free) reserved_mark e)
-
-  pub reserved-stop : (at : ℕ) → at < length marks → (get_or marks at free ≡ reserved_mark → ⊥) → reserved_run (drop at marks) ≡ 0
-  reserved-stop at h n = first-reserved at h ∙ rw (ne_eqb (get_or marks at free) reserved_mark n)
-
-  pub reserved-end : (at : ℕ) → length marks ≤ at → reserved_run (drop at marks) ≡ 0
-  unfolding reserved_run
-  reserved-end at h = rw (drop_of_length-le marks h)
+-- std's word for the longest front that passes
+pub reserved_by_prefix : (ks : List ℕ) → reserved_run ks ≡ prefix_len (λ (k : ℕ). eqb k reserved_mark) ks
+unfolding reserved_run
+reserved_by_prefix [] = refl
+reserved_by_prefix (k ∷ ks) =
+    let n = prefix_len (λ (k : ℕ). eqb k reserved_mark) ks in
+    let one : suc n ≡ 1 + n = omega arith in
+    rw (reserved_by_prefix ks) (ap (λ (m : ℕ). cond (eqb k reserved_mark) m 0) one)
 
 -- so many marks of reserved cells, and no such mark behind them
 reserved-head : (ks : List ℕ) (n : ℕ) → ((j : ℕ) → j < n → get_or ks j free ≡ reserved_mark) → (get_or ks n free ≡ reserved_mark → ⊥) → reserved_run ks ≡ n
@@ -468,10 +450,7 @@ module _ (memory marks : List ℕ) (alike : length marks ≡ length memory) wher
       by : (w : ℕ) (ws : List ℕ) → s.first.cells ≡ w ∷ ws → (d : Result Decoded Undecoded) → decode_of (w ∷ ws) 0 ≡ d
           → parts_by at d (λ more. parts_from ws more (at + 1)) ≡ fails at
       by w ws e (Ok r) f = absurd (no_read r.instruction r.next (ap (λ (l : List ℕ). decode_of l 0) e ∙ f))
-      by w ws e (Err NoOpcode) f = refl
-      by w ws e (Err NoMode) f = refl
-      by w ws e (Err NoRegister) f = refl
-      by w ws e (Err PastMemory) f = refl
+      by w ws e (Err why) f = refl
 
       parts : (ws : List ℕ) → s.first.cells ≡ ws → parts_from ws 0 at ≡ fails at
       parts [] e = absurd (omega (arith, ap length e, s.fits.some))
@@ -503,10 +482,7 @@ module _ (memory marks : List ℕ) (alike : length marks ≡ length memory) wher
               let z : m ≡ g.next = cc in
               let y = coded-every marks at m.0 (omega (arith, ap (λ (x : Address). x.0) z, r.within, alike)) c in
               false≢true (sym t ∙ ap (λ (x : Address). every_code (slice at x.0 marks)) (sym z) ∙ y)
-  goes-code behind at h k (Err NoOpcode) e = rest-bad behind at h k (λ j m f c. never (cc))
-  goes-code behind at h k (Err NoMode) e = rest-bad behind at h k (λ j m f c. never (cc))
-  goes-code behind at h k (Err NoRegister) e = rest-bad behind at h k (λ j m f c. never (cc))
-  goes-code behind at h k (Err PastMemory) e = rest-bad behind at h k (λ j m f c. never (cc))
+  goes-code behind at h k (Err why) e = rest-bad behind at h k (λ j m f c. never (cc))
 
   -- "a run of 65,536 as `RES 65535`, `RES 1`" (02, K2): what is left behind the first of them is reserved too
   goes-reserved : (behind at : ℕ) → at < length memory → length memory ≤ most_cells → get_or marks at free ≡ reserved_mark

@@ -16,10 +16,7 @@ fn given(memory: &[u16], map: &[u8], room: &mut [u8], length: usize) -> Result<u
         × (measure_of (lines_of memory.now map.now) ≡ Ok length) }
     ensures { leaves result room.new ≡ reply_by room.old (lines_of memory.now map.now) }
 {
-    if room.len() < length {
-        return Err(NotListed::TooLong);
-    }
-    if LONGEST_SOURCE < length {
+    if room.len() < length || LONGEST_SOURCE < length {
         return Err(NotListed::TooLong);
     }
     write(memory, map, room);
@@ -33,8 +30,9 @@ pub fn list(memory: &[u16], map: &[u8], room: &mut [u8]) -> Result<usize, NotLis
     if !good_loan(memory, map) {
         return Err(NotListed::BadLoan);
     }
+    // a match: map_err(NotListed::Undecoded)? says no more, and its two steps need a longer proof
     match measured(memory, map) {
-        Err(a) => Err(NotListed::Undecoded(a)),
-        Ok(n) => given(memory, map, room, n),
+        Err(at) => Err(NotListed::Undecoded(at)),
+        Ok(length) => given(memory, map, room, length),
     }
 }

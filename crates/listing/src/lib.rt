@@ -29,6 +29,7 @@ pub enum Entry {
 }
 
 // What begins at an address: nothing in a free cell, a line with the address behind it, or an instruction that fails.
+// An enum: both walks tell the three apart, and Result<Option<..>, ..> names none of them.
 #[derive(Clone, Copy)]
 pub enum Begins {
     Nothing,

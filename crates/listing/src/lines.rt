@@ -18,11 +18,8 @@ fn instruction(room: &mut [u8], at: usize, i: Instruction) -> usize
     requires { at + length (line_of (Entry.Instructs i)) ≤ length room.old }
     ensures { Wrote room.old at (line_of (Entry.Instructs i)) room.new result }
 {
-    let op = i.op;
-    let a = i.first;
-    let b = i.second;
-    let behind = letters(room, at, opcode_name(op));
-    operands(room, behind, a, b)
+    let behind = letters(room, at, opcode_name(i.op));
+    operands(room, behind, i.first, i.second)
 }
 
 fn entry(room: &mut [u8], at: usize, e: Entry) -> usize

@@ -58,17 +58,7 @@ fn operand(room: &mut [u8], at: usize, o: Operand) -> usize
 fn is_present(o: Operand) -> bool
     ensures { result ≡ present o }
 {
-    match o {
-        Operand::Absent => false,
-        Operand::Immediate(_) => true,
-        Operand::Register(_) => true,
-        Operand::Memory(_) => true,
-        Operand::Indirect(_) => true,
-        Operand::IndexedX(_) => true,
-        Operand::IndexedY(_) => true,
-        Operand::IndexedSp(_) => true,
-        Operand::Relative(_) => true,
-    }
+    !matches!(o, Operand::Absent)
 }
 
 // What stands behind an opcode: a space and its operands.

@@ -10,9 +10,10 @@ pub(crate) fn letters(room: &mut [u8], at: usize, number: u64) -> usize
 {
     let mut put = at;
     let mut left = number;
+    // a while: it ends with the number's last digit, and nothing is counted
     while left != 0 {
         room[put] = (left % 256) as u8;
-        left = left / 256;
+        left /= 256;
         put += 1;
     }
     put

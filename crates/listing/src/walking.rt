@@ -12,21 +12,14 @@ use super::lines::{line, line_from, line_length};
 use super::{Begins, Entry};
 use codes::marks::{CODE, FREE, RESERVED};
 use isa::decoding::decode;
-use isa::{Address, Decoded, Undecoded};
+use isa::{Address, Decoded};
 
 // Whether all marks from one address up to another are those of code.
 fn all_code(map: &[u8], from: usize, to: usize) -> bool
-    requires { to ≤ length map.now }
+    requires { (from ≤ to) × (to ≤ length map.now) }
     ensures { result ≡ every_code (slice from to map.now) }
 {
-    let mut i = from;
-    while i < to {
-        if map[i] != CODE {
-            return false;
-        }
-        i += 1;
-    }
-    true
+    map[from..to].iter().all(|mark| *mark == CODE)
 }
 
 // An instruction that lies within its code run.
@@ -34,18 +27,13 @@ fn code_at(memory: &[u16], map: &[u8], at: usize) -> Begins
     requires { length map.now ≡ length memory.now }
     ensures { result ≡ code_by map.now at (decode_of memory.now at) }
 {
-    match decode(memory, Address(at)) {
-        Ok(Decoded { instruction: i, next }) => {
-            let to = next.0;
-            if all_code(map, at, to) {
-                return Begins::Line(Entry::Instructs(i), next);
-            }
-            Begins::Fails
-        }
-        Err(Undecoded::NoOpcode) => Begins::Fails,
-        Err(Undecoded::NoMode) => Begins::Fails,
-        Err(Undecoded::NoRegister) => Begins::Fails,
-        Err(Undecoded::PastMemory) => Begins::Fails,
+    let Ok(Decoded { instruction, next }) = decode(memory, Address(at)) else {
+        return Begins::Fails;
+    };
+    if all_code(map, at, next.0) {
+        Begins::Line(Entry::Instructs(instruction), next)
+    } else {
+        Begins::Fails
     }
 }
 
@@ -54,14 +42,10 @@ fn reserved_run(map: &[u8], at: usize) -> usize
     requires { at ≤ length map.now }
     ensures { result ≡ reserved_run (drop at map.now) }
 {
-    let mut i = at;
-    while i < map.len() {
-        if map[i] != RESERVED {
-            return i - at;
-        }
-        i += 1;
-    }
-    i - at
+    map[at..]
+        .iter()
+        .take_while(|mark| **mark == RESERVED)
+        .count()
 }
 
 // A run of reserved cells, as far as one RES goes: 65,535 cells.
@@ -101,6 +85,7 @@ pub(crate) fn measured(memory: &[u16], map: &[u8]) -> Result<usize, Address>
     let mut length: usize = 0;
     let mut behind: usize = 0;
     let mut at: usize = 0;
+    // a while: a line may be many cells long, so the address goes on by the line's own step
     while at < map.len() {
         match begins_at(memory, map, at) {
             Begins::Nothing => {
@@ -129,6 +114,7 @@ pub(crate) fn write(memory: &[u16], map: &[u8], room: &mut [u8])
     let mut put: usize = 0;
     let mut behind: usize = 0;
     let mut at: usize = 0;
+    // a while, as in `measured`
     while at < map.len() {
         match begins_at(memory, map, at) {
             Begins::Nothing => {

@@ -8,7 +8,6 @@ use Rattle.isa.specs.declared.Decoded.{Decoded}
 use Rattle.std.specs.Prelude.{Result, Ok, Err}
 use Rattle.isa.specs.declared.Address.{Address}
 use Rattle.isa.specs.declared.Undecoded.{Undecoded}
-use Rattle.isa.specs.declared.Undecoded.TheVariants.{NoOpcode, NoMode, NoRegister, PastMemory}
 use Rattle.listing.specs.Lines.{text_of_lines}
 use Rattle.listing.specs.Listing.{origin_at}
 use Rattle.listing.specs.declared.Begins.{Begins}
@@ -25,10 +24,7 @@ every_code (k ∷ ks) = eqb k code_mark && every_code ks
 -- an instruction whose words are all marked as code
 abbrev pub code_by : List ℕ → ℕ → Result Decoded Undecoded → Begins
 code_by marks at (Ok r) = cond (every_code (slice at r.next.0 marks)) (B.Line (Instructs r.instruction) r.next) B.Fails
-code_by marks at (Err NoOpcode) = B.Fails
-code_by marks at (Err NoMode) = B.Fails
-code_by marks at (Err NoRegister) = B.Fails
-code_by marks at (Err PastMemory) = B.Fails
+code_by marks at (Err why) = B.Fails
 
 -- how many marks at the head of a map are those of reserved cells
 unfoldable pub reserved_run : List ℕ → ℕ

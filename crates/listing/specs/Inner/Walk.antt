@@ -6,7 +6,6 @@ use Rattle.isa.specs.Decoding.{decode_of}
 use Rattle.isa.specs.declared.Decoded.{Decoded}
 use Rattle.std.specs.Prelude.{Result, Ok, Err}
 use Rattle.isa.specs.declared.Undecoded.{Undecoded}
-use Rattle.isa.specs.declared.Undecoded.TheVariants.{NoOpcode, NoMode, NoRegister, PastMemory}
 use Rattle.isa.specs.declared.Instruction.{Instruction}
 use Rattle.image.specs.Printing.{good_loan}
 use Rattle.listing.specs.Lines.{text_of_lines}
@@ -42,10 +41,7 @@ before i (fails a) = fails a
 
 abbrev pub parts_by : ℕ → Result Decoded Undecoded → (ℕ → Parts) → Parts
 parts_by at (Ok r) rest = before r.instruction (rest (r.next.0 - 1))
-parts_by at (Err NoOpcode) rest = fails at
-parts_by at (Err NoMode) rest = fails at
-parts_by at (Err NoRegister) rest = fails at
-parts_by at (Err PastMemory) rest = fails at
+parts_by at (Err why) rest = fails at
 
 -- each instruction begins where the one before ended, and all its words lie in the run; `more` words at the head belong to an instruction
 -- that is read already

@@ -13,16 +13,16 @@ measured-requires c = sym c.good_loan.ensures ∙ c.if-not-good_loan.false
 
 pub given-requires : goal.given-requires
 given-requires c =
-    (sym c.good_loan.ensures ∙ c.if-not-good_loan.false, sym c.measured.ensures ∙ c.in-Long.is)
+    (sym c.good_loan.ensures ∙ c.if-not-good_loan.false, sym c.measured.ensures ∙ c.in-Ok.is)
 
-pub returns-in-Fails : goal.returns-in-Fails
-returns-in-Fails c =
+pub returns-in-Err : goal.returns-in-Err
+returns-in-Err c =
     let a = c.args in
     lists-undecoded a.memory.now a.map.now a.room.now (sym c.good_loan.ensures ∙ c.if-not-good_loan.false)
-    (sym c.in-Fails.is ∙ c.measured.ensures)
+    (sym c.in-Err.is ∙ c.measured.ensures)
 
-pub returns-in-Long : goal.returns-in-Long
-returns-in-Long c =
+pub returns-in-Ok : goal.returns-in-Ok
+returns-in-Ok c =
     let a = c.args in
     lists-good a.memory.now a.map.now a.room.now (sym c.good_loan.ensures ∙ c.if-not-good_loan.false)
     c.given.ensures

@@ -1,26 +1,18 @@
--- What is left is all code exactly when all is, as long as no other mark was met.
-use native.Mathlib.Omega.{arith}
-use mathlib.Core.Path.{refl, sym, ◌∙◌}
-use Rattle.listing.proofs.Walks.{every-none, every_more, every-stop}
+-- Each mark is tested as the definition tests it (`every_by_each`).
+use mathlib.Core.Path.{sym, ap, ◌∙◌}
+use Prim.Native.Nat.{ℕ, ◌-◌}
+use lib.Dec.{eqb}
+use lib.ListN.{take, drop}
+use Rattle.std.proofs.Common.{rules, tests}
+use Rattle.std.proofs.lemmas.Iterator.{YieldsList-from_slice}
+use Rattle.std.proofs.lemmas.Iterator.Search.{all_from_yields_List}
+use Rattle.listing.specs.Inner.Begins.{every_code}
+use Rattle.listing.proofs.Walks.{every_by_each, read-slice}
 use Rattle.listing.proofs.walking.all_code.Goals as goal
-
-pub loop-i-init : goal.loop-i-init
-loop-i-init c = refl
-
-pub bounds-map-i : goal.bounds-map-i
-bounds-map-i c = omega arith
-
-pub returns-then-map-i-ne-CODE : goal.returns-then-map-i-ne-CODE
-returns-then-map-i-ne-CODE c =
-    let a = c.args in
-    sym (sym c.loop-i.invariant ∙ every-stop a.map.now c.loop-i.i a.to (omega arith) (omega arith) c.if-map-i-ne-CODE.true)
-
-pub loop-i-preserved : goal.loop-i-preserved
-loop-i-preserved c =
-    let a = c.args in
-    sym (every_more a.map.now c.loop-i.i a.to (omega arith) (omega arith) c.if-map-i-ne-CODE.false) ∙ c.loop-i.invariant
 
 pub returns : goal.returns
 returns c =
     let a = c.args in
-    sym (sym c.loop-i.invariant ∙ every-none a.map.now c.loop-i.i a.to (omega arith))
+    let read = take (a.to - a.from) (drop a.from a.map.now) in
+    all_from_yields_List (λ (mark : ℕ). eqb mark 1) _ _ _ c.all.ensures.ran (YieldsList-from_slice read cc) (λ x b q k. search (rules, tests))
+    ∙ sym (every_by_each read) ∙ ap every_code (read-slice a.map.now a.from a.to c.requires.0)

@@ -7,25 +7,5 @@ use Rattle.listing.proofs.walking.code_at.Goals as goal
 pub all_code-requires : goal.all_code-requires
 all_code-requires c =
     let a = c.args in
-    let r = encode_decode a.memory.now a.at _ _ (sym c.decode.ensures ∙ c.in-Read.is) in
-    omega (arith, r.within)
-
-pub returns-then-all_code : goal.returns-then-all_code
-returns-then-all_code c =
-    rw (← c.decode.ensures, c.in-Read.is, ← c.all_code.ensures, c.if-all_code.true)
-
-pub returns-else-all_code : goal.returns-else-all_code
-returns-else-all_code c =
-    rw (← c.decode.ensures, c.in-Read.is, ← c.all_code.ensures, c.if-all_code.false)
-
-pub returns-in-NoOpcode : goal.returns-in-NoOpcode
-returns-in-NoOpcode c = rw (← c.decode.ensures, c.in-NoOpcode.is)
-
-pub returns-in-NoMode : goal.returns-in-NoMode
-returns-in-NoMode c = rw (← c.decode.ensures, c.in-NoMode.is)
-
-pub returns-in-NoRegister : goal.returns-in-NoRegister
-returns-in-NoRegister c = rw (← c.decode.ensures, c.in-NoRegister.is)
-
-pub returns-in-PastMemory : goal.returns-in-PastMemory
-returns-in-PastMemory c = rw (← c.decode.ensures, c.in-PastMemory.is)
+    let r = encode_decode a.memory.now a.at _ _ (sym c.decode.ensures ∙ c.in-Ok.is) in
+    (omega (arith, r.onward), omega (arith, r.within))

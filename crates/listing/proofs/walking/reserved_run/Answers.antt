@@ -1,31 +1,23 @@
--- What is counted, and the run that is left, is the whole run, as long as no other mark was met.
-use native.Mathlib.Omega.{arith}
-use Rattle.listing.proofs.Walks.{reserved-more, reserved-stop, reserved-end}
+-- The marks are counted as far as the definition counts them (`reserved_by_prefix`).
+use mathlib.Core.Path.{sym, ap, ◌∙◌}
+use Prim.Native.Nat.{ℕ, ◌-◌}
+use lib.Dec.{eqb}
+use lib.ListN.{length, take, drop}
+use Rattle.std.proofs.Common.{rules, tests}
+use Rattle.std.proofs.lemmas.Iterator.{YieldsList-from_slice}
+use Rattle.std.proofs.lemmas.Iterator.Consumers.{count_from_yields_List}
+use Rattle.std.proofs.lemmas.Iterator.Search.{YieldsList-from_take_while}
+use Rattle.std.proofs.lemmas.List.Folds.{length-prefix_len}
+use Rattle.std.proofs.lemmas.List.{take_rest}
+use Rattle.listing.specs.Inner.Begins.{reserved_run}
+use Rattle.listing.proofs.Walks.{reserved_by_prefix}
 use Rattle.listing.proofs.walking.reserved_run.Goals as goal
-
-pub loop-i-init : goal.loop-i-init
-loop-i-init c = (omega arith, omega arith, omega arith)
-
-pub bounds-map-i : goal.bounds-map-i
-bounds-map-i c = omega arith
-
-pub overflow_sub-result : goal.overflow_sub-result
-overflow_sub-result c = omega arith
-
-pub returns-then-map-i-ne-RESERVED : goal.returns-then-map-i-ne-RESERVED
-returns-then-map-i-ne-RESERVED c =
-    let a = c.args in
-    omega (arith, c.loop-i.invariant, reserved-stop a.map.now c.loop-i.i (omega arith) c.if-map-i-ne-RESERVED.true)
-
-pub loop-i-preserved : goal.loop-i-preserved
-loop-i-preserved c =
-    let a = c.args in
-    (omega arith, omega arith, omega (arith, c.loop-i.invariant, reserved-more a.map.now c.loop-i.i (omega arith) c.if-map-i-ne-RESERVED.false))
-
-pub overflow_sub-result-2 : goal.overflow_sub-result-2
-overflow_sub-result-2 c = omega arith
 
 pub returns : goal.returns
 returns c =
     let a = c.args in
-    omega (arith, c.loop-i.invariant, reserved-end a.map.now c.loop-i.i (omega arith))
+    let behind = take (length a.map.now - a.at) (drop a.at a.map.now) in
+    count_from_yields_List c.take_while.result c.count.result c.count.ensures.ran
+    (YieldsList-from_take_while _ (λ (mark : ℕ). eqb mark 3) (YieldsList-from_slice behind cc) c.take_while.ensures.closure c.take_while.ensures.done (λ x b q k. search (rules, tests)))
+    ∙ length-prefix_len (λ (mark : ℕ). eqb mark 3) behind ∙ sym (reserved_by_prefix behind)
+    ∙ ap reserved_run (take_rest a.map.now a.at)
