@@ -3,76 +3,64 @@
 // be written. M is judged before the file is opened. The program ends with 0 whatever it says: the script `assemble` at the root gives a status by what was printed.
 #![tactic(auto)]
 
+mod failures; // why there is no answer
 mod printing; // the image, written out
 
-use columns::Column;
-use desk::printing::fail;
-use desk::refusals::print_refusal;
-use desk::{arguments, rooms};
-use sources::Line;
-use std::io::Write;
+ghost use Rattle.std.specs.Prelude.{◌≤◌};
+ghost use Rattle.desk.specs.Sizes.{largest_m};
 
-// Assembles a source at a size, and prints.
-fn assemble_at(rt: &HostRuntime, path: &[u8], text: &[u8], memory: &mut [u16], map: &mut [u8]) {
-    let reply = assembler::assemble::assemble(text, memory, map);
+use desk::arguments::{LARGEST_M, LONGEST_PATH};
+use desk::refusals::{Refusal, Source, WRONG_M, print_refusal};
+use desk::{arguments, source};
+use failures::Failure;
+
+fn refuse(rt: &HostRuntime, source: Source<'_>, refusal: Refusal) -> Result<(), Failure<'static>> {
+    print_refusal(&mut rt.stdout(), &mut rt.stderr(), source, refusal)?;
+    Ok(())
+}
+
+// Assembles a source into a memory of as many cells as M says, and prints.
+fn assemble_source(
+    rt: &HostRuntime,
+    source: Source<'_>,
+    size: usize,
+) -> Result<(), Failure<'static>>
+    requires { size ≤ largest_m }
+{
+    let mut room = [0; LARGEST_M];
+    let mut marks = [0; LARGEST_M];
+    let memory = &mut room[..size];
+    let map = &mut marks[..size];
+    let reply = assembler::assemble::assemble(source.text, memory, map);
     if reply.refusal == 0 {
-        printing::print_image(&mut rt.stdout(), &mut rt.stderr(), memory, map);
-        return;
+        return printing::print_image(&mut rt.stdout(), memory, map);
     }
-    print_refusal(
-        &mut rt.stdout(),
-        &mut rt.stderr(),
-        path,
-        text,
-        reply.refusal,
-        reply.line,
-        reply.column,
-    );
+    let refusal = Refusal {
+        number: reply.refusal,
+        line: reply.line,
+        column: reply.column,
+    };
+    refuse(rt, source, refusal)
 }
 
-// Lends as many cells as M says.
-fn assemble_text(rt: &HostRuntime, path: &[u8], text: &[u8], size: usize) {
-    let mut memory = rooms::memory();
-    let mut map = rooms::map();
-    if memory.len() < size {
-        return;
+// The whole call, with a room for FILE.
+fn assemble<'a>(rt: &HostRuntime, room: &'a mut [u8]) -> Result<(), Failure<'a>> {
+    if arguments::count(rt) != 3 {
+        return Err(Failure::Usage);
     }
-    if map.len() < size {
-        return;
-    }
-    assemble_at(rt, path, text, &mut memory[..size], &mut map[..size]);
-}
-
-fn assemble_file(rt: &HostRuntime, path: &[u8], size: usize) {
-    let mut text = rooms::source();
-    match desk::source::read(rt, path, &mut text) {
-        Ok(n) => assemble_text(rt, path, &text[..n], size),
-        Err(error) => fail(&mut rt.stderr(), path, &error),
-    }
+    let Some(size) = arguments::size(rt) else {
+        let path = arguments::argument(rt, 1, room);
+        return refuse(rt, Source { path, text: b"" }, WRONG_M);
+    };
+    let path = arguments::file(rt, room).map_err(|error| Failure::System(b"assemble: FILE", error))?;
+    let mut room = [0; source::ROOM];
+    let text = source::read(rt, path, &mut room).map_err(|error| Failure::System(path, error))?;
+    assemble_source(rt, Source { path, text }, size)
 }
 
 fn main(rt: HostRuntime) {
-    if arguments::count(&rt) != 3 {
-        let _ = rt.stderr().write_all(b"usage: assemble FILE M\n");
-        return;
-    }
-    let size = arguments::size(&rt);
-    let mut path = rooms::path();
-    if size == 0 {
-        let n = arguments::argument(&rt, 1, &mut path);
-        print_refusal(
-            &mut rt.stdout(),
-            &mut rt.stderr(),
-            &path[..n],
-            b"",
-            1,
-            Line(0),
-            Column(0),
-        );
-        return;
-    }
-    match arguments::file(&rt, &mut path) {
-        Ok(n) => assemble_file(&rt, &path[..n], size),
-        Err(error) => fail(&mut rt.stderr(), b"assemble: FILE", &error),
+    let mut room = [0; LONGEST_PATH];
+    if let Err(failure) = assemble(&rt, &mut room) {
+        let _ = failures::tell(&mut rt.stderr(), failure);
     }
 }

@@ -3,6 +3,7 @@
 use mathlib.Core.Path.{◌≡◌, refl}
 use mathlib.Core.List.{[], ◌∷◌, ◌++◌}
 use lib.ListN.{length, replicate}
+use Rattle.std.proofs.Common.{Some, None}
 use Rattle.numerals.specs.Bytes.{rank, bytes}
 use Rattle.numerals.specs.Digits.{worth_after}
 use Rattle.numerals.specs.Reading.{run, digits_at, radix_at, unsigned_at}
@@ -14,17 +15,17 @@ use Rattle.desk.specs.Refusals.{refusal_text, reasons, reason_of, sentence_text}
 
 -- "an M of 1 to 16,384 (any other prints refusal 1, line 0)"
 pub record Sizes : Type 0 where
-  pub none : size_of (bytes "0") ≡ 0
-  pub smallest : size_of (bytes "1") ≡ 1
-  pub largest : size_of (bytes "16384") ≡ 16384
-  pub above : size_of (bytes "16385") ≡ 0
-  pub far-above : size_of (bytes "4294967297") ≡ 0
-  pub leading_zeros : size_of (bytes "0016") ≡ 16
-  pub hexadecimal : size_of (bytes "0x10") ≡ 0
-  pub negative : size_of (bytes "-1") ≡ 0
-  pub no_number : size_of (bytes "M") ≡ 0
-  pub not-wholly : size_of (bytes "16 ") ≡ 0
-  pub empty : size_of (bytes "") ≡ 0
+  pub none : size_of (bytes "0") ≡ None
+  pub smallest : size_of (bytes "1") ≡ Some 1
+  pub largest : size_of (bytes "16384") ≡ Some 16384
+  pub above : size_of (bytes "16385") ≡ None
+  pub far-above : size_of (bytes "4294967297") ≡ None
+  pub leading_zeros : size_of (bytes "0016") ≡ Some 16
+  pub hexadecimal : size_of (bytes "0x10") ≡ None
+  pub negative : size_of (bytes "-1") ≡ None
+  pub no_number : size_of (bytes "M") ≡ None
+  pub not-wholly : size_of (bytes "16 ") ≡ None
+  pub empty : size_of (bytes "") ≡ None
 
 pub sizes : Sizes
 unfolding rank worth_after run digits_at radix_at unsigned_at size_of

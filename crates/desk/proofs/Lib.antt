@@ -1,7 +1,6 @@
 -- Laws of M's word, of text in a room and of the line shown; Examples computes; Top restates what the crate promises.
 pub mod Sizes
-pub mod Words
-pub mod Putting
+pub mod Failures
 pub mod Told
 pub mod Shown
 pub mod Examples

@@ -1,6 +1,6 @@
--- What the crate promises, for a reader. `size_of` answers `size_of` of a word (specs/Sizes.antt). What `print_refusal` hands to the system it
--- first has made in a room: the three lines and the sentence of specs/Refusals.antt and the excerpt of specs/Excerpts.antt, each at the room's
--- head (`AtHead`). What the system does with them no promise determines.
+-- What the crate promises, for a reader. `size_of` answers `size_of` of a word (specs/Sizes.antt). What `print_refusal` writes out it first has
+-- made in a room: the three lines and the sentence of specs/Refusals.antt and the excerpt of specs/Excerpts.antt, each at the room's head
+-- (`AtHead`). A writer whose bytes are known has these behind its own, where nothing failed; what the system does with them no promise determines.
 use mathlib.Core.Path.{◌≡◌, refl, sym, ◌∙◌}
 use mathlib.Core.List.{List}
 use Prim.Native.Nat.{ℕ, ◌≤◌, ◌<◌}
@@ -8,6 +8,7 @@ use native.Mathlib.Omega.{arith}
 use borrow.Author.Tests.{le-leb}
 use lib.ListN.{length, take, drop}
 use lib.Seq.{take_at}
+use Rattle.std.proofs.Common.{Option}
 use Rattle.ports.specs.Input.{Passed}
 use Rattle.columns.specs.declared.Column.{Column}
 use Rattle.sources.specs.declared.Line.{Line}
@@ -57,7 +58,7 @@ pub excerpts : worked.Excerpts
 excerpts = worked.excerpts
 
 -- "That two replies meeting it coincide".
-pub sizes-coincide : (word : List ℕ) {r s : ℕ} → r ≡ size_of word → s ≡ size_of word → r ≡ s
+pub sizes-coincide : (word : List ℕ) {r s : Option ℕ} → r ≡ size_of word → s ≡ size_of word → r ≡ s
 sizes-coincide word p q = p ∙ sym q
 
 pub heads-coincide : (text room : List ℕ) {xs ys : List ℕ} {r s : ℕ} → AtHead text room xs r → AtHead text room ys s → (r ≡ s) × (xs ≡ ys)

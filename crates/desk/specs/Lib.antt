@@ -3,3 +3,4 @@ pub mod Sizes
 pub mod Refusals
 pub mod Excerpts
 pub mod Putting
+pub mod Failures

@@ -5,8 +5,11 @@ use Rattle.std.specs.Prelude.{ℕ, zero, suc, ◌%◌, ◌≡◌, cond, List, []
 use Rattle.numerals.specs.Bytes.{bytes}
 use Rattle.numerals.specs.Writing.{decimal}
 use Rattle.texts.specs.Lines.{text_of}
+use Rattle.columns.specs.Columns.{line_numbered}
 use Rattle.columns.specs.declared.Column.{Column}
 use Rattle.sources.specs.declared.Line.{Line}
+use Rattle.desk.specs.Excerpts.{excerpt_text}
+use Rattle.desk.specs.declared.refusals.Refusal.{Refusal}
 
 -- a line's number as it is told: all of it, for a source has fewer lines than 32 bits count
 abbrev pub line_told : Line → ℕ
@@ -77,3 +80,15 @@ sentence_text path refusal line column = text_of (sentence_of path refusal line 
 -- a text stands at the head of a room, its length is the reply, and all behind it is as it was
 abbrev pub AtHead : List ℕ → List ℕ → List ℕ → ℕ → Type 0
 AtHead text room after reply = (reply ≡ length text) × (after ≡ text ++ drop (length text) room)
+
+-- ---- the whole of what is told
+
+-- on standard output
+abbrev pub printed_of : Refusal → List ℕ
+printed_of refusal = refusal_text refusal.number (line_told refusal.line) (column_told refusal.column)
+
+-- on standard error: the sentence, and the line that it is about
+abbrev pub told_of : List ℕ → List ℕ → Refusal → List ℕ
+told_of path source refusal =
+    sentence_text path refusal.number (line_told refusal.line) (column_told refusal.column)
+    ++ excerpt_text (line_numbered source refusal.line.0) refusal.column.0

@@ -8,32 +8,28 @@ ghost use Rattle.desk.specs.Refusals.{AtHead};
 use texts::writing::piece;
 
 // A byte as it is shown.
+#[tactic(auto, unfolding(crate::specs::Excerpts::shown_byte))]
 fn shown_byte(b: u8) -> u8
     ensures { result ≡ shown_byte b }
 {
-    if b == b'\t' {
-        return b' ';
+    match b {
+        b'\t' => b' ',
+        b' '..=b'~' => b,
+        _ => b'?',
     }
-    if b < 32 {
-        return b'?';
-    }
-    if 126 < b {
-        return b'?';
-    }
-    b
 }
 
+const MOST_SHOWN: usize = 80;
+
 // Where the part of a line that is shown starts.
+#[tactic(auto, unfolding(crate::specs::Excerpts::shown_from))]
 fn shown_from(size: usize, column: usize) -> usize
     ensures { result ≡ shown_from size column }
 {
-    if size <= 80 {
+    if size <= MOST_SHOWN {
         return 0;
     }
-    if column <= 73 {
-        return 0;
-    }
-    column - 73
+    column.saturating_sub(73)
 }
 
 // Where it ends.
@@ -41,10 +37,7 @@ fn shown_end(size: usize, from: usize) -> usize
     requires { from ≤ size }
     ensures { (result ≤ size) × (from ≤ result) × (result ≤ from + most_shown) × (result < from + most_shown → result ≡ size) }
 {
-    if size - from <= 80 {
-        return size;
-    }
-    from + 80
+    from + (size - from).min(MOST_SHOWN)
 }
 
 // Each byte of a part, as it is shown.
@@ -52,12 +45,10 @@ fn put_shown(room: &mut [u8], at: usize, part: &[u8]) -> usize
     requires { at + length part.now ≤ length room.old }
     ensures { Wrote room.old at (map shown_byte part.now) room.new result }
 {
-    let mut k = 0;
-    while k < part.len() {
+    for k in 0..part.len() {
         room[at + k] = shown_byte(part[k]);
-        k += 1;
     }
-    at + k
+    at + part.len()
 }
 
 // The line's part, at the head of a room.
@@ -75,7 +66,7 @@ fn put_caret(room: &mut [u8], at: usize, n: usize) -> usize
     requires { (n ≤ most_shown) × (at + 86 ≤ length room.old) }
     ensures { Wrote room.old at (text_of (indented (caret_under n) ∷ [])) room.new result }
 {
-    let blanks = [b' '; 80];
+    let blanks = [b' '; MOST_SHOWN];
     let first = piece(room, at, b"    ");
     let caret = piece(room, first, &blanks[..n]);
     piece(room, caret, b"^\n")
@@ -86,10 +77,9 @@ pub(crate) fn excerpt(room: &mut [u8], line: &[u8], column: usize) -> usize
     requires { 171 ≤ length room.old }
     ensures { AtHead (excerpt_text line.now column) room.old room.new result }
 {
-    if column == 0 {
+    let Some(place) = column.checked_sub(1) else {
         return 0;
-    }
-    let place = column - 1;
+    };
     if line.len() < place {
         return 0;
     }

@@ -4,7 +4,6 @@
 
 pub mod arguments; // FILE and M
 mod excerpts; // the refused line, and a caret
-pub mod printing; // text in a room, and written out
+pub mod printing; // text in a room, and a failure told
 pub mod refusals; // a refusal, told
-pub mod rooms; // what is lent
 pub mod source; // a file's bytes

@@ -1,7 +1,9 @@
-// Text in a room, and text written out.
-ghost use Rattle.std.specs.Prelude.{◌≡◌};
+// Text in a room, and a failure told.
+ghost use Rattle.std.specs.Prelude.{◌≡◌, List, ℕ, ◌++◌, OnOk};
+ghost use Rattle.std.specs.Io.KnownBytes.{Appends};
 ghost use Rattle.ports.specs.Output.{text_put};
 ghost use Rattle.desk.specs.Putting.{PutSo};
+ghost use Rattle.desk.specs.Failures.{failure_text};
 
 use ports::output::put_text;
 use std::fmt::InlineText;
@@ -12,10 +14,7 @@ use std::io::Write;
 pub fn put(out: &mut [u8], at: usize, text: &[u8]) -> usize
     ensures { PutSo at (text_put out.old at text.now) out.new result }
 {
-    match put_text(out, at, text) {
-        Ok(next) => next,
-        Err(_) => at,
-    }
+    put_text(out, at, text).unwrap_or(at)
 }
 
 // The system's sentence, without the number that `io::Error` puts behind it.
@@ -26,41 +25,13 @@ fn unnumbered(sentence: &str) -> &str {
     }
 }
 
-// Tells on standard error what failed, and why.
-pub fn fail(errors: &mut impl Write, what: &[u8], error: &io::Error) {
+// Tells on standard error what failed, and why, in the system's words.
+pub fn fail<E: Write>(errors: &mut E, what: &[u8], error: &io::Error) -> io::Result<()>
+    ensures { OnOk result ((why : List ℕ) × Appends (E.contents errors.old) (E.contents errors.new) (failure_text what.now why)) }
+{
     let told = InlineText::<256>::of(error);
-    let why = unnumbered(told.as_str());
-    let _ = errors.write_all(what);
-    let _ = errors.write_all(b": ");
-    let _ = errors.write_all(why.as_bytes());
-    let _ = errors.write_all(b"\n");
-}
-
-// Writes what was put to standard output, and answers whether all of it was taken. Output that cannot be written is told. What becomes of
-// it is the operating system's.
-pub fn write(output: &mut impl Write, errors: &mut impl Write, text: &[u8], end: usize) -> bool {
-    if text.len() < end {
-        return false;
-    }
-    match output.write_all(&text[..end]) {
-        Ok(()) => true,
-        Err(error) => {
-            fail(errors, b"output", &error);
-            false
-        }
-    }
-}
-
-// The same to standard error.
-pub fn write_error(errors: &mut impl Write, text: &[u8], end: usize) -> bool {
-    if text.len() < end {
-        return false;
-    }
-    match errors.write_all(&text[..end]) {
-        Ok(()) => true,
-        Err(error) => {
-            fail(errors, b"output", &error);
-            false
-        }
-    }
+    errors.write_all(what)?;
+    errors.write_all(b": ")?;
+    errors.write_all(unnumbered(told.as_str()).as_bytes())?;
+    errors.write_all(b"\n")
 }

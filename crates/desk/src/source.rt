@@ -5,49 +5,26 @@ use std::io::Read;
 use std::rt::Files;
 use std::{fs, io, str};
 
-// How much is held, and whether no more is read.
-#[derive(Clone, Copy)]
-struct Held {
-    held: usize,
-    is_last: bool,
-}
+// A room for a source, and one byte more: a file that fills it is too long, however long it is.
+pub const ROOM: usize = 32769;
 
-// Reads on behind what is held.
-fn read_more(input: &mut impl Read, room: &mut [u8], held: usize) -> io::Result<Held>
-    requires { held ≤ length room.old }
-    ensures { IfOk result (λ h. h.held ≤ length room.new) }
-{
-    if room.len() <= held {
-        return Ok(Held {
-            held: held,
-            is_last: true,
-        });
-    }
-    let got = input.read(&mut room[held..])?;
-    Ok(Held {
-        held: held + got,
-        is_last: got == 0,
-    })
-}
-
-// Reads until the input ends or the room is full, and answers how many bytes the room holds. Each turn but the last holds a byte more.
-pub fn load(input: &mut impl Read, room: &mut [u8]) -> io::Result<usize>
-    ensures { IfOk result (λ n. n ≤ length room.new) }
+// Reads until the input ends or the room is full. Each turn but the last holds a byte more.
+pub fn load<'a>(input: &mut impl Read, room: &'a mut [u8]) -> io::Result<&'a [u8]>
+    ensures { IfOk result (λ text. length text.now ≤ length room.old) }
 {
     let mut held = 0;
-    for _ in 0..room.len() {
-        let next = read_more(input, room, held)?;
-        if next.is_last {
-            break;
+    while held < room.len() {
+        match input.read(&mut room[held..])? {
+            0 => break,
+            n => held += n,
         }
-        held = next.held;
     }
-    Ok(held)
+    Ok(&room[..held])
 }
 
 // Reads the file at a path. A path of this library is text: one that is none is refused as a name that no file has.
-pub fn read(files: &impl Files, path: &[u8], room: &mut [u8]) -> io::Result<usize>
-    ensures { IfOk result (λ n. n ≤ length room.new) }
+pub fn read<'a>(files: &impl Files, path: &[u8], room: &'a mut [u8]) -> io::Result<&'a [u8]>
+    ensures { IfOk result (λ text. length text.now ≤ length room.old) }
 {
     let Ok(path) = str::from_utf8(path) else {
         return Err(io::Error::from(io::ErrorKind::InvalidFilename));

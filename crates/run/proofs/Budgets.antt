@@ -11,9 +11,9 @@ use lib.Seq.{drop-cons}
 use Rattle.numerals.specs.Bytes.{rank}
 use Rattle.numerals.specs.Digits.{all_below, worth_after}
 use Rattle.run.specs.Budgets.{budget_after, budget_of, usual_budget, budget_asked}
-use Rattle.run.specs.declared.Budget.TheVariants.{Steps, Wrong}
+use Rattle.std.proofs.Common.{Some, None}
 
-pub budget_none : (word : List ℕ) → length word ≡ 0 → Wrong ≡ budget_of word
+pub budget_none : (word : List ℕ) → length word ≡ 0 → None ≡ budget_of word
 unfolding budget_of
 budget_none word e = rw e
 
@@ -30,7 +30,7 @@ module _ (word : List ℕ) (i steps : ℕ) {digit : ℕ} (is : digit ≡ rank (g
   unfolding budget_after
   budget_more d = rw (add-one i, drop-cons word i 0 h, worth-more steps (get_or word i 0), ← is, lt-ltb digit 10 (omega arith))
 
-  pub budget_other : 9 < digit → budget_after steps (drop i word) ≡ Wrong
+  pub budget_other : 9 < digit → budget_after steps (drop i word) ≡ None
   unfolding budget_after
   budget_other d = rw (drop-cons word i 0 h, ← is, le-ltb digit 10 (omega arith))
 
@@ -40,21 +40,21 @@ unfolding worth_after
 worth-grows a [] = omega arith
 worth-grows a (d ∷ digits) = omega (arith, worth-grows (a * 10 + rank d) digits)
 
-pub budget_large : (steps : ℕ) (digits : List ℕ) → 1000000 < steps → budget_after steps digits ≡ Wrong
+pub budget_large : (steps : ℕ) (digits : List ℕ) → 1000000 < steps → budget_after steps digits ≡ None
 unfolding budget_after
 budget_large steps digits h =
     rw (lt-leb (worth_after 10 steps digits) 1000000 (omega (arith, worth-grows steps digits))) (go (all_below 10 digits))
   where
-    go : (b : Bool) → cond (b && false) (Steps (worth_after 10 steps digits)) Wrong ≡ Wrong
+    go : (b : Bool) → cond (b && false) (Some (worth_after 10 steps digits)) None ≡ None
     go true = refl
     go false = refl
 
-pub budget_end : (word : List ℕ) (i steps : ℕ) → length word ≤ i → steps ≤ 1000000 → budget_after steps (drop i word) ≡ Steps steps
+pub budget_end : (word : List ℕ) (i steps : ℕ) → length word ≤ i → steps ≤ 1000000 → budget_after steps (drop i word) ≡ Some steps
 unfolding budget_after worth_after
 budget_end word i steps h l = rw (drop_of_length-le word h, le-leb steps 1000000 l)
 
 module _ (words : ℕ) (third : List ℕ) where
-  pub asked-usual : words ≡ 3 → Steps usual_budget ≡ budget_asked words third
+  pub asked-usual : words ≡ 3 → Some usual_budget ≡ budget_asked words third
   unfolding budget_asked
   asked-usual e = rw (eq-eqb words 3 e)
 
@@ -62,6 +62,6 @@ module _ (words : ℕ) (third : List ℕ) where
   unfolding budget_asked
   asked-named d e = rw (ne_eqb words 3 d, eq-eqb words 4 e)
 
-  pub asked-other : (words ≡ 3 → ⊥) → (words ≡ 4 → ⊥) → Wrong ≡ budget_asked words third
+  pub asked-other : (words ≡ 3 → ⊥) → (words ≡ 4 → ⊥) → None ≡ budget_asked words third
   unfolding budget_asked
   asked-other d e = rw (ne_eqb words 3 d, ne_eqb words 4 e)

@@ -5,21 +5,21 @@ use Prim.Native.Nat.{ℕ}
 use Rattle.numerals.specs.Bytes.{rank, bytes}
 use Rattle.numerals.specs.Digits.{worth_after}
 use Rattle.run.specs.Budgets.{budget_after, budget_of, budget_asked}
-use Rattle.run.specs.declared.Budget.TheVariants.{Steps, Wrong}
+use Rattle.std.proofs.Common.{Some, None}
 
 pub record Examples : Type 0 where
-  pub none_named : (third : List ℕ) → budget_asked 3 third ≡ Steps 10000
-  pub smallest : budget_asked 4 (bytes "0") ≡ Steps 0
-  pub usual : budget_asked 4 (bytes "10000") ≡ Steps 10000
-  pub one_more : budget_asked 4 (bytes "10001") ≡ Steps 10001
-  pub largest : budget_asked 4 (bytes "1000000") ≡ Steps 1000000
-  pub above : budget_asked 4 (bytes "1000001") ≡ Wrong
-  pub leading_zeros : budget_asked 4 (bytes "0007") ≡ Steps 7
-  pub empty : budget_asked 4 (bytes "") ≡ Wrong
-  pub negative : budget_asked 4 (bytes "-1") ≡ Wrong
-  pub hexadecimal : budget_asked 4 (bytes "0x10") ≡ Wrong
-  pub too_few : (third : List ℕ) → budget_asked 2 third ≡ Wrong
-  pub too_many : (third : List ℕ) → budget_asked 5 third ≡ Wrong
+  pub none_named : (third : List ℕ) → budget_asked 3 third ≡ Some 10000
+  pub smallest : budget_asked 4 (bytes "0") ≡ Some 0
+  pub usual : budget_asked 4 (bytes "10000") ≡ Some 10000
+  pub one_more : budget_asked 4 (bytes "10001") ≡ Some 10001
+  pub largest : budget_asked 4 (bytes "1000000") ≡ Some 1000000
+  pub above : budget_asked 4 (bytes "1000001") ≡ None
+  pub leading_zeros : budget_asked 4 (bytes "0007") ≡ Some 7
+  pub empty : budget_asked 4 (bytes "") ≡ None
+  pub negative : budget_asked 4 (bytes "-1") ≡ None
+  pub hexadecimal : budget_asked 4 (bytes "0x10") ≡ None
+  pub too_few : (third : List ℕ) → budget_asked 2 third ≡ None
+  pub too_many : (third : List ℕ) → budget_asked 5 third ≡ None
 
 pub examples : Examples
 unfolding rank worth_after budget_after budget_of budget_asked

@@ -1,31 +1,19 @@
 // Standard input.
-ghost use Rattle.std.specs.Prelude.{◌≡◌, ◌≤◌, length, IfSome};
+use super::failures::Failure;
+use std::io::Read;
 
-use desk::printing::fail;
-use std::io::{Read, Write};
+// "An input of at most 65,536 bytes": one byte more, since an input that fills the room is too long.
+pub(crate) const ROOM: usize = 65537;
 
-// The largest input, and one byte more: an input that fills it is too long. The `ensures` gives the length, which lending needs.
-pub(crate) fn room() -> [u8; 65537]
-    ensures { 65537 ≡ length result }
-{
-    [0; 65537]
-}
-
-// Reads standard input to its end, and answers how many bytes the room holds. What cannot be read, or is too long, is told.
-pub(crate) fn read(input: &mut impl Read, errors: &mut impl Write, room: &mut [u8]) -> Option<usize>
-    ensures { IfSome result (λ n. n ≤ length room.new) }
-{
-    match desk::source::load(input, room) {
-        Ok(n) => {
-            if 65536 < n {
-                let _ = errors.write_all(b"run: an input of more than 65536 bytes\n");
-                return None;
-            }
-            Some(n)
-        }
-        Err(error) => {
-            fail(errors, b"run: input", &error);
-            None
-        }
+// Reads standard input to its end.
+pub(crate) fn read<'a>(
+    input: &mut impl Read,
+    room: &'a mut [u8],
+) -> Result<&'a [u8], Failure<'static>> {
+    let given = desk::source::load(input, room)
+        .map_err(|error| Failure::System(b"run: input", error))?;
+    if ROOM <= given.len() {
+        return Err(Failure::InputTooLong);
     }
+    Ok(given)
 }

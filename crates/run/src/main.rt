@@ -4,112 +4,66 @@
 #![tactic(auto)]
 
 mod arguments; // BUDGET
+mod failures; // why there is no run
 mod input; // standard input, read to its end
 mod running; // the run, its output and its record
 
-// What a word says of the budget.
-#[derive(Clone, Copy)]
-enum Budget {
-    Steps(u32),
-    Wrong,
+ghost use Rattle.std.specs.Prelude.{◌≤◌};
+ghost use Rattle.desk.specs.Sizes.{largest_m};
+
+use desk::arguments::{LARGEST_M, LONGEST_PATH};
+use desk::refusals::{Refusal, Source, WRONG_M, print_refusal};
+use desk::source;
+use failures::Failure;
+
+fn refuse(rt: &HostRuntime, source: Source<'_>, refusal: Refusal) -> Result<(), Failure<'static>> {
+    print_refusal(&mut rt.stdout(), &mut rt.stderr(), source, refusal)?;
+    Ok(())
 }
 
-use columns::Column;
-use desk::printing::fail;
-use desk::refusals::print_refusal;
-use desk::rooms;
-use sources::Line;
-
-// Assembles a source at a size, and runs it.
-fn run_at(
+// Assembles a source into a memory of as many cells as M says, and runs it.
+fn run_source(
     rt: &HostRuntime,
-    path: &[u8],
-    text: &[u8],
-    memory: &mut [u16],
-    map: &mut [u8],
+    source: Source<'_>,
+    size: usize,
     given: &[u8],
     budget: u32,
-) {
-    let reply = assembler::assemble::assemble(text, memory, map);
+) -> Result<(), Failure<'static>>
+    requires { size ≤ largest_m }
+{
+    let mut room = [0; LARGEST_M];
+    let mut marks = [0; LARGEST_M];
+    let memory = &mut room[..size];
+    let reply = assembler::assemble::assemble(source.text, memory, &mut marks[..size]);
     if reply.refusal == 0 {
-        running::run(&mut rt.stdout(), &mut rt.stderr(), memory, given, budget);
-        return;
+        return running::run(&mut rt.stdout(), &mut rt.stderr(), memory, given, budget);
     }
-    print_refusal(
-        &mut rt.stdout(),
-        &mut rt.stderr(),
-        path,
-        text,
-        reply.refusal,
-        reply.line,
-        reply.column,
-    );
-}
-
-// Lends as many cells as M says.
-fn run_text(rt: &HostRuntime, path: &[u8], text: &[u8], size: usize, given: &[u8], budget: u32) {
-    let mut memory = rooms::memory();
-    let mut map = rooms::map();
-    if memory.len() < size {
-        return;
-    }
-    if map.len() < size {
-        return;
-    }
-    run_at(
-        rt,
-        path,
-        text,
-        &mut memory[..size],
-        &mut map[..size],
-        given,
-        budget,
-    );
-}
-
-// Standard input, read to its end before anything is assembled.
-fn run_source(rt: &HostRuntime, path: &[u8], text: &[u8], size: usize, budget: u32) {
-    let mut given = input::room();
-    let Some(n) = input::read(&mut rt.stdin(), &mut rt.stderr(), &mut given) else {
-        return;
+    let refusal = Refusal {
+        number: reply.refusal,
+        line: reply.line,
+        column: reply.column,
     };
-    run_text(rt, path, text, size, &given[..n], budget);
+    refuse(rt, source, refusal)
 }
 
-fn run_file(rt: &HostRuntime, path: &[u8], size: usize, budget: u32) {
-    let mut text = rooms::source();
-    match desk::source::read(rt, path, &mut text) {
-        Ok(n) => run_source(rt, path, &text[..n], size, budget),
-        Err(error) => fail(&mut rt.stderr(), path, &error),
-    }
-}
-
-// FILE and M, at a budget.
-fn run_words(rt: &HostRuntime, budget: u32) {
-    let size = desk::arguments::size(rt);
-    let mut path = rooms::path();
-    if size == 0 {
-        let n = desk::arguments::argument(rt, 1, &mut path);
-        print_refusal(
-            &mut rt.stdout(),
-            &mut rt.stderr(),
-            &path[..n],
-            b"",
-            1,
-            Line(0),
-            Column(0),
-        );
-        return;
-    }
-    match desk::arguments::file(rt, &mut path) {
-        Ok(n) => run_file(rt, &path[..n], size, budget),
-        Err(error) => fail(&mut rt.stderr(), b"run: FILE", &error),
-    }
+// The whole call, with a room for FILE. Standard input is read to its end before anything is assembled.
+fn run<'a>(rt: &HostRuntime, room: &'a mut [u8]) -> Result<(), Failure<'a>> {
+    let budget = arguments::budget(rt).ok_or(Failure::Usage)?;
+    let Some(size) = desk::arguments::size(rt) else {
+        let path = desk::arguments::argument(rt, 1, room);
+        return refuse(rt, Source { path, text: b"" }, WRONG_M);
+    };
+    let path = desk::arguments::file(rt, room).map_err(|error| Failure::System(b"run: FILE", error))?;
+    let mut room = [0; source::ROOM];
+    let text = source::read(rt, path, &mut room).map_err(|error| Failure::System(path, error))?;
+    let mut room = [0; input::ROOM];
+    let given = input::read(&mut rt.stdin(), &mut room)?;
+    run_source(rt, Source { path, text }, size, given, budget)
 }
 
 fn main(rt: HostRuntime) {
-    match arguments::budget(&rt) {
-        Budget::Steps(n) => run_words(&rt, n),
-        Budget::Wrong => arguments::usage(&mut rt.stderr()),
+    let mut room = [0; LONGEST_PATH];
+    if let Err(failure) = run(&rt, &mut room) {
+        let _ = failures::tell(&mut rt.stderr(), failure);
     }
 }

@@ -1,49 +1,26 @@
 // A run, its output on standard output and its record on standard error.
-ghost use Rattle.std.specs.Prelude.{◌≡◌, length};
-
-use record::NotRecorded;
-use desk::printing::{write, write_error};
+use super::failures::Failure;
 use machine::{Ran, Registers};
 use std::io::Write;
 
-// The longest record. The `ensures` gives the length, which lending needs.
-fn record_room() -> [u8; 400]
-    ensures { 400 ≡ length result }
-{
-    [0; 400]
-}
+const LONGEST_RECORD: usize = 400;
 
-fn print_record(errors: &mut impl Write, ran: Ran) {
-    let mut text = record_room();
-    match record::recording::write_record(ran, &mut text) {
-        Ok(n) => {
-            write_error(errors, &text, n);
-        }
-        Err(NotRecorded::TooFar) => cannot_print(errors),
-        Err(NotRecorded::RoomShort) => cannot_print(errors),
-    }
-}
-
-// The room has place for the longest record, and no position passes 65,536: this is said of none.
-fn cannot_print(errors: &mut impl Write) {
-    let _ = errors.write_all(b"run: the record cannot be printed\n");
-}
+const LARGEST_OUTPUT: usize = 65536;
 
 // "Registers and stop code start at 0."
-fn start() -> Registers {
-    Registers {
-        r: [0; 16],
-        stop: 0,
-        taken: 0,
-        written: 0,
-    }
-}
+const START: Registers = Registers {
+    r: [0; 16],
+    stop: 0,
+    taken: 0,
+    written: 0,
+};
 
-// What a run may write. The `ensures` gives the length, which lending needs.
-fn output_room() -> [u8; 65536]
-    ensures { 65536 ≡ length result }
-{
-    [0; 65536]
+fn print_record(errors: &mut impl Write, ran: Ran) -> Result<(), Failure<'static>> {
+    let mut room = [0; LONGEST_RECORD];
+    let length = record::recording::write_record(ran, &mut room)?;
+    let text = room.get(..length).ok_or(Failure::NoRecord)?;
+    errors.write_all(text)?;
+    Ok(())
 }
 
 // Runs a memory on an input. The record is printed only where the output could be.
@@ -53,11 +30,12 @@ pub(crate) fn run(
     memory: &mut [u16],
     given: &[u8],
     budget: u32,
-) {
-    let mut out = output_room();
-    let ran = machine::run::run(start(), memory, given, &mut out, budget);
-    let after = ran.registers;
-    if write(output, errors, &out, after.written) {
-        print_record(errors, ran);
+) -> Result<(), Failure<'static>> {
+    let mut room = [0; LARGEST_OUTPUT];
+    let ran = machine::run::run(START, memory, given, &mut room, budget);
+    if let Some(written) = room.get(..ran.registers.written) {
+        output.write_all(written)?;
+        print_record(errors, ran)?;
     }
+    Ok(())
 }

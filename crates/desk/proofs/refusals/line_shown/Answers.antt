@@ -10,11 +10,11 @@ pub slice_bounds-excerpt-end : goal.slice_bounds-excerpt-end
 slice_bounds-excerpt-end c =
     let a = c.args in
     let h : c.line_end-end.result ≤ length a.source.now =
-    part_within a.source.now a.line.0 c.line_start-from.ensures c.line_end-end.ensures in
+    part_within a.source.now a.refusal.line.0 c.line_start-from.ensures c.line_end-end.ensures in
     search rules
 
 pub returns : goal.returns
 returns c =
     let a = c.args in
-    shown_as a.room.now a.column.0 (part_there a.source.now a.line.0 c.line_start-from.ensures c.line_end-end.ensures)
+    shown_as a.room.now a.refusal.column.0 (part_there a.source.now a.refusal.line.0 c.line_start-from.ensures c.line_end-end.ensures)
     c.excerpt.ensures

@@ -1,6 +1,0 @@
--- By the law over any number: this one is never counted down.
-use Rattle.desk.proofs.Sizes.{repeated}
-use Rattle.desk.proofs.rooms.word.Goals as goal
-
-pub returns : goal.returns
-returns c = repeated 131072
