@@ -1,84 +1,73 @@
 // The cases of the input, each to its reply.
 use super::assembling::source_case;
-use super::fields::number;
+use super::fields::Fields;
 use super::images::{Text, image_case};
 use super::instructions::{decode_case, encode_case};
-use super::lines::next_line;
 use super::machines::{Asked, machine_case};
-use super::outcomes::{Outcome, goes_on, tell};
-use std::io::{Read, Write};
+use super::stops::{Stop, Stopped};
+use std::alloc::Global;
+use std::io::{BufRead, BufReader, BufWriter, Read, Write};
 
-// The budget of a run, of at most 32 bits.
-fn budget(n: usize) -> u32 {
-    (n % 4294967296) as u32
+// The longest line, with its LF.
+const LONGEST_LINE: u64 = 1048576;
+
+// The next line, without its LF; None: the input ends.
+fn next_line<'a>(
+    input: &mut (impl BufRead + Drop),
+    line: &'a mut Vec<u8>,
+) -> Result<Option<&'a [u8]>, Stop> {
+    line.clear();
+    let Ok(_) = input.take(LONGEST_LINE).read_until(b'\n', line) else {
+        return Err(Stop::Unreadable);
+    };
+    match line.as_slice() {
+        [] => Ok(None),
+        [case @ .., b'\n'] => Ok(Some(case)),
+        part if (part.len() as u64) < LONGEST_LINE => Err(Stop::Unfinished),
+        _ => Err(Stop::TooLong),
+    }
 }
 
-fn run_case(
-    replies: &mut impl Write,
-    s: &[u8],
-    m: &mut [u16],
-    given: &mut [u8],
-    room: &mut [u8],
-) -> Outcome {
-    let steps = number(s, 2, 4294967295);
-    let asked = Asked::Run(budget(steps.value));
-    machine_case(replies, asked, s, steps.next, m, given, room)
-}
-
-// A case line, without its LF, to its reply.
-fn answer(
-    replies: &mut impl Write,
-    s: &[u8],
-    m: &mut [u16],
-    given: &mut [u8],
-    room: &mut [u8],
-) -> Outcome {
-    if s.len() < 2 {
-        return Outcome::Malformed;
+// A case to its reply.
+fn answer(alloc: Global, case: &[u8], out: &mut impl Write) -> Result<(), Stop> {
+    let mut fields = Fields::of(case);
+    match fields.next()? {
+        b"A" => source_case(alloc, fields, out)?,
+        b"D" => decode_case(alloc, fields, out)?,
+        b"E" => encode_case(fields, out)?,
+        b"G" => image_case(alloc, Text::Listing, fields, out)?,
+        b"P" => image_case(alloc, Text::Printing, fields, out)?,
+        b"R" => {
+            let budget = fields.budget()?;
+            machine_case(alloc, Asked::Run(budget), fields, out)?
+        }
+        b"S" => machine_case(alloc, Asked::Step, fields, out)?,
+        _ => return Err(Stop::Malformed),
     }
-    if s[1] != b' ' {
-        return Outcome::Malformed;
-    }
-    match s[0] {
-        b'A' => source_case(replies, s, m, given, room),
-        b'D' => decode_case(replies, s, m),
-        b'E' => encode_case(replies, s),
-        b'G' => image_case(replies, Text::Listing, s, m, given, room),
-        b'P' => image_case(replies, Text::Printing, s, m, given, room),
-        b'R' => run_case(replies, s, m, given, room),
-        b'S' => machine_case(replies, Asked::Step, s, 2, m, given, room),
-        _ => Outcome::Malformed,
-    }
+    writeln!(out)?;
+    out.flush()?;
+    Ok(())
 }
 
 // Answers all cases. A proved loop has to end, so it counts its lines up to a number that no input reaches.
 pub(crate) fn answer_all(
-    cases: &mut impl Read,
-    replies: &mut impl Write,
-    errors: &mut impl Write,
-    text: &mut [u8],
-    m: &mut [u16],
-    given: &mut [u8],
-    room: &mut [u8],
-) {
-    let mut from = 0;
-    let mut held = 0;
-    for before in 0..u64::MAX {
-        let count = before + 1;
-        let line = next_line(cases, text, from, held);
-        let found = line.outcome;
-        if !goes_on(found) {
-            tell(errors, found, count);
-            return;
+    alloc: Global,
+    input: impl Read + Drop,
+    output: impl Write + Drop,
+) -> Result<(), Stopped> {
+    let Ok(mut input) = BufReader::new(alloc, input) else {
+        return Err(Stopped { line: 1, why: Stop::OutOfMemory });
+    };
+    let Ok(mut replies) = BufWriter::new(alloc, output) else {
+        return Err(Stopped { line: 1, why: Stop::OutOfMemory });
+    };
+    let mut room = Vec::new(alloc);
+    for line in 1..u64::MAX {
+        match next_line(&mut input, &mut room) {
+            Ok(Some(case)) => answer(alloc, case, &mut replies).map_err(|why| Stopped { line, why })?,
+            Ok(None) => break,
+            Err(why) => return Err(Stopped { line, why }),
         }
-        let start = line.start;
-        let lf = line.lf;
-        let done = answer(replies, &text[start..lf], m, given, room);
-        if !goes_on(done) {
-            tell(errors, done, count);
-            return;
-        }
-        from = line.after;
-        held = line.held;
     }
+    Ok(())
 }

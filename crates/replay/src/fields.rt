@@ -1,181 +1,96 @@
-// The fields of a case line. A field that is malformed or missing is followed by the place NOWHERE, at which no field is found:
-// so a line is sound if its last field ends where the line does.
-ghost use Rattle.std.specs.Prelude.{◌<◌};
+// The fields of a case line, parted by single blanks.
+use super::stops::Stop;
+use std::alloc::Global;
+use std::str;
 
-// A field's number, or how many bytes it spells, and the place of the next field.
+// What is left of a line; None: its last field is read.
 #[derive(Clone, Copy)]
-pub(crate) struct Field {
-    pub value: usize,
-    pub next: usize,
+pub(crate) struct Fields<'a> {
+    rest: Option<&'a [u8]>,
 }
 
-pub(crate) const NOWHERE: usize = 18446744073709551615;
-
-fn nothing() -> Field {
-    Field {
-        value: 0,
-        next: NOWHERE,
-    }
-}
-
-// The place after a field's last byte and the blank, or the line's end, that must follow.
-fn after(s: &[u8], end: usize) -> usize {
-    if s.len() < end {
-        return NOWHERE;
-    }
-    if end == s.len() {
-        return end + 1;
-    }
-    if s[end] == b' ' { end + 1 } else { NOWHERE }
-}
-
-// Whether a line was read to its end.
-pub(crate) fn is_whole(s: &[u8], next: usize) -> bool {
-    if next == NOWHERE {
-        return false;
-    }
-    s.len() < next
-}
-
-// A lower-case hex digit's value; 16 for any other byte.
-fn digit(b: u8) -> u8
-    ensures { result < 17 }
-{
-    if b < b'0' {
-        return 16;
-    }
-    if b <= b'9' {
-        return b - b'0';
-    }
-    if b < b'a' {
-        return 16;
-    }
-    if b <= b'f' { b - b'a' + 10 } else { 16 }
-}
-
-// A number with one more digit, or nothing where it does not fit.
-fn appended(value: usize, d: u8) -> Field {
-    if 1844674407370955161 < value {
-        return nothing();
-    }
-    let tens = 10 * value;
-    if 18446744073709551615 - tens < d as usize {
-        return nothing();
-    }
-    Field {
-        value: tens + d as usize,
-        next: 0,
+// A lower-case hex digit's value.
+fn digit(b: u8) -> Result<u8, Stop> {
+    match b {
+        b'0'..=b'9' => Ok(b - b'0'),
+        b'a'..=b'f' => Ok(b - b'a' + 10),
+        _ => Err(Stop::Malformed),
     }
 }
 
-// The decimal digits at a place: their number, and the place after them.
-fn digits(s: &[u8], at: usize) -> Field {
-    let mut value: usize = 0;
-    let mut i = at;
-    while i < s.len() {
-        let d = digit(s[i]);
-        if 9 < d {
-            break;
-        }
-        let more = appended(value, d);
-        if more.next == NOWHERE {
-            return nothing();
-        }
-        value = more.value;
-        i += 1;
+impl<'a> Fields<'a> {
+    pub(crate) fn of(line: &'a [u8]) -> Fields<'a> {
+        Fields { rest: Some(line) }
     }
-    Field {
-        value: value,
-        next: i,
-    }
-}
 
-// A plain decimal number without leading zeros, at most so large.
-pub(crate) fn number(s: &[u8], at: usize, most: usize) -> Field {
-    if s.len() <= at {
-        return nothing();
-    }
-    let read = digits(s, at);
-    if read.next <= at {
-        return nothing();
-    }
-    if s[at] == b'0' {
-        if 1 < read.next - at {
-            return nothing();
+    // The next field.
+    pub(crate) fn next(&mut self) -> Result<&'a [u8], Stop> {
+        let rest = self.rest.ok_or(Stop::Malformed)?;
+        match rest.iter().position(|b| *b == b' ') {
+            Some(i) => {
+                self.rest = Some(&rest[i + 1..]);
+                Ok(&rest[..i])
+            }
+            None => {
+                self.rest = None;
+                Ok(rest)
+            }
         }
     }
-    if most < read.value {
-        return nothing();
-    }
-    Field {
-        value: read.value,
-        next: after(s, read.next),
-    }
-}
 
-// The byte that two hex digits at a place spell; 256 if there are none.
-fn pair(s: &[u8], at: usize) -> usize {
-    if s.len() <= at {
-        return 256;
-    }
-    if s.len() - at < 2 {
-        return 256;
-    }
-    let high = digit(s[at]);
-    let low = digit(s[at + 1]);
-    if 15 < high {
-        return 256;
-    }
-    if 15 < low {
-        return 256;
-    }
-    16 * (high as usize) + low as usize
-}
-
-// The bytes that hex digits at a place spell, into a room: how many, and the place after them.
-fn spelt(s: &[u8], at: usize, into: &mut [u8]) -> Field {
-    let mut n: usize = 0;
-    let mut i = at;
-    while i < s.len() {
-        let b = pair(s, i);
-        if 255 < b {
-            break;
+    // That there is no field more.
+    pub(crate) fn end(self) -> Result<(), Stop> {
+        match self.rest {
+            Some(_) => Err(Stop::Malformed),
+            None => Ok(()),
         }
-        if into.len() <= n {
-            break;
+    }
+
+    // A plain decimal number without leading zeros, as text.
+    fn decimal(&mut self) -> Result<&'a str, Stop> {
+        let field = self.next()?;
+        match field {
+            b"0" | [b'1'..=b'9', ..] => str::from_utf8(field).map_err(|_| Stop::Malformed),
+            _ => Err(Stop::Malformed),
         }
-        into[n] = byte(b);
-        n += 1;
-        i += 2;
     }
-    Field { value: n, next: i }
-}
 
-// A row of bytes in hex, `-` if it is empty, into a room.
-pub(crate) fn bytes(s: &[u8], at: usize, into: &mut [u8]) -> Field {
-    if s.len() <= at {
-        return nothing();
+    pub(crate) fn byte(&mut self) -> Result<u8, Stop> {
+        Ok(self.decimal()?.parse()?)
     }
-    if s[at] == b'-' {
-        return Field {
-            value: 0,
-            next: after(s, at + 1),
-        };
-    }
-    let read = spelt(s, at, into);
-    if read.value == 0 {
-        return nothing();
-    }
-    Field {
-        value: read.value,
-        next: after(s, read.next),
-    }
-}
 
-pub(crate) fn byte(n: usize) -> u8 {
-    (n % 256) as u8
-}
+    pub(crate) fn word(&mut self) -> Result<u16, Stop> {
+        Ok(self.decimal()?.parse()?)
+    }
 
-pub(crate) fn word(n: usize) -> u16 {
-    (n % 65536) as u16
+    pub(crate) fn budget(&mut self) -> Result<u32, Stop> {
+        Ok(self.decimal()?.parse()?)
+    }
+
+    pub(crate) fn number(&mut self) -> Result<usize, Stop> {
+        Ok(self.decimal()?.parse()?)
+    }
+
+    pub(crate) fn at_most(&mut self, most: usize) -> Result<usize, Stop> {
+        let n = self.number()?;
+        if n <= most { Ok(n) } else { Err(Stop::Malformed) }
+    }
+
+    // A row of bytes in hex, `-` if it is empty.
+    pub(crate) fn bytes(&mut self, alloc: Global) -> Result<Vec<u8>, Stop> {
+        let field = self.next()?;
+        let mut bytes = Vec::new(alloc);
+        match field {
+            b"-" => return Ok(bytes),
+            [] => return Err(Stop::Malformed),
+            _ => {}
+        }
+        for pair in field.chunks(2) {
+            match pair {
+                [high, low] => bytes.push(digit(*high)? << 4 | digit(*low)?)?,
+                _ => return Err(Stop::Malformed),
+            }
+        }
+        Ok(bytes)
+    }
 }

@@ -1,159 +1,140 @@
 // Cases of encoding and decoding.
-use super::fields::{is_whole, number, word};
-use super::outcomes::Outcome;
-use super::replies::{Row, put_row, wide};
+use super::fields::Fields;
+use super::stops::Stop;
 use isa::decoding::decode;
 use isa::encoding::encode;
 use isa::opcodes::{opcode, row};
-use isa::{Address, Decoded, Encoded, Instruction, Operand, Undecoded};
+use isa::{Address, Decoded, Encoded, Instruction, Operand};
+use std::alloc::Global;
+use std::fmt;
 use std::io::Write;
 
-// The format's kind of an operand, and its word.
+// The kinds of operands, in the order of the format's numbers.
+#[derive(Clone, Copy)]
+enum Kind {
+    Absent,
+    Immediate,
+    Register,
+    Memory,
+    Indirect,
+    IndexedX,
+    IndexedY,
+    Relative,
+    IndexedSp,
+}
+
+impl TryFrom<u8> for Kind {
+    type Error = Stop;
+
+    fn try_from(number: u8) -> Result<Kind, Stop> {
+        match number {
+            0 => Ok(Kind::Absent),
+            1 => Ok(Kind::Immediate),
+            2 => Ok(Kind::Register),
+            3 => Ok(Kind::Memory),
+            4 => Ok(Kind::Indirect),
+            5 => Ok(Kind::IndexedX),
+            6 => Ok(Kind::IndexedY),
+            7 => Ok(Kind::Relative),
+            8 => Ok(Kind::IndexedSp),
+            _ => Err(Stop::Malformed),
+        }
+    }
+}
+
+// An operand as the format spells it: its kind, and its word.
 #[derive(Clone, Copy)]
 struct Spelt {
-    kind: usize,
-    word: usize,
+    kind: Kind,
+    word: u16,
 }
 
-// The operand of the format's kind and word.
-fn operand(kind: usize, w: u16) -> Operand {
-    match kind {
-        1 => Operand::Immediate(w),
-        2 => Operand::Register(w),
-        3 => Operand::Memory(w),
-        4 => Operand::Indirect(w),
-        5 => Operand::IndexedX(w),
-        6 => Operand::IndexedY(w),
-        7 => Operand::Relative(w),
-        8 => Operand::IndexedSp(w),
-        _ => Operand::Absent,
+impl From<Operand> for Spelt {
+    fn from(operand: Operand) -> Spelt {
+        let (kind, word) = match operand {
+            Operand::Absent => (Kind::Absent, 0),
+            Operand::Immediate(w) => (Kind::Immediate, w),
+            Operand::Register(w) => (Kind::Register, w),
+            Operand::Memory(w) => (Kind::Memory, w),
+            Operand::Indirect(w) => (Kind::Indirect, w),
+            Operand::IndexedX(w) => (Kind::IndexedX, w),
+            Operand::IndexedY(w) => (Kind::IndexedY, w),
+            Operand::Relative(w) => (Kind::Relative, w),
+            Operand::IndexedSp(w) => (Kind::IndexedSp, w),
+        };
+        Spelt { kind, word }
     }
 }
 
-fn spelling(kind: usize, w: u16) -> Spelt {
-    Spelt {
-        kind: kind,
-        word: wide(w),
+impl Spelt {
+    fn operand(self) -> Operand {
+        match self.kind {
+            Kind::Absent => Operand::Absent,
+            Kind::Immediate => Operand::Immediate(self.word),
+            Kind::Register => Operand::Register(self.word),
+            Kind::Memory => Operand::Memory(self.word),
+            Kind::Indirect => Operand::Indirect(self.word),
+            Kind::IndexedX => Operand::IndexedX(self.word),
+            Kind::IndexedY => Operand::IndexedY(self.word),
+            Kind::Relative => Operand::Relative(self.word),
+            Kind::IndexedSp => Operand::IndexedSp(self.word),
+        }
     }
 }
 
-fn spelling_of(o: Operand) -> Spelt {
-    match o {
-        Operand::Absent => spelling(0, 0),
-        Operand::Immediate(w) => spelling(1, w),
-        Operand::Register(w) => spelling(2, w),
-        Operand::Memory(w) => spelling(3, w),
-        Operand::Indirect(w) => spelling(4, w),
-        Operand::IndexedX(w) => spelling(5, w),
-        Operand::IndexedY(w) => spelling(6, w),
-        Operand::Relative(w) => spelling(7, w),
-        Operand::IndexedSp(w) => spelling(8, w),
+impl fmt::Display for Spelt {
+    fn fmt<W: fmt::Write>(&self, f: &mut fmt::Formatter<W>) -> fmt::Result {
+        let kind = self.kind as u8;
+        let word = self.word;
+        write!(f, "{kind} {word}")
     }
 }
 
-// A reply of one number.
-fn one(n: usize) -> Row {
-    Row {
-        count: 1,
-        numbers: [n, 0, 0, 0, 0, 0, 0],
-    }
-}
-
-// That encoding went well, how many words there are, and they.
-fn listed(count: usize, a: u16, b: u16, c: u16) -> Row {
-    Row {
-        count: 2 + count % 4,
-        numbers: [0, count, wide(a), wide(b), wide(c), 0, 0],
-    }
-}
-
-fn encoded(e: Option<Encoded>) -> Row {
-    match e {
-        Some(Encoded::One(a)) => listed(1, a, 0, 0),
-        Some(Encoded::Two(a, b)) => listed(2, a, b, 0),
-        Some(Encoded::Three(a, b, c)) => listed(3, a, b, c),
-        None => one(5),
-    }
+// `K V`.
+fn operand(fields: &mut Fields<'_>) -> Result<Operand, Stop> {
+    let kind = Kind::try_from(fields.byte()?)?;
+    let word = fields.word()?;
+    Ok(Spelt { kind, word }.operand())
 }
 
 // `OP K1 V1 K2 V2`.
-pub(crate) fn encode_case(replies: &mut impl Write, s: &[u8]) -> Outcome {
-    let op = number(s, 2, 255);
-    let kind = number(s, op.next, 8);
-    let first = number(s, kind.next, 65535);
-    let kind2 = number(s, first.next, 8);
-    let second = number(s, kind2.next, 65535);
-    if !is_whole(s, second.next) {
-        return Outcome::Malformed;
+pub(crate) fn encode_case(mut fields: Fields<'_>, out: &mut impl Write) -> Result<(), Stop> {
+    let number = fields.byte()?;
+    let first = operand(&mut fields)?;
+    let second = operand(&mut fields)?;
+    fields.end()?;
+    match opcode(u16::from(number)).and_then(|op| encode(Instruction { op, first, second })) {
+        Some(Encoded::One(a)) => write!(out, "0 1 {a}")?,
+        Some(Encoded::Two(a, b)) => write!(out, "0 2 {a} {b}")?,
+        Some(Encoded::Three(a, b, c)) => write!(out, "0 3 {a} {b} {c}")?,
+        None => write!(out, "5")?,
     }
-    let a = operand(kind.value, word(first.value));
-    let b = operand(kind2.value, word(second.value));
-    match opcode(word(op.value)) {
-        Some(op) => put_row(
-            replies,
-            encoded(encode(Instruction {
-                op: op,
-                first: a,
-                second: b,
-            })),
-        ),
-        None => put_row(replies, one(5)),
-    }
-}
-
-fn instruction(i: Instruction, length: usize) -> Row {
-    let op = i.op;
-    let a = i.first;
-    let b = i.second;
-    let its = row(op);
-    let first = spelling_of(a);
-    let second = spelling_of(b);
-    Row {
-        count: 7,
-        numbers: [
-            0,
-            wide(its.number),
-            first.kind,
-            first.word,
-            second.kind,
-            second.word,
-            length,
-        ],
-    }
-}
-
-fn decoded(d: Result<Decoded, Undecoded>) -> Row {
-    match d {
-        Ok(Decoded { instruction: i, next: after }) => instruction(i, after.0),
-        Err(why) => one(usize::from(u8::from(why))),
-    }
-}
-
-// So many words of a line into a room; the place after them.
-fn take_words(m: &mut [u16], s: &[u8], from: usize) -> usize {
-    let mut next = from;
-    for i in 0..m.len() {
-        let w = number(s, next, 65535);
-        m[i] = word(w.value);
-        next = w.next;
-    }
-    next
-}
-
-fn decode_words(replies: &mut impl Write, m: &mut [u16], s: &[u8], from: usize) -> Outcome {
-    let next = take_words(m, s, from);
-    if !is_whole(s, next) {
-        return Outcome::Malformed;
-    }
-    put_row(replies, decoded(decode(m, Address(0))))
+    Ok(())
 }
 
 // `N W1 .. WN`.
-pub(crate) fn decode_case(replies: &mut impl Write, s: &[u8], m: &mut [u16]) -> Outcome {
-    let count = number(s, 2, 5);
-    let n = count.value;
-    if m.len() < n {
-        return Outcome::Malformed;
+pub(crate) fn decode_case(
+    alloc: Global,
+    mut fields: Fields<'_>,
+    out: &mut impl Write,
+) -> Result<(), Stop> {
+    let mut words = Vec::new(alloc);
+    for _ in 0..fields.at_most(5)? {
+        words.push(fields.word()?)?;
     }
-    decode_words(replies, &mut m[..n], s, count.next)
+    fields.end()?;
+    match decode(&words, Address(0)) {
+        Ok(Decoded { instruction, next }) => {
+            let number = row(instruction.op).number;
+            let first = Spelt::from(instruction.first);
+            let second = Spelt::from(instruction.second);
+            let length = next.0;
+            write!(out, "0 {number} {first} {second} {length}")?;
+        }
+        Err(why) => {
+            let stop = u8::from(why);
+            write!(out, "{stop}")?;
+        }
+    }
+    Ok(())
 }

@@ -3,30 +3,21 @@
 // told on standard error and ends the program. The program ends with 0 whatever it says: `second/cases/answer` gives a status.
 #![tactic(auto)]
 
+mod assembling; // sources
 mod cases; // the cases of the input, each to its reply
 mod fields; // numbers and bytes of a line
 mod images; // printing and listing
 mod instructions; // encoding and decoding
-mod lines; // the lines of standard input
+mod loans; // what a case lends: memory, map and room
 mod machines; // steps and runs
-mod memory; // what is lent, and what changed in it
-mod outcomes; // how far it went
-mod replies; // the text of a reply
-mod rooms; // rooms as large as the largest case
-mod assembling; // sources
+mod replies; // what was changed in what was lent
+mod stops; // why no more is answered
+
+use cases::answer_all;
+use std::io::Write;
 
 fn main(rt: HostRuntime) {
-    let mut text = rooms::text();
-    let mut m = rooms::cells();
-    let mut given = rooms::given();
-    let mut room = rooms::room();
-    cases::answer_all(
-        &mut rt.stdin(),
-        &mut rt.stdout(),
-        &mut rt.stderr(),
-        &mut text,
-        &mut m,
-        &mut given,
-        &mut room,
-    );
+    if let Err(stopped) = answer_all(rt.alloc(), rt.stdin(), rt.stdout()) {
+        let _ = writeln!(&mut rt.stderr(), "replay: {stopped}");
+    }
 }

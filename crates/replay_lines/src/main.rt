@@ -6,8 +6,13 @@
 
 mod answers; // a line's reply
 mod cases; // the bytes of a case, one after another
-mod texts; // the text of replies
+mod stops; // why no more is answered
+
+use cases::answer_all;
+use std::io::Write;
 
 fn main(rt: HostRuntime) {
-    cases::answer_all(&mut rt.stdin(), &mut rt.stdout(), &mut rt.stderr());
+    if let Err(stop) = answer_all(rt.alloc(), rt.stdin(), rt.stdout()) {
+        let _ = writeln!(&mut rt.stderr(), "replay_lines: {stop}");
+    }
 }

@@ -69,10 +69,7 @@ pub(crate) const TEXT: [u16; 53] = [
 
 // Puts a program's words at the start of memory, as far as it goes.
 pub(crate) fn load(m: &mut [u16], words: &[u16]) {
-    for i in 0..words.len() {
-        if m.len() <= i {
-            return;
-        }
-        m[i] = words[i];
+    for (cell, word) in m.iter_mut().zip(words) {
+        *cell = *word;
     }
 }

@@ -3,16 +3,20 @@
 // each. For each a line that tells what it came to.
 #![tactic(auto)]
 
-ghost use Rattle.std.specs.Prelude.{◌≡◌, ◌≤◌, ◌<◌, length};
+ghost use Rattle.std.specs.Prelude.{◌≤◌, length};
 
 mod assembling; // sources
 mod checksum;
 mod images; // the three programs as words
 
-use checksum::{add_bytes, add_words};
+use checksum::Checksum;
 use machine::Registers;
 use machine::run::run;
+use std::io;
 use std::io::{Read, Write};
+
+// The room that a program writes into; and the sources as they are read.
+const LARGE_ROOM: usize = 65536;
 
 // What a work came to: the registers it left, the last run's stop, and the steps in all.
 #[derive(Clone, Copy)]
@@ -24,90 +28,75 @@ struct Done {
 
 // So many runs, from zero registers. Each writes the output room from its start.
 fn perform(m: &mut [u16], out: &mut [u8], budget: u32, runs: u32) -> Done {
-    let mut g = Registers {
+    let mut registers = Registers {
         r: [0; 16],
         stop: 0,
         taken: 0,
         written: 0,
     };
-    let mut stop: u8 = 0;
-    let mut steps: u64 = 0;
+    let mut stop = 0;
+    let mut steps = 0u64;
     for _ in 0..runs {
-        g.written = 0;
-        let ran = run(g, m, b"", out, budget);
-        let left = ran.registers;
-        g = left;
+        registers.written = 0;
+        let ran = run(registers, m, b"", out, budget);
+        registers = ran.registers;
         stop = ran.stop;
-        steps += ran.count as u64;
+        steps += u64::from(ran.count);
     }
     Done {
-        registers: g,
-        stop: stop,
-        steps: steps,
+        registers,
+        stop,
+        steps,
     }
-}
-
-fn tell(output: &mut impl Write, name: &str, steps: u64, stop: u8, sum: u32) {
-    let _ = writeln!(output, "{name}: {steps} steps, stop {stop}, checksum {sum}");
-}
-
-// A memory of 1,024 cells, all 0.
-fn memory() -> [u16; 1024]
-    ensures { 1024 ≡ length result }
-{
-    [0; 1024]
-}
-
-// The room that a program writes into; and the sources as they are read.
-fn large_room() -> [u8; 65536]
-    ensures { 65536 ≡ length result }
-{
-    [0; 65536]
 }
 
 // A program's runs, and the line that tells what they came to.
-fn work(output: &mut impl Write, name: &str, words: &[u16], budget: u32, runs: u32) {
-    let mut cells = memory();
-    let mut room = large_room();
+fn work(
+    output: &mut impl Write,
+    name: &str,
+    words: &[u16],
+    budget: u32,
+    runs: u32,
+) -> io::Result<()> {
+    let mut cells = [0u16; 1024];
+    let mut room = [0u8; LARGE_ROOM];
     images::load(&mut cells, words);
-    let done = perform(&mut cells, &mut room, budget, runs);
-    let r = done.registers.r;
-    let registers = add_words(0, &r);
-    let memory = add_words(registers, &cells);
-    let sum = add_bytes(memory, &room);
-    tell(output, name, done.steps, done.stop, sum);
+    let Done {
+        registers,
+        stop,
+        steps,
+    } = perform(&mut cells, &mut room, budget, runs);
+    let sum = Checksum::new()
+        .over(&registers.r)
+        .over(&cells)
+        .over(&room)
+        .sum;
+    writeln!(output, "{name}: {steps} steps, stop {stop}, checksum {sum}")
 }
 
-// The two sources of standard input.
-fn sources(output: &mut impl Write, text: &[u8]) {
-    let k = assembling::parted(text);
-    assembling::work(output, "labels_20", &text[..k]);
-    if k < text.len() {
-        assembling::work(output, "labels_500", &text[k + 1..]);
-    }
-}
-
-// Reads until a room is full, the input ends or a read fails; how many bytes the room holds then.
-fn read_full(input: &mut impl Read, room: &mut [u8]) -> usize
-    ensures { result ≤ length room.new }
+// Reads until a room is full, the input ends or a read fails.
+fn read_full<'a>(input: &mut impl Read, room: &'a mut [u8]) -> &'a [u8]
+    ensures { length result.now ≤ length room.old }
 {
     let mut held = 0;
     while held < room.len() {
         match input.read(&mut room[held..]) {
-            Ok(0) => break,
+            Ok(0) | Err(_) => break,
             Ok(n) => held += n,
-            Err(_) => break,
         }
     }
-    held
+    &room[..held]
 }
 
+fn work_all(input: &mut impl Read, output: &mut impl Write) -> io::Result<()> {
+    work(output, "arithmetic", &images::ARITHMETIC, 1000000, 8)?;
+    work(output, "table", &images::TABLE, 1000000, 8)?;
+    work(output, "text", &images::TEXT, 8000, 1000)?;
+    let mut room = [0; LARGE_ROOM];
+    assembling::sources(output, read_full(input, &mut room))
+}
+
+// Output that cannot be written is missed by whoever times it.
 fn main(rt: HostRuntime) {
-    let mut output = rt.stdout();
-    work(&mut output, "arithmetic", &images::ARITHMETIC, 1000000, 8);
-    work(&mut output, "table", &images::TABLE, 1000000, 8);
-    work(&mut output, "text", &images::TEXT, 8000, 1000);
-    let mut text = large_room();
-    let n = read_full(&mut rt.stdin(), &mut text);
-    sources(&mut output, &text[..n]);
+    let _ = work_all(&mut rt.stdin(), &mut rt.stdout());
 }

@@ -1,6 +1,0 @@
--- The measure is what is left of the line.
-use Rattle.std.proofs.Common.{◌-◌, length}
-use Rattle.replay.proofs.fields.digits.Given as goal
-
-abbrev pub decreases-loop-i : goal.decreases-loop-i
-decreases-loop-i l = length l.s - l.i

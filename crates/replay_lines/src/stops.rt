@@ -1,0 +1,31 @@
+// Why no more is answered.
+use std::fmt;
+use std::io;
+
+#[derive(Clone, Copy, Debug)]
+pub(crate) enum Stop {
+    Malformed,
+    TooLong,
+    Unfinished,
+    Unreadable,
+    Unwritten,
+}
+
+impl fmt::Display for Stop {
+    fn fmt<W: fmt::Write>(&self, f: &mut fmt::Formatter<W>) -> fmt::Result {
+        match self {
+            Stop::Malformed => write!(f, "a case is malformed"),
+            Stop::TooLong => write!(f, "a line is too long"),
+            Stop::Unfinished => write!(f, "the last case ends without its LF"),
+            Stop::Unreadable => write!(f, "the cases cannot be read"),
+            Stop::Unwritten => write!(f, "a reply cannot be written"),
+        }
+    }
+}
+
+// What fails where a reply is written.
+impl From<io::Error> for Stop {
+    fn from(_error: io::Error) -> Stop {
+        Stop::Unwritten
+    }
+}
