@@ -52,7 +52,10 @@ fn assemble<'a>(rt: &HostRuntime, room: &'a mut [u8]) -> Result<(), Failure<'a>>
         let path = arguments::argument(rt, 1, room);
         return refuse(rt, Source { path, text: b"" }, WRONG_M);
     };
-    let path = arguments::file(rt, room).map_err(|error| Failure::System(b"assemble: FILE", error))?;
+    let path = arguments::file(rt, room).map_err(|error| Failure::System(
+        b"assemble: FILE",
+        error,
+    ))?;
     let mut room = [0; source::ROOM];
     let text = source::read(rt, path, &mut room).map_err(|error| Failure::System(path, error))?;
     assemble_source(rt, Source { path, text }, size)

@@ -18,7 +18,10 @@ fn head(out: &mut impl Write, reply: Reply) -> io::Result<()> {
     let code = reply.code;
     let data = reply.data;
     let reserved = reply.reserved;
-    write!(out, "{refusal} {line} {column} {place} {code} {data} {reserved}")
+    write!(
+        out,
+        "{refusal} {line} {column} {place} {code} {data} {reserved}"
+    )
 }
 
 // `M MAPLEN FILL STEP MAPFILL SOURCE`: after a refusal what is not as it was lent is told, after acceptance what is not 0.

@@ -56,15 +56,24 @@ pub(crate) fn answer_all(
     output: impl Write + Drop,
 ) -> Result<(), Stopped> {
     let Ok(mut input) = BufReader::new(alloc, input) else {
-        return Err(Stopped { line: 1, why: Stop::OutOfMemory });
+        return Err(Stopped {
+            line: 1,
+            why: Stop::OutOfMemory,
+        });
     };
     let Ok(mut replies) = BufWriter::new(alloc, output) else {
-        return Err(Stopped { line: 1, why: Stop::OutOfMemory });
+        return Err(Stopped {
+            line: 1,
+            why: Stop::OutOfMemory,
+        });
     };
     let mut room = Vec::new(alloc);
     for line in 1..u64::MAX {
         match next_line(&mut input, &mut room) {
-            Ok(Some(case)) => answer(alloc, case, &mut replies).map_err(|why| Stopped { line, why })?,
+            Ok(Some(case)) => answer(alloc, case, &mut replies).map_err(|why| Stopped {
+                line,
+                why,
+            })?,
             Ok(None) => break,
             Err(why) => return Err(Stopped { line, why }),
         }

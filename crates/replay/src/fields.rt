@@ -73,7 +73,11 @@ impl<'a> Fields<'a> {
 
     pub(crate) fn at_most(&mut self, most: usize) -> Result<usize, Stop> {
         let n = self.number()?;
-        if n <= most { Ok(n) } else { Err(Stop::Malformed) }
+        if n <= most {
+            Ok(n)
+        } else {
+            Err(Stop::Malformed)
+        }
     }
 
     // A row of bytes in hex, `-` if it is empty.

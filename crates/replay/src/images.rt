@@ -1,6 +1,6 @@
 // Cases of an image, printed or listed.
 use super::fields::Fields;
-use super::loans::{CELLS, cells, marks, room};
+use super::loans::{CELLS, cells, filled_room, marks};
 use super::replies::room_changed;
 use super::stops::Stop;
 use image::NotPrinted;
@@ -49,7 +49,7 @@ pub(crate) fn image_case(
     let length = fields.at_most(CELLS)?;
     let m = cells(alloc, &mut fields, size)?;
     let map = marks(alloc, &mut fields, length)?;
-    let mut room = room(alloc, &mut fields)?;
+    let mut room = filled_room(alloc, &mut fields)?;
     fields.end()?;
     match asked {
         Text::Printing => printed(out, &m, &map, &mut room.bytes)?,

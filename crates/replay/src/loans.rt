@@ -10,7 +10,11 @@ pub(crate) const CELLS: usize = 65600;
 const LARGEST_ROOM: usize = 2000000;
 
 // `FILL STEP`: cell i holds FILL + i*STEP, modulo 65536.
-pub(crate) fn filled(alloc: Global, fields: &mut Fields<'_>, size: usize) -> Result<Vec<u16>, Stop> {
+pub(crate) fn filled(
+    alloc: Global,
+    fields: &mut Fields<'_>,
+    size: usize,
+) -> Result<Vec<u16>, Stop> {
     let mut value = fields.word()?;
     let step = fields.word()?;
     let mut cells = Vec::new(alloc);
@@ -49,7 +53,7 @@ pub(crate) struct Room {
 }
 
 // `SIZE FILL`.
-pub(crate) fn room(alloc: Global, fields: &mut Fields<'_>) -> Result<Room, Stop> {
+pub(crate) fn filled_room(alloc: Global, fields: &mut Fields<'_>) -> Result<Room, Stop> {
     let size = fields.at_most(LARGEST_ROOM)?;
     let fill = fields.byte()?;
     let bytes = vec![in alloc; fill; size]?;

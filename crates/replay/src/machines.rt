@@ -1,6 +1,6 @@
 // Cases of a step and of a run.
 use super::fields::Fields;
-use super::loans::{CELLS, cells, room};
+use super::loans::{CELLS, cells, filled_room};
 use super::replies::{cells_changed, room_changed};
 use super::stops::Stop;
 use machine::Registers;
@@ -76,7 +76,7 @@ pub(crate) fn machine_case(
     let stop = fields.byte()?;
     let input = fields.bytes(alloc)?;
     let taken = fields.number()?;
-    let mut room = room(alloc, &mut fields)?;
+    let mut room = filled_room(alloc, &mut fields)?;
     let written = fields.number()?;
     fields.end()?;
     let registers = Registers {

@@ -1,8 +1,7 @@
 // Why no more is answered.
 use std::alloc::{AllocError, AllocFailed};
-use std::fmt;
-use std::io;
 use std::num::ParseIntError;
+use std::{fmt, io};
 
 #[derive(Clone, Copy, Debug)]
 pub(crate) enum Stop {

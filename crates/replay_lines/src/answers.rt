@@ -7,9 +7,8 @@ use statements::Statement;
 use statements::cells::write_cells;
 use statements::line::read_line;
 use statements::refusals::number_of;
-use std::fmt;
-use std::io;
 use std::io::Write;
+use std::{fmt, io};
 use values::Name;
 
 // Where a label stands in the line; 0 0 where there is none.

@@ -1,6 +1,5 @@
 // Why no more is answered.
-use std::fmt;
-use std::io;
+use std::{fmt, io};
 
 #[derive(Clone, Copy, Debug)]
 pub(crate) enum Stop {

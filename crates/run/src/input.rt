@@ -10,8 +10,10 @@ pub(crate) fn read<'a>(
     input: &mut impl Read,
     room: &'a mut [u8],
 ) -> Result<&'a [u8], Failure<'static>> {
-    let given = desk::source::load(input, room)
-        .map_err(|error| Failure::System(b"run: input", error))?;
+    let given = desk::source::load(input, room).map_err(|error| Failure::System(
+        b"run: input",
+        error,
+    ))?;
     if ROOM <= given.len() {
         return Err(Failure::InputTooLong);
     }

@@ -53,7 +53,10 @@ fn run<'a>(rt: &HostRuntime, room: &'a mut [u8]) -> Result<(), Failure<'a>> {
         let path = desk::arguments::argument(rt, 1, room);
         return refuse(rt, Source { path, text: b"" }, WRONG_M);
     };
-    let path = desk::arguments::file(rt, room).map_err(|error| Failure::System(b"run: FILE", error))?;
+    let path = desk::arguments::file(rt, room).map_err(|error| Failure::System(
+        b"run: FILE",
+        error,
+    ))?;
     let mut room = [0; source::ROOM];
     let text = source::read(rt, path, &mut room).map_err(|error| Failure::System(path, error))?;
     let mut room = [0; input::ROOM];

@@ -10,6 +10,6 @@ returns g c =
     (λ last. (
       why,
       failure-told c.args.what.now why _ _ _ _ _ c.in_ok-write_all.ensures.bytes c.in_ok-write_all-2.ensures.bytes
-      c.in_ok-write_all-3.ensures.bytes last,
+          c.in_ok-write_all-3.ensures.bytes last,
     ))
     c.write_all-4.ensures.bytes
