@@ -28,45 +28,21 @@ use Rattle.faults.proofs.Places.{place-grows, place_dead, place_on, place-stops}
 -- ---- what does not depend on the word
 
 pub same_word : (x : Stage) (v w : List ℕ) → in_word (spelt x v) ≡ in_word (spelt x w)
-same_word (G.Between st) v w = refl
 same_word (G.Word st) v w = refl
-same_word (G.Zero st) v w = refl
-same_word (G.Decimal st) v w = refl
-same_word (G.Prefixed st) v w = refl
-same_word (G.Hexadecimal st) v w = refl
-same_word (G.Quoted st) v w = refl
-same_word (G.Escaped st) v w = refl
+same_word _ v w = refl
 
 pub same-goes : (x : Stage) (v w : List ℕ) → goes (spelt x v) ≡ goes (spelt x w)
-same-goes (G.Between st) v w = refl
 same-goes (G.Word st) v w = refl
-same-goes (G.Zero st) v w = refl
-same-goes (G.Decimal st) v w = refl
-same-goes (G.Prefixed st) v w = refl
-same-goes (G.Hexadecimal st) v w = refl
-same-goes (G.Quoted st) v w = refl
-same-goes (G.Escaped st) v w = refl
+same-goes _ v w = refl
 
 same-opens : (x : Stage) (v w : List ℕ) → opens_in (spelt x v) ≡ opens_in (spelt x w)
-same-opens (G.Between st) v w = refl
 same-opens (G.Word st) v w = refl
-same-opens (G.Zero st) v w = refl
-same-opens (G.Decimal st) v w = refl
-same-opens (G.Prefixed st) v w = refl
-same-opens (G.Hexadecimal st) v w = refl
-same-opens (G.Quoted st) v w = refl
-same-opens (G.Escaped st) v w = refl
+same-opens _ v w = refl
 
 -- a word with a byte more
 longer : (x : Stage) (w : List ℕ) (b : ℕ) → grows (spelt x w) b ≡ true → step (spelt x w) b ≡ spelt x (w ++ (b ∷ []))
-longer (G.Between st) w b e = never (cc)
 longer (G.Word st) w b e = ap (λ (y : Bool). cond y (word st (w ++ (b ∷ []))) (word_end st w b)) e
-longer (G.Zero st) w b e = never (cc)
-longer (G.Decimal st) w b e = never (cc)
-longer (G.Prefixed st) w b e = never (cc)
-longer (G.Hexadecimal st) w b e = never (cc)
-longer (G.Quoted st) w b e = never (cc)
-longer (G.Escaped st) w b e = never (cc)
+longer _ w b e = never (cc)
 
 -- ---- a blank begins no word
 

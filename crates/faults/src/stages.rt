@@ -72,6 +72,7 @@ fn word_end(s: &[u8], st: State, start: usize, end: usize, b: u8) -> Stage
 }
 
 // The byte behind a number.
+#[tactic(auto, unfolding(crate::specs::Walk::number_end))]
 fn number_end(st: State, radix: Radix, b: u8) -> Stage
     requires { opens st < 18446744073709551615 }
     ensures { spelt result (b ∷ []) ≡ number_end st radix b }

@@ -4,7 +4,7 @@ use Rattle.faults.specs.Walk.{Lex, between, word, zero, decimal, prefixed, hexad
 use Rattle.faults.specs.declared.Stage.{Stage}
 use Rattle.faults.specs.declared.Stage.TheVariants as G
 use Rattle.faults.specs.declared.State.{State}
-use Rattle.faults.specs.declared.State.TheVariants.{Start, Body, Field, Operand, Value, Digits, AfterHash, IndexDot, IndexName, RegisterName, IndirectDot, IndirectName, Closing, Done, Expression, Item, ItemDigits, ItemDone, Ended, Dead}
+use Rattle.faults.specs.declared.State.TheVariants.{Expression}
 
 -- a stage, where the word is this if it is in one
 abbrev pub spelt : Stage → List ℕ → Lex
