@@ -1,5 +1,5 @@
 // What is written to the output (specs/Output.antt).
-ghost use Rattle.std.specs.Prelude.{◌≡◌, true, map, ◌+◌, ◌≤◌, length, drop};
+ghost use Rattle.std.specs.Prelude.{◌≡◌, true, map, ◌+◌, ◌≤◌, length, take, drop};
 ghost use Rattle.ports.specs.Overwriting.{overwrite};
 ghost use Rattle.ports.specs.Input.{passed};
 ghost use Rattle.ports.specs.Output.{low_byte, string_of, text_put, byte_put, number_put, string_put};
@@ -84,13 +84,13 @@ fn zero_at(m: &[u16], from: usize) -> usize
     i
 }
 
-// The low bytes of some cells.
-fn print(out: &mut [u8], at: usize, cells: &[u16])
-    requires { at + length cells.now ≤ length out.old }
-    ensures { out.new ≡ overwrite out.old at (map low_byte cells.now) }
+// The low bytes of n cells from `from` on. Over a slice of the cells, and over two slices by zip, a WRSTR takes more instructions.
+fn print(out: &mut [u8], at: usize, m: &[u16], from: usize, n: usize)
+    requires { (at + n ≤ length out.old) × (from + n ≤ length m.now) }
+    ensures { out.new ≡ overwrite out.old at (map low_byte (take n (drop from m.now))) }
 {
-    for k in 0..cells.len() {
-        out[at + k] = (cells[k] % 256) as u8;
+    for k in 0..n {
+        out[at + k] = (m[from + k] % 256) as u8;
     }
 }
 
@@ -107,6 +107,6 @@ pub fn put_string(out: &mut [u8], at: usize, m: &[u16], from: u16) -> Result<usi
     if !has_room(out.len(), at, n) {
         return Err(OUTPUT_SHORT);
     }
-    print(out, at, &m[first..end]);
+    print(out, at, m, first, n);
     Ok(at + n)
 }

@@ -3,8 +3,7 @@ use mathlib.Core.Path.{sym, ◌∙◌}
 use Prim.Native.Nat.{◌+◌, ◌-◌, ◌≤◌}
 use native.Mathlib.Omega.{arith}
 use borrow.Author.Tests.{leb-true}
-use lib.ListN.{length, drop, length-drop}
-use lib.Seq.{length-take-le}
+use lib.ListN.{length}
 use Rattle.ports.proofs.Outcomes.{string-unended, string-put, string-short}
 use Rattle.ports.proofs.output.put_string.Goals.{Else-not-has_room}
 use Rattle.ports.proofs.output.put_string.Goals as goal
@@ -23,10 +22,7 @@ returns-then-not-has_room c =
     sym (string-short _ _ _ _ _ c.zero_at-end.ensures c.if-m-end.false room)
 
 pub print-requires : goal.print-requires
-print-requires c =
-    let a = c.args in
-    let l = length-take-le (c.zero_at-end.result - a.from) (drop a.from a.m.now) (omega (arith, length-drop a.from a.m.now)) in
-    omega (arith, l, fits (goal.at.print-requires c).Else-not-has_room)
+print-requires c = omega (arith, fits (goal.at.print-requires c).Else-not-has_room)
 
 pub overflow_add-result : goal.overflow_add-result
 overflow_add-result c = omega (arith, fits (goal.at.overflow_add-result c).Else-not-has_room)
