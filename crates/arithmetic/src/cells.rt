@@ -20,11 +20,9 @@ pub(crate) fn cell_of(z: i32) -> u16
     if z < 0 { (z + 65536) as u16 } else { z as u16 }
 }
 
+#[tactic(auto, unfolding(crate::specs::Cells::leaves16))]
 pub(crate) fn leaves(z: i32) -> bool
     ensures { result ≡ leaves16 z }
 {
-    if z < -32768 {
-        return true;
-    }
-    32767 < z
+    z < -32768 || 32767 < z
 }

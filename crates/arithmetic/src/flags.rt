@@ -24,6 +24,6 @@ pub(crate) fn outcome_of(res: u16, carry: bool, overflow: bool) -> Outcome
         + bit_of(32768 <= res) * FOR_S;
     Outcome {
         value: res,
-        flags: flags,
+        flags,
     }
 }

@@ -12,7 +12,7 @@ mod cells; // a cell read as two's complement, and back
 mod flags; // the flags of a result
 
 // What an operation gives: the 16-bit result, and the flags Z, C, V, P, S as bits 0 to 4.
-#[derive(Clone, Copy)]
+#[derive(Clone, Copy, Debug, PartialEq, Eq)]
 pub struct Outcome {
     pub value: u16,
     pub flags: u16,
@@ -64,8 +64,7 @@ pub fn neg(x: u16) -> Outcome
 pub fn cmp(x: u16, y: u16) -> u16
     ensures { result ≡ CMP x y }
 {
-    let difference = sub(x, y);
-    difference.flags
+    sub(x, y).flags
 }
 
 pub fn div(x: u16, y: u16) -> Option<Outcome>

@@ -10,7 +10,7 @@ pub mod shapes; // the effects that opcodes share
 
 // Where an operand is: a number of its own, a register by its code, or a cell by its address. A code is an index, and of an index's
 // width: a place of four bytes would be packed into one number, and shifted apart again, at every use.
-#[derive(Clone, Copy)]
+#[derive(Clone, Copy, Debug, PartialEq, Eq)]
 pub enum Place {
     Nowhere,
     Constant(u16),
@@ -19,7 +19,7 @@ pub enum Place {
 }
 
 // An operand as it is found: where it is, what stands there, and the stop of one that is not there, a register by its code or a cell.
-#[derive(Clone, Copy)]
+#[derive(Clone, Copy, Debug, PartialEq, Eq)]
 pub struct Located {
     pub place: Place,
     pub value: u16,
@@ -27,7 +27,7 @@ pub struct Located {
 }
 
 // The next PC, not reduced; SP; a value and the place it goes to; the flags.
-#[derive(Clone, Copy)]
+#[derive(Clone, Copy, Debug, PartialEq, Eq)]
 pub struct Effect {
     pub next: usize,
     pub sp: u16,
@@ -37,7 +37,7 @@ pub struct Effect {
 }
 
 // What an input or output instruction asks for.
-#[derive(Clone, Copy)]
+#[derive(Clone, Copy, Debug, PartialEq, Eq)]
 pub enum Port {
     TakeByte(Place),
     TakeNumber(Place),
@@ -48,7 +48,7 @@ pub enum Port {
 }
 
 // What an instruction comes to.
-#[derive(Clone, Copy)]
+#[derive(Clone, Copy, Debug, PartialEq, Eq)]
 pub enum Performed {
     Does(Effect),
     Halts,

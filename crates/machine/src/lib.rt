@@ -10,7 +10,7 @@ pub mod step;
 // The machine's record: 16 registers by the paper's codes, the stop code, and how many bytes were taken of the input and
 // written to the output. What a later request adds to the record (a dialect, the stack's direction, a guard) goes here.
 #[repr(C)] // its layout is C's: a host lends it (include/ens2025.h)
-#[derive(Clone, Copy)]
+#[derive(Clone, Copy, Debug, PartialEq, Eq)]
 pub struct Registers {
     pub r: [u16; 16],
     pub stop: u8,
@@ -19,14 +19,14 @@ pub struct Registers {
 }
 
 // A step's reply: the record after it, and the stop.
-#[derive(Clone, Copy)]
+#[derive(Clone, Copy, Debug, PartialEq, Eq)]
 pub struct Stepped {
     pub registers: Registers,
     pub stop: u8,
 }
 
 // A run's reply: the record after it, the stop, and how many steps completed.
-#[derive(Clone, Copy)]
+#[derive(Clone, Copy, Debug, PartialEq, Eq)]
 pub struct Ran {
     pub registers: Registers,
     pub stop: u8,
@@ -34,7 +34,7 @@ pub struct Ran {
 }
 
 // What the inner step answers beside what it leaves in the registers, memory and output that it is lent.
-#[derive(Clone, Copy)]
+#[derive(Clone, Copy, Debug, PartialEq, Eq)]
 pub struct Inner {
     pub stop: u8,
     pub completed: bool,

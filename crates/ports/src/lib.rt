@@ -8,7 +8,7 @@ pub mod input;
 pub mod output;
 
 // A value taken, and the position after it.
-#[derive(Clone, Copy)]
+#[derive(Clone, Copy, Debug, PartialEq, Eq)]
 pub struct Taken {
     pub value: u16,
     pub after: usize,
