@@ -16,8 +16,10 @@ use Rattle.statements.specs.declared.Failure.{Failure}
 use Rattle.operands.specs.declared.Operands.{Operands}
 use Rattle.values.specs.declared.Name.{Name}
 use Rattle.operands.specs.declared.OperandsFault.{OperandsFault}
+use Rattle.isa.specs.declared.Decoded.{Decoded}
 use Rattle.isa.specs.declared.Instruction.{Instruction}
 use Rattle.isa.specs.declared.Opcode.{Opcode}
+use Rattle.isa.specs.declared.Undecoded.{Undecoded}
 use Rattle.isa.proofs.Top as isa
 use Rattle.items.specs.Items.{cells_of, all_in_range}
 use Rattle.operands.specs.Checks as Operands
@@ -40,6 +42,9 @@ use Rattle.listing.specs.Listing.{FirstBadRun}
 use Rattle.listing.specs.Listing as L
 use Rattle.listing.specs.Runs.{Run, HoldCells, FirstRun, Runs, over, next}
 use Rattle.recovered.proofs.Listed.{second_part}
+
+one-instruction : {d e : Decoded} → ◌≡◌ {A = Result Decoded Undecoded} (Ok d) (Ok e) → d.instruction ≡ e.instruction
+one-instruction {d} {e} r = let q : d ≡ e = cc in ap (λ (x : Decoded). x.instruction) q
 
 -- ---- blocks of code are instructions
 
@@ -152,7 +157,7 @@ module _ (M : ℕ) (bs : List Block) (memory marks : List ℕ) (image : Image M 
   -- the instruction at the head of what is left of a code run
   record Head (at : ℕ) (ws : List ℕ) : Type 0 where
     is : Instruction
-    decodes : decode_of ws 0 ≡ Ok (record { instruction = is; next = (record { 0 = 0 + length (words_of is) }) })
+    decodes : decode_of ws 0 ≡ Ok (record { instruction = is; next = record { 0 = 0 + length (words_of is) } })
     behind : Boundary (at + length (words_of is))
 
   head : (at : ℕ) (ws : List ℕ) → 0 < length ws → HoldCells memory marks at ws code_mark → (get_or marks (at + length ws) free ≡ code_mark → ⊥) → Boundary at
@@ -170,7 +175,7 @@ module _ (M : ℕ) (bs : List Block) (memory marks : List ℕ) (image : Image M 
       go b m f p c (inl e) = absurd (omega (arith, e, p.1))
       go b m f p c (inr (i, t, e)) = record {
         is = i;
-        decodes = subst (λ (l : List ℕ). decode_of l 0 ≡ Ok (record { instruction = i; next = (record { 0 = 0 + length (words_of i) }) })) whole_run
+        decodes = subst (λ (l : List ℕ). decode_of l 0 ≡ Ok (record { instruction = i; next = record { 0 = 0 + length (words_of i) } })) whole_run
             (isa.decode_encode i [] (drop (length (words_of i)) ws) t);
         behind = past;
       }
@@ -218,8 +223,7 @@ module _ (M : ℕ) (bs : List Block) (memory marks : List ℕ) (image : Image M 
   run-decodes (here {w} {at} {ws} stops) h n s = stops (ap stop_of (head at (w ∷ ws) (omega arith) h n s).decodes)
   run-decodes (further {at} {ws = ws} i t u) h n s =
       let x = head at (words_of i ++ ws) (some_words i ws) h n s in
-      let e = sym (isa.decode_encode i [] ws t) ∙ x.decodes in
-      let j : i ≡ x.is = cc in
+      let j : i ≡ x.is = one-instruction (sym (isa.decode_encode i [] ws t) ∙ x.decodes) in
       let z : at + length (words_of i) + length ws ≡ at + length (words_of i ++ ws) = omega (arith, length-append (words_of i) ws) in
       run-decodes u (second_part memory marks at code_mark (words_of i) ws h) (λ q. n (ap (λ (b : ℕ). get_or marks b free) (sym z) ∙ q))
       (subst (λ (k : Instruction). Boundary (at + length (words_of k))) (sym j) x.behind)

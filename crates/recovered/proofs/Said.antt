@@ -271,7 +271,7 @@ instruction-says i s =
 -- ---- what is judged of an instruction
 
 module _ (i : Instruction) (s : Sound i) where
-  operands-back : Checks.judged i.op (written_in i) ≡ Ok (record { first = (plainly i.first); second = (plainly i.second) })
+  operands-back : Checks.judged i.op (written_in i) ≡ Ok (record { first = plainly i.first; second = plainly i.second })
   operands-back = judged-back i s.is_allowed s.first_below s.second_below
 
   pub instruction-judged : judged (reading_of i) ≡ Ok (S.Instruction i.op (plainly i.first) (plainly i.second))
