@@ -152,27 +152,6 @@ module _ (s : List ℕ) (at : ℕ) where
       go K.Text q e = rw (row_of s at q, q)
       go (K.Mark b) q e = let z : ◌≡◌ {A = ℕ} 0 1 = cc in absurd (omega arith)
 
--- the operand behind no comma, and behind one
-pub first-starts : (ts : List Token) → start_of ts ≡ operand_start_in ts 1
-unfolding operand_start_in after_commas
-first-starts ts = refl
-
-pub second-starts : (ts : List Token) {us : List Token} → us ≡ after_comma ts → start_of us ≡ operand_start_in ts 2
-unfolding operand_start_in after_commas
-second-starts ts e = ap start_of e
-
--- the first of two operands that is out of range
-module _ (ts : List Token) (a b : Written) where
-  pub first_out : {n : ℕ} → word_of a ≡ None → n ≡ number_start_in ts → n ≡ out_by ts (word_of a) (word_of b)
-  first_out e h = rw e h
-
-  pub second-out : {w n : ℕ} {us : List Token} → word_of a ≡ Some w → word_of b ≡ None → us ≡ after_comma ts → n ≡ number_start_in us
-      → n ≡ out_by ts (word_of a) (word_of b)
-  second-out e f q h = rw (e, f) (h ∙ ap number_start_in q)
-
-  pub none_out : {v w : ℕ} → word_of a ≡ Some v → word_of b ≡ Some w → 0 ≡ out_by ts (word_of a) (word_of b)
-  none_out e f = rw (e, f)
-
 -- what is kept of a list has its first two words
 kept-two : (os : List Written) → ((keep_all none_listed os).first ≡ operand_at os 0) × ((keep_all none_listed os).second ≡ operand_at os 1)
 unfolding keep_all keep

@@ -1,10 +1,10 @@
 -- What a row begins with, by the tokens that `next_token` hands back; laws that the code's proofs cite.
-use Prim.Native.Nat.{ℕ, ◌+◌, ◌<◌}
+use Prim.Native.Nat.{ℕ, ◌+◌}
 use Prim.Native.Char.{code}
 use mathlib.Core.Bool.{Bool, true, false, ◌&&◌}
 use mathlib.Core.List.{List, [], ◌∷◌}
 use mathlib.Core.Path.{◌≡◌, refl, sym, ap, ◌∙◌}
-use lib.ListN.{length, get_or}
+use lib.ListN.{get_or}
 use borrow.Author.Tests.{eqb-true}
 use Rattle.tokens.specs.Reading.{token_at, after_kind, tokens_from}
 use Rattle.tokens.specs.Rows.{token}
@@ -15,7 +15,7 @@ use Rattle.names.specs.Names.{word_of}
 use Rattle.names.specs.declared.Word.{Word}
 use Rattle.tokens.proofs.Heads.{row_of}
 use Rattle.tokens.proofs.Top.{row_goes_on}
-use Rattle.tokens.proofs.Colons.{colon_within, colon-token, no_colon_token}
+use Rattle.tokens.proofs.Colons.{colon-token, no_colon_token}
 use Rattle.std.proofs.Common.{Some, Result, Ok, Err}
 use Rattle.statements.specs.declared.Statement.{Statement}
 use Rattle.statements.specs.declared.Failure.{Failure}
@@ -59,10 +59,6 @@ module _ (line : List ℕ) (w : Token) where
   by_its_word {x} e f g = g ∙ sym (ap (statement_read line) (row_by e) ∙ rw (e, f))
 
 -- ---- the label
-
--- a `:` takes a byte of the line
-pub colon_stands : (line : List ℕ) (at : ℕ) → colon_at line at ≡ true → at < length line
-colon_stands line at g = colon_within line at (eqb-true (get_or line at 0) (code ":") g)
 
 module _ (line : List ℕ) where
   -- the row from a place on, by the token there
