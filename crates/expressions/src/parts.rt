@@ -14,7 +14,10 @@ use tokens::tokens::next_token;
 fn joined(at: usize, o: Operation, left: Read<Found>, further: Read<Found>) -> Read<Found>
     ensures { result ≡ upto (evaluate at o left.value further.value) further.next }
 {
-    Read { value: combined(at, o, left.value, further.value), next: further.next }
+    Read {
+        value: combined(at, o, left.value, further.value),
+        next: further.next,
+    }
 }
 
 #[cycle(factor_product_sum)]
@@ -23,7 +26,10 @@ fn factor(s: &[u8], from: Cursor, room: u32) -> Result<Read<Found>, Malformed>
 {
     let t = next_token(s, from);
     match symbol_of(t.kind) {
-        Symbol::Number(v) => Ok(Read { value: found_at(t.start, number_worth(v)), next: t.next }),
+        Symbol::Number(v) => Ok(Read {
+            value: found_at(t.start, number_worth(v)),
+            next: t.next,
+        }),
         Symbol::Opens => {
             if room == 0 {
                 return Err(Malformed::TooDeep);
@@ -33,7 +39,10 @@ fn factor(s: &[u8], from: Cursor, room: u32) -> Result<Read<Found>, Malformed>
             let Symbol::Shuts = symbol_of(shut.kind) else {
                 return Err(Malformed::WrongForm);
             };
-            Ok(Read { value: inside.value, next: shut.next })
+            Ok(Read {
+                value: inside.value,
+                next: shut.next,
+            })
         }
         _ => Err(Malformed::WrongForm),
     }

@@ -28,7 +28,10 @@ fn level_past(s: &[u8], from: Cursor) -> usize
     ensures { result ≡ level_at (tokens_from s.now from.at) true 0 }
 {
     let mut at = from;
-    let mut scan = Scan { operand: true, height: 0 };
+    let mut scan = Scan {
+        operand: true,
+        height: 0,
+    };
     loop {
         let t = next_token(s, at);
         // the row's end is no symbol of an expression: no step goes on from it

@@ -3,11 +3,11 @@ ghost use Rattle.std.specs.Prelude.{◌≡◌};
 ghost use Rattle.tokens.specs.Reading.{tokens_from};
 ghost use Rattle.expressions.specs.Reading.{expression_read};
 
-use super::{Malformed, Worth};
 use super::parts::sum;
 use super::scanning::right_form;
 use super::symbols::is_end;
 use super::worths::plain_worth;
+use super::{Malformed, Worth};
 use codes::limits::DEEPEST;
 use numerals::Cursor;
 use tokens::tokens::next_token;

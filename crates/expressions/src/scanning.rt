@@ -4,7 +4,7 @@ ghost use Rattle.tokens.specs.Reading.{tokens_from};
 ghost use Rattle.expressions.specs.Inner.Scanning.{scan_step, scan_end, right_form};
 
 use super::symbols::{is_end, symbol_of};
-use super::{Symbol, Scan};
+use super::{Scan, Symbol};
 use numerals::Cursor;
 use tokens::tokens::next_token;
 
@@ -14,10 +14,22 @@ pub fn scan_step(y: Symbol, operand: bool, height: usize) -> Option<Scan>
     ensures { result ≡ scan_step y operand height }
 {
     match (operand, y) {
-        (true, Symbol::Number(_)) => Some(Scan { operand: false, height }),
-        (true, Symbol::Opens) => Some(Scan { operand: true, height: height + 1 }),
-        (false, Symbol::Sums(_) | Symbol::Products(_)) => Some(Scan { operand: true, height }),
-        (false, Symbol::Shuts) => Some(Scan { operand: false, height: height.checked_sub(1)? }),
+        (true, Symbol::Number(_)) => Some(Scan {
+            operand: false,
+            height,
+        }),
+        (true, Symbol::Opens) => Some(Scan {
+            operand: true,
+            height: height + 1,
+        }),
+        (false, Symbol::Sums(_) | Symbol::Products(_)) => Some(Scan {
+            operand: true,
+            height,
+        }),
+        (false, Symbol::Shuts) => Some(Scan {
+            operand: false,
+            height: height.checked_sub(1)?,
+        }),
         _ => None,
     }
 }
@@ -34,7 +46,10 @@ pub(crate) fn right_form(s: &[u8], from: Cursor) -> bool
     ensures { result ≡ right_form (tokens_from s.now from.at) true 0 }
 {
     let mut at = from;
-    let mut scan = Scan { operand: true, height: 0 };
+    let mut scan = Scan {
+        operand: true,
+        height: 0,
+    };
     loop {
         let t = next_token(s, at);
         if is_end(t.kind) {

@@ -4,7 +4,7 @@ ghost use Rattle.std.specs.Prelude.{◌≡◌};
 ghost use Rattle.expressions.specs.Worths.{within32, of_number, operation};
 ghost use Rattle.expressions.specs.Places.{found_at, evaluate, plain, fault_place};
 
-use super::{Found, Operation, Worth, Fault, FaultAt};
+use super::{Fault, FaultAt, Found, Operation, Worth};
 
 fn within(v: i64) -> Worth
     ensures { result ≡ within32 v }

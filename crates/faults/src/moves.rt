@@ -62,7 +62,10 @@ pub(crate) fn by_word(st: State, s: &[u8], start: usize, end: usize) -> State
         State::Value(hash) => behind_value(hash),
         State::IndexName => behind_index(register_code(s, start, end)),
         State::RegisterName => behind(register_code(s, start, end) < REGISTER_COUNT, State::Done),
-        State::IndirectName => behind(register_code(s, start, end) < REGISTER_COUNT, State::Closing),
+        State::IndirectName => behind(
+            register_code(s, start, end) < REGISTER_COUNT,
+            State::Closing,
+        ),
         State::Ended => State::Ended,
         _ => State::Dead,
     }

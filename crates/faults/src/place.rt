@@ -14,7 +14,10 @@ fn stopped(line: &[u8], x: Stage, began: usize, at: usize, b: u8) -> usize
     requires { opens_in (spelt x (slice began at line.now)) < 18446744073709551615 }
     ensures { result ≡ stops_at line.now x began at b }
 {
-    if b == b';' && goes(line, step(line, x, began, at, b' ')) { line.len() } else { at }
+    if b == b';' && goes(line, step(line, x, began, at, b' ')) {
+        return line.len();
+    }
+    at
 }
 
 // One byte more: where the walk stands behind it, or the place where it stops.
@@ -31,7 +34,10 @@ fn turn(line: &[u8], x: Stage, began: usize, at: usize) -> Result<Walk, usize>
     }
     let next = step(line, x, began, at, b);
     if goes(line, next) {
-        Ok(Walk { stage: next, began: at })
+        Ok(Walk {
+            stage: next,
+            began: at,
+        })
     } else {
         Err(stopped(line, x, began, at, b))
     }
@@ -40,12 +46,19 @@ fn turn(line: &[u8], x: Stage, began: usize, at: usize) -> Result<Walk, usize>
 pub fn place(line: &[u8]) -> usize
     ensures { result ≡ place line.now }
 {
-    let mut walk = Walk { stage: Stage::Between(State::Start), began: 0 };
+    let mut walk = Walk {
+        stage: Stage::Between(State::Start),
+        began: 0,
+    };
     for at in 0..line.len() {
         match turn(line, walk.stage, walk.began, at) {
             Ok(next) => walk = next,
             Err(stop) => return stop,
         }
     }
-    if live(line, walk.stage, walk.began, line.len()) { line.len() } else { walk.began }
+    if live(line, walk.stage, walk.began, line.len()) {
+        line.len()
+    } else {
+        walk.began
+    }
 }

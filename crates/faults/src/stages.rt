@@ -20,14 +20,22 @@ use tokens::tokens::is_blank;
 fn first_digit(st: State, b: u8) -> Stage
     ensures { spelt result (b ∷ []) ≡ first_digit st b }
 {
-    if b == b'0' { Stage::Zero(st) } else { Stage::Decimal(st) }
+    if b == b'0' {
+        Stage::Zero(st)
+    } else {
+        Stage::Decimal(st)
+    }
 }
 
 // A comment, where the line may end.
 fn comment(st: State) -> State
     ensures { result ≡ cond (final st) Ended Dead }
 {
-    if is_final(st) { State::Ended } else { State::Dead }
+    if is_final(st) {
+        State::Ended
+    } else {
+        State::Dead
+    }
 }
 
 // A byte between tokens.
@@ -112,7 +120,11 @@ fn decimal(st: State, b: u8) -> Stage
 fn prefixed(st: State, b: u8) -> Stage
     ensures { spelt result (b ∷ []) ≡ step (L.prefixed st) b }
 {
-    if rank_of(b) < 16 { Stage::Hexadecimal(st) } else { Stage::Between(State::Dead) }
+    if rank_of(b) < 16 {
+        Stage::Hexadecimal(st)
+    } else {
+        Stage::Between(State::Dead)
+    }
 }
 
 // A byte behind hexadecimal digits.
@@ -142,7 +154,11 @@ fn quoted(st: State, b: u8) -> Stage
 fn escaped(st: State, b: u8) -> Stage
     ensures { spelt result (b ∷ []) ≡ step (L.escaped st) b }
 {
-    if b == b'n' { Stage::Quoted(st) } else { Stage::Between(State::Dead) }
+    if b == b'n' {
+        Stage::Quoted(st)
+    } else {
+        Stage::Between(State::Dead)
+    }
 }
 
 // A byte that goes on no word; a word stands from `start` to `end`.

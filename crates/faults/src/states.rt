@@ -10,7 +10,13 @@ pub(crate) fn is_final(st: State) -> bool
     ensures { result ≡ final st }
 {
     match st {
-        State::Start | State::Body | State::Field | State::AfterHash | State::Done | State::ItemDone | State::Ended => true,
+        State::Start
+        | State::Body
+        | State::Field
+        | State::AfterHash
+        | State::Done
+        | State::ItemDone
+        | State::Ended => true,
         State::Expression(operand, height) => may_end(operand, height),
         _ => false,
     }
