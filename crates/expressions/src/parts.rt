@@ -49,7 +49,8 @@ fn factor(s: &[u8], from: Cursor, room: u32) -> Result<Read<Found>, Malformed>
 }
 
 // `product` and `sum` stay two: they differ in the mark that goes on and in the reader of an operand, and one reader of both would
-// have to be told which at each call of the cycle.
+// have to be told which at each call of the cycle. Their loops have no list to go over: each token is read where the part before it
+// ends.
 #[cycle(factor_product_sum)]
 fn product(s: &[u8], from: Cursor, room: u32) -> Result<Read<Found>, Malformed>
     ensures { Says products products s.now from.at room result }

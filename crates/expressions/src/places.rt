@@ -27,7 +27,7 @@ pub fn fault(s: &[u8], from: Cursor) -> usize
 fn level_past(s: &[u8], from: Cursor) -> usize
     ensures { result ≡ level_at (tokens_from s.now from.at) true 0 }
 {
-    let mut at = from;
+    let mut at = from; // no `for`: each token is read where the one before it ends
     let mut scan = Scan {
         operand: true,
         height: 0,

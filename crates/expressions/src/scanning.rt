@@ -45,7 +45,7 @@ pub fn may_end(operand: bool, height: usize) -> bool
 pub(crate) fn right_form(s: &[u8], from: Cursor) -> bool
     ensures { result ≡ right_form (tokens_from s.now from.at) true 0 }
 {
-    let mut at = from;
+    let mut at = from; // no `for`: each token is read where the one before it ends
     let mut scan = Scan {
         operand: true,
         height: 0,

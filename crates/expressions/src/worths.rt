@@ -24,6 +24,8 @@ pub(crate) fn number_worth(v: u32) -> Worth
     }
 }
 
+// `as`, and a test of 0 in each of two arms: with `i64::from` and one guard over both arms the proof did not close as it stands, and
+// its check took minutes.
 fn operation_on(o: Operation, a: i32, b: i32) -> Worth
     ensures { result ≡ operation o a b }
 {

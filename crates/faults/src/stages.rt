@@ -105,7 +105,8 @@ fn zero(st: State, b: u8) -> Stage
     number_end(st, Radix::Decimal, b)
 }
 
-// A byte behind decimal digits.
+// A byte behind decimal digits. `decimal` and `hexadecimal` stay two: they differ in the stage, the base and the radix, so one
+// function would take all three.
 fn decimal(st: State, b: u8) -> Stage
     requires { opens st < 18446744073709551615 }
     ensures { spelt result (b ∷ []) ≡ step (L.decimal st) b }
