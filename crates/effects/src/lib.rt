@@ -18,7 +18,8 @@ pub enum Place {
     InCell(u16),
 }
 
-// An operand as it is found: where it is, what stands there, and the stop of one that is not there, a register by its code or a cell.
+// An operand as it is found: where it is, what stands there, and the stop of one that is not there, a register by its code or a cell. No
+// Result: both operands are found before either is judged, and their stop is asked of both faults.
 #[derive(Clone, Copy, Debug, PartialEq, Eq)]
 pub struct Located {
     pub place: Place,

@@ -18,10 +18,8 @@ pub extern "C" fn ens2025_run(
     ensures { ending (state g.new m.new out.new) result count.new
         ≡ limited_run budget input.now (state g.old m.old out.old) }
 {
-    let h = *g;
-    let t = run(h, m, input, out, budget);
-    let u = t.registers;
-    *g = u;
-    *count = t.count;
-    t.stop
+    let ran = run(*g, m, input, out, budget);
+    *g = ran.registers;
+    *count = ran.count;
+    ran.stop
 }

@@ -11,9 +11,7 @@ pub extern "C" fn ens2025_step(g: &mut Registers, m: &mut [u16], input: &[u8], o
     ensures { reply (state g.new m.new out.new) result
         ≡ reply_of input.now (state g.old m.old out.old) }
 {
-    let h = *g;
-    let t = step(h, m, input, out);
-    let u = t.registers;
-    *g = u;
-    t.stop
+    let stepped = step(*g, m, input, out);
+    *g = stepped.registers;
+    stepped.stop
 }

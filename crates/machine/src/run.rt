@@ -21,6 +21,7 @@ fn ended(registers: Registers, stop: u8, count: u32) -> Ran
 }
 
 // A run of a machine that is not stopped, on a good loan: the registers are copied once.
+// No `for`: the count goes up within a turn, before its last way out, and each way out tells it.
 fn running_on(g: Registers, m: &mut [u16], input: &[u8], out: &mut [u8], budget: u32) -> Ran
     requires { (good_loan input.now (state g m.old out.old) ≡ true) × (g.stop ≡ 0) }
     ensures { ending (state result.registers m.new out.new) result.stop result.count

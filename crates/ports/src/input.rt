@@ -57,7 +57,7 @@ pub fn take_number(input: &[u8], at: usize) -> Result<Taken, u8>
     })
 }
 
-// A text's bytes from a cell on, and a 0 cell.
+// A text's bytes from a cell on, and a 0 cell. An index: of what a zip over iter_mut writes nothing is known.
 fn fill(m: &mut [u16], to: usize, text: &[u8])
     requires { to + length text.now + 1 ≤ length m.old }
     ensures { m.new ≡ overwrite m.old to (text.now ++ (0 ∷ [])) }

@@ -53,7 +53,7 @@ fn all_full(m: &[u16], i: usize) -> bool
         | (m[i + 7] == 0))
 }
 
-// Passes eight cells at a time while none of them is 0.
+// Passes eight cells at a time while none of them is 0. An index: it begins where a string does, which may lie past the end.
 fn past_full(m: &[u16], from: usize) -> usize
     ensures { result + length (string_of (drop result m.now)) ≡ from + length (string_of (drop from m.now)) }
 {
@@ -70,7 +70,8 @@ fn past_full(m: &[u16], from: usize) -> usize
     i
 }
 
-// The place of the first cell that is 0, from a place on, and the end of memory where there is none.
+// The place of the first cell that is 0, from a place on, and the end of memory where there is none. An index: it goes on where
+// `past_full` stopped, which may lie past the end.
 fn zero_at(m: &[u16], from: usize) -> usize
     ensures { result ≡ from + length (string_of (drop from m.now)) }
 {
@@ -84,7 +85,8 @@ fn zero_at(m: &[u16], from: usize) -> usize
     i
 }
 
-// The low bytes of n cells from `from` on. Over a slice of the cells, and over two slices by zip, a WRSTR takes more instructions.
+// The low bytes of n cells from `from` on.
+// An index: over a slice of the cells a WRSTR takes 22 instructions more, and of what a zip over iter_mut writes nothing is known.
 fn print(out: &mut [u8], at: usize, m: &[u16], from: usize, n: usize)
     requires { (at + n ≤ length out.old) × (from + n ≤ length m.now) }
     ensures { out.new ≡ overwrite out.old at (map low_byte (take n (drop from m.now))) }

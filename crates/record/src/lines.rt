@@ -45,12 +45,10 @@ fn cells(room: &mut [u8], at: usize, names: &[u8], r: [u16; 16], from: usize, n:
         × (result ≤ at + 20 * n) }
 {
     let mut next = at;
-    let mut k: usize = 0;
-    while k < n {
+    for k in 0..n {
         let name = 3 * k;
         let behind = name + 3;
         next = cell(room, next, &names[name..behind], r[from + k]);
-        k += 1;
     }
     next
 }

@@ -11,15 +11,15 @@ pub loop-k-init : goal.loop-k-init
 unfolding lines_from text_of
 loop-k-init c =
     let a = c.args in
-    (omega arith, refl, (wrote_none a.room.now a.at, omega arith))
+    (refl, (wrote_none a.room.now a.at, omega arith))
 
 pub loop-k-preserved : goal.loop-k-preserved
 loop-k-preserved c =
     let a = c.args in
-    let more = cells-more a.room.now a.at a.names.now a.r a.from c.loop-k.k (omega arith) c.loop-k.invariant.2 c.cell-next.ensures in
-    (omega arith, omega arith, more)
+    let more = cells-more a.room.now a.at a.names.now a.r a.from c.loop-k.k (omega arith) c.loop-k.invariant.1 c.cell-next.ensures in
+    (omega arith, more)
 
 pub returns : goal.returns
 returns c =
     let all : c.loop-k.k ≡ c.args.n = omega arith in
-    rw all at c.loop-k.invariant.2
+    rw all at c.loop-k.invariant.1
