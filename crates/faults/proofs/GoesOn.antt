@@ -24,7 +24,7 @@ use Rattle.expressions.specs.Reading.{mark_symbol}
 use Rattle.statements.proofs.Labelling.{never}
 use Rattle.faults.specs.Faults.{Ending, word, number, other, goes_on, ending_from, ending, CanGoOn}
 use Rattle.faults.specs.declared.State.{State}
-use Rattle.faults.specs.declared.State.TheVariants.{Start, Body, Field, Operand, Value, Digits, AfterHash, IndexDot, IndexName, RegisterName, IndirectDot, IndirectName, Closing, Done, Expression, Item, ItemDigits, ItemDone, Ended, Dead}
+use Rattle.faults.specs.declared.State.TheVariants.{Start, Body, Operand, Value, Digits, IndexDot, IndexName, RegisterName, IndirectDot, IndirectName, Closing, Expression, Item, ItemDigits, ItemDone, Ended, Dead}
 use Rattle.faults.specs.Forms.{put, enter, indexes, starts, word_step, number_step, text_step, mark_step, blank_step, final, lives, is_start, is_ended}
 use Rattle.faults.specs.Forms as F
 use Rattle.faults.specs.Walk.{Lex, between, decimal, prefixed, hexadecimal, quoted, escaped, begin, word_end, number_end, step, live, accepts, run, first, in_word}
@@ -38,12 +38,9 @@ use Rattle.faults.proofs.Readings.{right-exactly}
 abbrev pub Fine : Lex → Ending → Type 0
 Fine (between st) e = (is_ended st ≡ true) ⊎ (e ≡ other)
 Fine (L.word st w) e = e ≡ word
-Fine (L.zero st) e = e ≡ number
-Fine (decimal st) e = e ≡ number
-Fine (prefixed st) e = e ≡ number
-Fine (hexadecimal st) e = e ≡ number
 Fine (quoted st) e = Unit {0}
 Fine (escaped st) e = e ≡ other
+Fine _ e = e ≡ number
 
 abbrev pub Agree : Lex → Ending → Type 0
 Agree x e = (gone x ≡ true) ⊎ Fine x e
@@ -167,14 +164,8 @@ agrees s = agree_run first s other (inr (inr refl))
 -- ---- what goes on is live
 
 pub fine-whole : (x : Lex) (e : Ending) (b : ℕ) (rest : List ℕ) → Fine x e → (e ≡ word → T (ends_word (b ∷ rest))) → (in_word x && ltb (rank b) 17) ≡ false
-fine-whole (between st) e b rest f h = refl
 fine-whole (L.word st w) e b rest f h = ends-rank b rest (h f)
-fine-whole (L.zero st) e b rest f h = refl
-fine-whole (decimal st) e b rest f h = refl
-fine-whole (prefixed st) e b rest f h = refl
-fine-whole (hexadecimal st) e b rest f h = refl
-fine-whole (quoted st) e b rest f h = refl
-fine-whole (escaped st) e b rest f h = refl
+fine-whole _ e b rest f h = refl
 
 -- where the walk is not live, no whole continuation is accepted
 pub never-accepted : (x : Lex) (e : Ending) (rest : List ℕ) → Agree x e → live x ≡ false → (e ≡ word → T (ends_word rest))
@@ -201,27 +192,20 @@ closers zero = []
 closers (suc h) = code ")" ∷ closers h
 
 abbrev finish_state : State → List ℕ
-finish_state Start = []
-finish_state Body = []
-finish_state Field = []
 finish_state Operand = bytes ".A"
 finish_state (Value i) = bytes "0"
 finish_state (Digits i) = bytes "0"
-finish_state AfterHash = []
 finish_state IndexDot = bytes ".IX]"
 finish_state IndexName = bytes "IX]"
 finish_state RegisterName = bytes "A"
 finish_state IndirectDot = bytes ".A]"
 finish_state IndirectName = bytes "A]"
 finish_state Closing = bytes "]"
-finish_state Done = []
 finish_state (Expression true h) = code "0" ∷ code " " ∷ closers h
 finish_state (Expression false h) = closers h
 finish_state Item = bytes "0"
 finish_state ItemDigits = bytes "0"
-finish_state ItemDone = []
-finish_state Ended = []
-finish_state Dead = []
+finish_state _ = []
 
 shut : (h : ℕ) → begin (Expression false (suc h)) (code ")") ≡ between (Expression false h)
 unfolding begin is_blank is_mark mark_symbol
@@ -238,27 +222,12 @@ put-final false = refl
 
 finish-state : (st : State) → lives st ≡ true → accepts (run (between st) (finish_state st)) ≡ true
 unfolding run begin word_end number_end is_blank is_mark rank starts indexes register_code place_in registers is_named capital
-finish-state Start e = refl
-finish-state Body e = refl
-finish-state Field e = refl
-finish-state Operand e = refl
 finish-state (Value i) e = put-final i
 finish-state (Digits i) e = put-final i
-finish-state AfterHash e = refl
-finish-state IndexDot e = refl
-finish-state IndexName e = refl
-finish-state RegisterName e = refl
-finish-state IndirectDot e = refl
-finish-state IndirectName e = refl
-finish-state Closing e = refl
-finish-state Done e = refl
 finish-state (Expression true h) e = close-all h
 finish-state (Expression false h) e = close-all h
-finish-state Item e = refl
-finish-state ItemDigits e = refl
-finish-state ItemDone e = refl
-finish-state Ended e = refl
 finish-state Dead e = never (cc)
+finish-state _ e = refl
 
 -- no blank changes what follows a word or a number
 cond_same : (y : Bool) (a b : State) → blank_step a ≡ a → blank_step b ≡ b → blank_step (cond y a b) ≡ cond y a b
@@ -267,12 +236,7 @@ cond_same false a b p q = q
 
 enter-same : (x : N.Word) → blank_step (enter x) ≡ enter x
 enter-same (W.Instructs op) = refl
-enter-same W.Org = refl
-enter-same W.Equ = refl
-enter-same W.Res = refl
-enter-same W.Data = refl
-enter-same W.End = refl
-enter-same W.Unknown = refl
+enter-same _ = refl
 
 put_same : (i : Bool) → blank_step (put i) ≡ put i
 put_same true = refl
@@ -289,46 +253,18 @@ decimal-same Hexadecimal st e = refl
 word_same : (st : State) (w : List ℕ) → blank_step (word_step st w) ≡ word_step st w
 word_same Start w = enter-same (word_of w)
 word_same Body w = enter-same (word_of w)
-word_same Field w = refl
-word_same Operand w = refl
 word_same (Value i) w = put_same i
-word_same (Digits i) w = refl
-word_same AfterHash w = refl
-word_same IndexDot w = refl
 word_same IndexName w = indexes-same (register_code w)
 word_same RegisterName w = cond_same (is_register (register_code w)) _ _ refl refl
-word_same IndirectDot w = refl
 word_same IndirectName w = cond_same (is_register (register_code w)) _ _ refl refl
-word_same Closing w = refl
-word_same Done w = refl
-word_same (Expression q h) w = refl
-word_same Item w = refl
-word_same ItemDigits w = refl
-word_same ItemDone w = refl
-word_same Ended w = refl
-word_same Dead w = refl
+word_same _ w = refl
 
 number_same : (st : State) (k : Radix) → blank_step (number_step st k) ≡ number_step st k
-number_same Start k = refl
-number_same Body k = refl
-number_same Field k = refl
-number_same Operand k = refl
 number_same (Value i) k = put_same i
 number_same (Digits i) k = decimal-same k (put i) (put_same i)
-number_same AfterHash k = refl
-number_same IndexDot k = refl
-number_same IndexName k = refl
-number_same RegisterName k = refl
-number_same IndirectDot k = refl
-number_same IndirectName k = refl
-number_same Closing k = refl
-number_same Done k = refl
 number_same (Expression q h) k = cond_same q _ _ refl refl
-number_same Item k = refl
 number_same ItemDigits k = decimal-same k ItemDone refl
-number_same ItemDone k = refl
-number_same Ended k = refl
-number_same Dead k = refl
+number_same _ k = refl
 
 after-blank : (st : State) → lives st ≡ true → blank_step st ≡ st → accepts (run (begin st (code " ")) (finish_state st)) ≡ true
 unfolding run begin is_blank
@@ -380,12 +316,9 @@ finish-parted (L.word st v) e f w = go (is_start st)
     go : (y : Bool) → T (ends_word (cond y (code ":" ∷ []) (code " " ∷ finish_state (word_step st v))))
     go true = tt
     go false = tt
-finish-parted (L.zero st) e f w = tt
-finish-parted (decimal st) e f w = tt
 finish-parted (prefixed st) e f w = clash f w (λ z. never (cc))
-finish-parted (hexadecimal st) e f w = tt
-finish-parted (quoted st) e f w = tt
 finish-parted (escaped st) e f w = clash f w (λ z. never (cc))
+finish-parted _ e f w = tt
 
 one_line_closers : (h : ℕ) → T (no_lf (closers h))
 unfolding closers
@@ -393,27 +326,9 @@ one_line_closers zero = tt
 one_line_closers (suc h) = one_line_closers h
 
 one_line_state : (st : State) → T (no_lf (finish_state st))
-one_line_state Start = tt
-one_line_state Body = tt
-one_line_state Field = tt
-one_line_state Operand = tt
-one_line_state (Value i) = tt
-one_line_state (Digits i) = tt
-one_line_state AfterHash = tt
-one_line_state IndexDot = tt
-one_line_state IndexName = tt
-one_line_state RegisterName = tt
-one_line_state IndirectDot = tt
-one_line_state IndirectName = tt
-one_line_state Closing = tt
-one_line_state Done = tt
 one_line_state (Expression true h) = one_line_closers h
 one_line_state (Expression false h) = one_line_closers h
-one_line_state Item = tt
-one_line_state ItemDigits = tt
-one_line_state ItemDone = tt
-one_line_state Ended = tt
-one_line_state Dead = tt
+one_line_state _ = tt
 
 one_line : (x : Lex) → T (no_lf (finish x))
 unfolding finish

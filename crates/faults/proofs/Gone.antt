@@ -12,55 +12,19 @@ use Rattle.tokens.specs.Bytes.{is_blank, is_mark, is_quote, is_semicolon}
 use Rattle.tokens.specs.Strings.{backslash, is_plain}
 use Rattle.statements.proofs.Labelling.{never}
 use Rattle.faults.specs.declared.State.{State}
-use Rattle.faults.specs.declared.State.TheVariants.{Start, Body, Field, Operand, Value, Digits, AfterHash, IndexDot, IndexName, RegisterName, IndirectDot, IndirectName, Closing, Done, Expression, Item, ItemDigits, ItemDone, Ended, Dead}
+use Rattle.faults.specs.declared.State.TheVariants.{Start, Value, Expression, Item, Ended, Dead}
 use Rattle.faults.specs.Forms.{word_step, number_step, text_step, blank_step, final, lives, is_start, is_ended}
 use Rattle.faults.specs.Walk.{Lex, between, word, zero, decimal, prefixed, hexadecimal, quoted, escaped, begin, word_end, number_end, step, live, accepts, run, in_word}
 
 -- ---- states
 
 pub lives-not : (st : State) → lives st ≡ false → st ≡ Dead
-lives-not Start e = never (cc)
-lives-not Body e = never (cc)
-lives-not Field e = never (cc)
-lives-not Operand e = never (cc)
-lives-not (Value i) e = never (cc)
-lives-not (Digits i) e = never (cc)
-lives-not AfterHash e = never (cc)
-lives-not IndexDot e = never (cc)
-lives-not IndexName e = never (cc)
-lives-not RegisterName e = never (cc)
-lives-not IndirectDot e = never (cc)
-lives-not IndirectName e = never (cc)
-lives-not Closing e = never (cc)
-lives-not Done e = never (cc)
-lives-not (Expression q h) e = never (cc)
-lives-not Item e = never (cc)
-lives-not ItemDigits e = never (cc)
-lives-not ItemDone e = never (cc)
-lives-not Ended e = never (cc)
 lives-not Dead e = refl
+lives-not _ e = never (cc)
 
 pub ended_is : (st : State) → is_ended st ≡ true → st ≡ Ended
-ended_is Start e = never (cc)
-ended_is Body e = never (cc)
-ended_is Field e = never (cc)
-ended_is Operand e = never (cc)
-ended_is (Value i) e = never (cc)
-ended_is (Digits i) e = never (cc)
-ended_is AfterHash e = never (cc)
-ended_is IndexDot e = never (cc)
-ended_is IndexName e = never (cc)
-ended_is RegisterName e = never (cc)
-ended_is IndirectDot e = never (cc)
-ended_is IndirectName e = never (cc)
-ended_is Closing e = never (cc)
-ended_is Done e = never (cc)
-ended_is (Expression q h) e = never (cc)
-ended_is Item e = never (cc)
-ended_is ItemDigits e = never (cc)
-ended_is ItemDone e = never (cc)
 ended_is Ended e = refl
-ended_is Dead e = never (cc)
+ended_is _ e = never (cc)
 
 -- what a blank leaves as it was
 pub record Blanked (st : State) : Type 0 where
@@ -71,48 +35,15 @@ pub record Blanked (st : State) : Type 0 where
 
 pub blanked : (st : State) → Blanked st
 blanked Start = record { again = refl; final-same = refl; ended_same = refl; start-same = refl }
-blanked Body = record { again = refl; final-same = refl; ended_same = refl; start-same = refl }
-blanked Field = record { again = refl; final-same = refl; ended_same = refl; start-same = refl }
-blanked Operand = record { again = refl; final-same = refl; ended_same = refl; start-same = refl }
-blanked (Value i) = record { again = refl; final-same = refl; ended_same = refl; start-same = refl }
-blanked (Digits i) = record { again = refl; final-same = refl; ended_same = refl; start-same = refl }
-blanked AfterHash = record { again = refl; final-same = refl; ended_same = refl; start-same = refl }
-blanked IndexDot = record { again = refl; final-same = refl; ended_same = refl; start-same = refl }
-blanked IndexName = record { again = refl; final-same = refl; ended_same = refl; start-same = refl }
-blanked RegisterName = record { again = refl; final-same = refl; ended_same = refl; start-same = refl }
-blanked IndirectDot = record { again = refl; final-same = refl; ended_same = refl; start-same = refl }
-blanked IndirectName = record { again = refl; final-same = refl; ended_same = refl; start-same = refl }
-blanked Closing = record { again = refl; final-same = refl; ended_same = refl; start-same = refl }
-blanked Done = record { again = refl; final-same = refl; ended_same = refl; start-same = refl }
-blanked (Expression q h) = record { again = refl; final-same = refl; ended_same = refl; start-same = refl }
-blanked Item = record { again = refl; final-same = refl; ended_same = refl; start-same = refl }
-blanked ItemDigits = record { again = refl; final-same = refl; ended_same = refl; start-same = refl }
-blanked ItemDone = record { again = refl; final-same = refl; ended_same = refl; start-same = refl }
-blanked Ended = record { again = refl; final-same = refl; ended_same = refl; start-same = refl }
-blanked Dead = record { again = refl; final-same = refl; ended_same = refl; start-same = refl }
+blanked _ = record { again = refl; final-same = refl; ended_same = refl; start-same = refl }
 
 -- where no decimal number goes on no hexadecimal one does
 pub hex_not : (st : State) → lives (number_step st Decimal) ≡ false → lives (number_step st Hexadecimal) ≡ false
-hex_not Start e = refl
-hex_not Body e = refl
-hex_not Field e = refl
-hex_not Operand e = refl
 hex_not (Value i) e = e
-hex_not (Digits i) e = refl
-hex_not AfterHash e = refl
-hex_not IndexDot e = refl
-hex_not IndexName e = refl
-hex_not RegisterName e = refl
-hex_not IndirectDot e = refl
-hex_not IndirectName e = refl
-hex_not Closing e = refl
-hex_not Done e = refl
 hex_not (Expression q h) e = e
 hex_not Item e = e
-hex_not ItemDigits e = refl
-hex_not ItemDone e = refl
 hex_not Ended e = e
-hex_not Dead e = refl
+hex_not _ e = refl
 
 -- ---- what is gone
 
@@ -174,14 +105,8 @@ final-not : (st : State) → lives st ≡ false → final st ≡ false
 final-not st e = rw (lives-not st e)
 
 pub gone-live : (x : Lex) → gone x ≡ true → live x ≡ false
-gone-live (between st) e = not-not _ e
 gone-live (word st w) e = rw (lives-not st (not-not _ e))
-gone-live (zero st) e = not-not _ e
-gone-live (decimal st) e = not-not _ e
-gone-live (prefixed st) e = not-not _ e
-gone-live (hexadecimal st) e = not-not _ e
-gone-live (quoted st) e = not-not _ e
-gone-live (escaped st) e = not-not _ e
+gone-live _ e = not-not _ e
 
 pub or_not : (y z : Bool) → (y || z) ≡ false → (y ≡ false) × (z ≡ false)
 or_not true z e = never (cc)

@@ -20,7 +20,7 @@ use Rattle.std.proofs.Common.{Some, None}
 use Rattle.expressions.specs.declared.Symbol.{Symbol}
 use Rattle.expressions.specs.declared.Symbol.TheVariants as Y
 use Rattle.faults.specs.declared.State.{State}
-use Rattle.faults.specs.declared.State.TheVariants.{Start, Body, Field, Operand, Value, Digits, AfterHash, IndexDot, IndexName, RegisterName, IndirectDot, IndirectName, Closing, Done, Expression, Item, ItemDigits, ItemDone, Ended, Dead}
+use Rattle.faults.specs.declared.State.TheVariants.{Start, Body, Field, Operand, Value, Digits, AfterHash, IndexDot, IndexName, RegisterName, IndirectDot, IndirectName, Closing, Done, Expression, Item, ItemDigits, ItemDone}
 use Rattle.faults.specs.Forms.{put, scanned, enter, indexes, starts, word_step, number_step, text_step, mark_step, blank_step, final, is_start, is_ended}
 use Rattle.faults.specs.Forms as F
 use Rattle.faults.specs.Walk.{Lex, between, word, zero, decimal, prefixed, hexadecimal, quoted, escaped, begin, word_end, number_end, step}
@@ -32,12 +32,7 @@ cond-opens false a b n p q = q
 
 enter-opens : (x : Word) (n : ℕ) → opens (enter x) ≤ n
 enter-opens (W.Instructs op) n = omega arith
-enter-opens W.Org n = omega arith
-enter-opens W.Equ n = omega arith
-enter-opens W.Res n = omega arith
-enter-opens W.Data n = omega arith
-enter-opens W.End n = omega arith
-enter-opens W.Unknown n = omega arith
+enter-opens _ n = omega arith
 
 put-opens : (i : Bool) (n : ℕ) → opens (put i) ≤ n
 put-opens true n = omega arith
@@ -85,112 +80,40 @@ scan_opens Y.Other false h = omega arith
 pub word-opens : (st : State) (w : List ℕ) (n : ℕ) → opens (word_step st w) ≤ n
 word-opens Start w n = enter-opens (word_of w) n
 word-opens Body w n = enter-opens (word_of w) n
-word-opens Field w n = omega arith
-word-opens Operand w n = omega arith
 word-opens (Value i) w n = put-opens i n
-word-opens (Digits i) w n = omega arith
-word-opens AfterHash w n = omega arith
-word-opens IndexDot w n = omega arith
 word-opens IndexName w n = indexes-opens (register_code w) n
 word-opens RegisterName w n = cond-opens (is_register (register_code w)) _ _ n (omega arith) (omega arith)
-word-opens IndirectDot w n = omega arith
 word-opens IndirectName w n = cond-opens (is_register (register_code w)) _ _ n (omega arith) (omega arith)
-word-opens Closing w n = omega arith
-word-opens Done w n = omega arith
-word-opens (Expression q h) w n = omega arith
-word-opens Item w n = omega arith
-word-opens ItemDigits w n = omega arith
-word-opens ItemDone w n = omega arith
-word-opens Ended w n = omega arith
-word-opens Dead w n = omega arith
+word-opens _ w n = omega arith
 
 pub number-opens : (st : State) (k : Radix) → opens (number_step st k) ≤ opens st
-number-opens Start k = omega arith
-number-opens Body k = omega arith
-number-opens Field k = omega arith
-number-opens Operand k = omega arith
 number-opens (Value i) k = put-opens i 0
 number-opens (Digits i) k = decimal-opens k (put i) 0 (put-opens i 0)
-number-opens AfterHash k = omega arith
-number-opens IndexDot k = omega arith
-number-opens IndexName k = omega arith
-number-opens RegisterName k = omega arith
-number-opens IndirectDot k = omega arith
-number-opens IndirectName k = omega arith
-number-opens Closing k = omega arith
-number-opens Done k = omega arith
 number-opens (Expression q h) k = cond-opens q _ _ h (omega arith) (omega arith)
-number-opens Item k = omega arith
 number-opens ItemDigits k = decimal-opens k ItemDone 0 (omega arith)
-number-opens ItemDone k = omega arith
-number-opens Ended k = omega arith
-number-opens Dead k = omega arith
+number-opens _ k = omega arith
 
 text-opens : (st : State) → opens (text_step st) ≤ opens st
 text-opens Start = omega arith
-text-opens Body = omega arith
-text-opens Field = omega arith
-text-opens Operand = omega arith
-text-opens (Value i) = omega arith
-text-opens (Digits i) = omega arith
-text-opens AfterHash = omega arith
-text-opens IndexDot = omega arith
-text-opens IndexName = omega arith
-text-opens RegisterName = omega arith
-text-opens IndirectDot = omega arith
-text-opens IndirectName = omega arith
-text-opens Closing = omega arith
-text-opens Done = omega arith
-text-opens (Expression q h) = omega arith
-text-opens Item = omega arith
-text-opens ItemDigits = omega arith
-text-opens ItemDone = omega arith
-text-opens Ended = omega arith
-text-opens Dead = omega arith
+text-opens _ = omega arith
 
 mark-opens : (st : State) (b : ℕ) → opens (mark_step st b) ≤ opens st + 1
-mark-opens Start b = omega arith
-mark-opens Body b = omega arith
 mark-opens Field b = starts-opens b 1
 mark-opens Operand b = starts-opens b 1
 mark-opens (Value i) b = cond-opens (eqb b (code "-")) _ _ _ (omega arith) (omega arith)
-mark-opens (Digits i) b = omega arith
 mark-opens AfterHash b = cond-opens (eqb b (code "[")) _ _ _ (omega arith) (cond-opens (eqb b (code ",")) _ _ _ (omega arith) (omega arith))
 mark-opens IndexDot b = cond-opens (eqb b (code ".")) _ _ _ (omega arith) (omega arith)
-mark-opens IndexName b = omega arith
-mark-opens RegisterName b = omega arith
 mark-opens IndirectDot b = cond-opens (eqb b (code ".")) _ _ _ (omega arith) (omega arith)
-mark-opens IndirectName b = omega arith
 mark-opens Closing b = cond-opens (eqb b (code "]")) _ _ _ (omega arith) (omega arith)
 mark-opens Done b = cond-opens (eqb b (code ",")) _ _ _ (omega arith) (omega arith)
 mark-opens (Expression q h) b = scan_opens (mark_symbol b) q h
 mark-opens Item b = cond-opens (eqb b (code "-")) _ _ _ (omega arith) (omega arith)
-mark-opens ItemDigits b = omega arith
 mark-opens ItemDone b = cond-opens (eqb b (code ",")) _ _ _ (omega arith) (omega arith)
-mark-opens Ended b = omega arith
-mark-opens Dead b = omega arith
+mark-opens _ b = omega arith
 
 blank-opens : (st : State) → opens (blank_step st) ≤ opens st
 blank-opens Start = omega arith
-blank-opens Body = omega arith
-blank-opens Field = omega arith
-blank-opens Operand = omega arith
-blank-opens (Value i) = omega arith
-blank-opens (Digits i) = omega arith
-blank-opens AfterHash = omega arith
-blank-opens IndexDot = omega arith
-blank-opens IndexName = omega arith
-blank-opens RegisterName = omega arith
-blank-opens IndirectDot = omega arith
-blank-opens IndirectName = omega arith
-blank-opens Closing = omega arith
-blank-opens Done = omega arith
-blank-opens (Expression q h) = omega arith
-blank-opens Item = omega arith
-blank-opens ItemDigits = omega arith
-blank-opens ItemDone = omega arith
-blank-opens Ended = omega arith
-blank-opens Dead = omega arith
+blank-opens _ = omega arith
 
 -- ---- bytes
 

@@ -59,14 +59,8 @@ module _ (long : ℕ) (x : Lex) (began at b : ℕ) (s : List ℕ) where
 -- ---- where words begin
 
 dead_gone_here : (x : Lex) → in_word x ≡ false → live x ≡ false → gone x ≡ true
-dead_gone_here (between st) e l = is_not l
 dead_gone_here (L.word st w) e l = never (cc)
-dead_gone_here (L.zero st) e l = is_not l
-dead_gone_here (decimal st) e l = is_not l
-dead_gone_here (prefixed st) e l = is_not l
-dead_gone_here (hexadecimal st) e l = is_not l
-dead_gone_here (quoted st) e l = is_not l
-dead_gone_here (escaped st) e l = is_not l
+dead_gone_here _ e l = is_not l
 
 -- a word begins with this byte
 record Begins (st : State) (b : ℕ) : Type 0 where
@@ -237,17 +231,13 @@ after-letter (between st) b e (inr f) o w d i = go (is_ended st) refl
     go : (y : Bool) → is_ended st ≡ y → (gone (step (between st) b) ≡ true) ⊎ Safe (step (between st) b)
     go true n = rw (ended_is st n) (inr ended-safe)
     go false n = let z : true ≡ false = ap in_word (sym (begin-word st b n w d)) ∙ i in never (cc)
-after-letter (L.word st v) b e f o w d i = ending-clash f o (λ z. never (cc))
-after-letter (L.zero st) b e f o w d i = ending-clash f o (λ z. never (cc))
-after-letter (decimal st) b e f o w d i = ending-clash f o (λ z. never (cc))
-after-letter (prefixed st) b e f o w d i = ending-clash f o (λ z. never (cc))
-after-letter (hexadecimal st) b e f o w d i = ending-clash f o (λ z. never (cc))
 after-letter (quoted st) b e f o w d i = rw (plain-stays st b w) (inr (quoted-safe st))
 after-letter (escaped st) b e f o w d i = go (eqb b (code "n"))
   where
     go : (y : Bool) → (gone (cond y (quoted st) (between Dead)) ≡ true) ⊎ Safe (cond y (quoted st) (between Dead))
     go true = inr (quoted-safe st)
     go false = inl refl
+after-letter _ b e f o w d i = ending-clash f o (λ z. never (cc))
 
 -- ---- the walk over a word
 

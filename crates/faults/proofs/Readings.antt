@@ -59,12 +59,7 @@ cond-not false a b p q = q
 
 enter-not : (x : N.Word) → is_start (enter x) ≡ false
 enter-not (W.Instructs op) = refl
-enter-not W.Org = refl
-enter-not W.Equ = refl
-enter-not W.Res = refl
-enter-not W.Data = refl
-enter-not W.End = refl
-enter-not W.Unknown = refl
+enter-not _ = refl
 
 put-not : (i : Bool) → is_start (put i) ≡ false
 put-not true = refl
@@ -88,94 +83,40 @@ starts-not b =
 word-not : (st : State) (w : List ℕ) → is_start (word_step st w) ≡ false
 word-not Start w = enter-not (word_of w)
 word-not Body w = enter-not (word_of w)
-word-not Field w = refl
-word-not Operand w = refl
 word-not (Value i) w = put-not i
-word-not (Digits i) w = refl
-word-not AfterHash w = refl
-word-not IndexDot w = refl
 word-not IndexName w = indexes-not (register_code w)
 word-not RegisterName w = cond-not (is_register (register_code w)) _ _ refl refl
-word-not IndirectDot w = refl
 word-not IndirectName w = cond-not (is_register (register_code w)) _ _ refl refl
-word-not Closing w = refl
-word-not Done w = refl
-word-not (Expression q h) w = refl
-word-not Item w = refl
-word-not ItemDigits w = refl
-word-not ItemDone w = refl
-word-not Ended w = refl
-word-not Dead w = refl
+word-not _ w = refl
 
 decimal-not : (k : Radix) (st : State) → is_start st ≡ false → is_start (F.decimal k st) ≡ false
 decimal-not Decimal st e = e
 decimal-not Hexadecimal st e = refl
 
 number-not : (st : State) (k : Radix) → is_start (number_step st k) ≡ false
-number-not Start k = refl
-number-not Body k = refl
-number-not Field k = refl
-number-not Operand k = refl
 number-not (Value i) k = put-not i
 number-not (Digits i) k = decimal-not k (put i) (put-not i)
-number-not AfterHash k = refl
-number-not IndexDot k = refl
-number-not IndexName k = refl
-number-not RegisterName k = refl
-number-not IndirectDot k = refl
-number-not IndirectName k = refl
-number-not Closing k = refl
-number-not Done k = refl
 number-not (Expression q h) k = cond-not q _ _ refl refl
-number-not Item k = refl
 number-not ItemDigits k = decimal-not k ItemDone refl
-number-not ItemDone k = refl
-number-not Ended k = refl
-number-not Dead k = refl
+number-not _ k = refl
 
 text-not : (st : State) → is_start (text_step st) ≡ false
 text-not Start = refl
-text-not Body = refl
-text-not Field = refl
-text-not Operand = refl
-text-not (Value i) = refl
-text-not (Digits i) = refl
-text-not AfterHash = refl
-text-not IndexDot = refl
-text-not IndexName = refl
-text-not RegisterName = refl
-text-not IndirectDot = refl
-text-not IndirectName = refl
-text-not Closing = refl
-text-not Done = refl
-text-not (Expression q h) = refl
-text-not Item = refl
-text-not ItemDigits = refl
-text-not ItemDone = refl
-text-not Ended = refl
-text-not Dead = refl
+text-not _ = refl
 
 mark-not : (st : State) (b : ℕ) → is_start (mark_step st b) ≡ false
-mark-not Start b = refl
-mark-not Body b = refl
 mark-not Field b = starts-not b
 mark-not Operand b = starts-not b
 mark-not (Value i) b = cond-not (eqb b (code "-")) _ _ refl refl
-mark-not (Digits i) b = refl
 mark-not AfterHash b = cond-not (eqb b (code "[")) _ _ refl (cond-not (eqb b (code ",")) _ _ refl refl)
 mark-not IndexDot b = cond-not (eqb b (code ".")) _ _ refl refl
-mark-not IndexName b = refl
-mark-not RegisterName b = refl
 mark-not IndirectDot b = cond-not (eqb b (code ".")) _ _ refl refl
-mark-not IndirectName b = refl
 mark-not Closing b = cond-not (eqb b (code "]")) _ _ refl refl
 mark-not Done b = cond-not (eqb b (code ",")) _ _ refl refl
 mark-not (Expression q h) b = scanned-not (scan_step (mark_symbol b) q h)
 mark-not Item b = cond-not (eqb b (code "-")) _ _ refl refl
-mark-not ItemDigits b = refl
 mark-not ItemDone b = cond-not (eqb b (code ",")) _ _ refl refl
-mark-not Ended b = refl
-mark-not Dead b = refl
+mark-not _ b = refl
 
 -- ---- blanks before a token
 

@@ -70,19 +70,11 @@ skip false st e = e
 module _ (line : List ℕ) where
   dead_step : (k : Kind) (t : Token) → token_step line At.Dead k t ≡ At.Dead
   dead_step K.End t = refl
-  dead_step K.Stray t = refl
-  dead_step K.Word t = refl
-  dead_step (K.Number v k) t = refl
-  dead_step K.Text t = refl
-  dead_step (K.Mark b) t = refl
+  dead_step _ t = refl
 
   ended-step : (k : Kind) (t : Token) → token_step line At.Ended k t ≡ At.Ended
   ended-step K.End t = refl
-  ended-step K.Stray t = refl
-  ended-step K.Word t = refl
-  ended-step (K.Number v k) t = refl
-  ended-step K.Text t = refl
-  ended-step (K.Mark b) t = refl
+  ended-step _ t = refl
 
   pub dead_never : (ts : List Token) → finishes line At.Dead ts ≡ false
   unfolding finishes
@@ -183,12 +175,8 @@ module _ (line : List ℕ) where
   step-moves O.operand t = rw (skip t.directly At.Operand refl) (go t.kind)
     where
       go : (k : Kind) → OperandMoves (token_step line At.Operand k t) (on_mark halt O.starts k)
-      go K.End = refl
-      go K.Stray = refl
-      go K.Word = refl
-      go (K.Number v k) = refl
-      go K.Text = refl
       go (K.Mark b) = starts-moves b
+      go _ = refl
   step-moves (O.value s) t = rw (skip t.directly (At.Value (is_hash s)) refl) (go t.kind)
     where
       go : (k : Kind) → OperandMoves (token_step line (At.Value (is_hash s)) k t) (value_by (to (O.put s (V'.Label (name_at t)))) (λ n. to (O.put s (V'.Number n))) (to (O.digits s)) halt k)
@@ -219,90 +207,49 @@ module _ (line : List ℕ) where
     where
       go : (k : Kind) → OperandMoves (token_step line At.AfterHash k t)
           (on_mark halt (λ b. cond (eqb b (code "[")) (to (O.index_dot v)) (at_comma halt (emit (Immediate v)) b)) k)
-      go K.End = refl
-      go K.Stray = refl
-      go K.Word = refl
-      go (K.Number w k) = refl
-      go K.Text = refl
       go (K.Mark b) = cond-moves erased O.operand (eqb b (code "[")) _ _ _ _ refl (only-moves erased O.operand (code ",") b At.Operand (emit (Immediate v)) refl)
+      go _ = refl
   step-moves (O.index_dot v) t = rw (skip t.directly At.IndexDot refl) (go t.kind)
     where
       go : (k : Kind) → OperandMoves (token_step line At.IndexDot k t) (on_mark halt (only halt (code ".") (to (O.index_name v))) k)
-      go K.End = refl
-      go K.Stray = refl
-      go K.Word = refl
-      go (K.Number w k) = refl
-      go K.Text = refl
       go (K.Mark b) = only-moves erased O.operand (code ".") b At.IndexName (to (O.index_name v)) refl
+      go _ = refl
   step-moves (O.index_name v) t = rw (skip t.directly At.IndexName refl) (go t.kind)
     where
       go : (k : Kind) → OperandMoves (token_step line At.IndexName k t) (O.on_word (O.index_step v (O.code_at line t)) k)
-      go K.End = refl
-      go K.Stray = refl
       go K.Word = index_moves v (O.code_at line t)
-      go (K.Number w k) = refl
-      go K.Text = refl
-      go (K.Mark b) = refl
+      go _ = refl
   step-moves O.register_name t = rw (skip t.directly At.RegisterName refl) (go t.kind)
     where
       go : (k : Kind) → OperandMoves (token_step line At.RegisterName k t)
           (O.on_word (cond (is_register (O.code_at line t)) (to (O.done (Register (O.code_at line t)))) halt) k)
-      go K.End = refl
-      go K.Stray = refl
       go K.Word = cond-moves erased O.operand (is_register (O.code_at line t)) _ _ _ _ refl refl
-      go (K.Number w k) = refl
-      go K.Text = refl
-      go (K.Mark b) = refl
+      go _ = refl
   step-moves O.indirect_dot t = rw (skip t.directly At.IndirectDot refl) (go t.kind)
     where
       go : (k : Kind) → OperandMoves (token_step line At.IndirectDot k t) (on_mark halt (only halt (code ".") (to O.indirect_name)) k)
-      go K.End = refl
-      go K.Stray = refl
-      go K.Word = refl
-      go (K.Number w k) = refl
-      go K.Text = refl
       go (K.Mark b) = only-moves erased O.operand (code ".") b At.IndirectName (to O.indirect_name) refl
+      go _ = refl
   step-moves O.indirect_name t = rw (skip t.directly At.IndirectName refl) (go t.kind)
     where
       go : (k : Kind) → OperandMoves (token_step line At.IndirectName k t)
           (O.on_word (cond (is_register (O.code_at line t)) (to (O.closing (Indirect (O.code_at line t)))) halt) k)
-      go K.End = refl
-      go K.Stray = refl
       go K.Word = cond-moves erased O.operand (is_register (O.code_at line t)) _ _ _ _ refl refl
-      go (K.Number w k) = refl
-      go K.Text = refl
-      go (K.Mark b) = refl
+      go _ = refl
   step-moves (O.closing o) t = rw (skip t.directly At.Closing refl) (go t.kind)
     where
       go : (k : Kind) → OperandMoves (token_step line At.Closing k t) (on_mark halt (only halt (code "]") (to (O.done o))) k)
-      go K.End = refl
-      go K.Stray = refl
-      go K.Word = refl
-      go (K.Number w k) = refl
-      go K.Text = refl
       go (K.Mark b) = only-moves erased O.operand (code "]") b At.Done (to (O.done o)) refl
+      go _ = refl
   step-moves (O.done o) t = rw (skip t.directly At.Done refl) (go t.kind)
     where
       go : (k : Kind) → OperandMoves (token_step line At.Done k t) (on_comma halt (emit o) k)
-      go K.End = refl
-      go K.Stray = refl
-      go K.Word = refl
-      go (K.Number w k) = refl
-      go K.Text = refl
       go (K.Mark b) = only-moves erased O.operand (code ",") b At.Operand (emit o) refl
+      go _ = refl
 
   ends-alike : (st : O.State) → final (erased st) ≡ is_read (O.finish st)
   ends-alike O.operand = refl
-  ends-alike (O.value k) = refl
-  ends-alike (O.digits k) = refl
-  ends-alike (O.after_hash v) = refl
-  ends-alike (O.index_dot v) = refl
-  ends-alike (O.index_name v) = refl
-  ends-alike O.register_name = refl
-  ends-alike O.indirect_dot = refl
-  ends-alike O.indirect_name = refl
-  ends-alike (O.closing o) = refl
-  ends-alike (O.done o) = refl
+  ends-alike _ = refl
 
   operands-finish : (ts : List Token) (st : O.State) → finishes line (erased st) ts ≡ is_read (O.walk line st ts)
   unfolding O.walk
@@ -315,11 +262,7 @@ module _ (line : List ℕ) where
     where
       same : (k : Kind) → token_step line At.Field k t ≡ token_step line At.Operand k t
       same K.End = refl
-      same K.Stray = refl
-      same K.Word = refl
-      same (K.Number w k) = refl
-      same K.Text = refl
-      same (K.Mark b) = refl
+      same _ = refl
 
 -- ---- expressions
 
@@ -364,12 +307,8 @@ module _ (line : List ℕ) where
   item-moves I.item t = rw (skip t.directly At.Item refl) (go t.kind)
     where
       go : (k : Kind) → ItemMoves (token_step line At.Item k t) (value_by halt (λ n. to (I.done (number n))) (to I.digits) (I.on_text halt (to (I.done (I.string_of line t))) k) k)
-      go K.End = refl
-      go K.Stray = refl
-      go K.Word = refl
-      go (K.Number v k) = refl
-      go K.Text = refl
       go (K.Mark b) = only-moves erased_item I.item (code "-") b At.ItemDigits (to I.digits) refl
+      go _ = refl
   item-moves I.digits t = go t.kind t.directly
     where
       go : (k : Kind) (d : Bool) → ItemMoves (token_step line (blank_if d At.ItemDigits) k t) (digits_by (λ n. to (I.done (number n))) halt k d)
@@ -390,12 +329,8 @@ module _ (line : List ℕ) where
   item-moves (I.done i) t = rw (skip t.directly At.ItemDone refl) (go t.kind)
     where
       go : (k : Kind) → ItemMoves (token_step line At.ItemDone k t) (on_comma halt (emit i) k)
-      go K.End = refl
-      go K.Stray = refl
-      go K.Word = refl
-      go (K.Number v k) = refl
-      go K.Text = refl
       go (K.Mark b) = only-moves erased_item I.item (code ",") b At.Item (emit i) refl
+      go _ = refl
 
   item-ends : (st : I.State) → final (erased_item st) ≡ is_read (I.finish st)
   item-ends I.item = refl
@@ -466,12 +401,8 @@ module _ (line : List ℕ) where
       no g = let z : false ≡ true = sym (dead_never line ts) ∙ g in never (cc)
 
       go : (k : Kind) → w.kind ≡ k → finishes line (token_step line At.Body k w) ts ≡ true → (r : Reading) × Body line (w ∷ ts) r
-      go K.End e g = no g
-      go K.Stray e g = no g
       go K.Word e g = by-word w ts (word_of (word_at line w)) i.1 (record { word = e; means = refl }) g
-      go (K.Number v k) e g = no g
-      go K.Text e g = no g
-      go (K.Mark b) e g = no g
+      go _ e g = no g
 
   -- ---- lines
 
