@@ -79,11 +79,8 @@ module _ (U : Type 0) (number_u : Token → ℕ → U) (operate_u : Token → Op
           → at_operand W number_w operate_w enclose_w t s (operator_w ts) (operand_w ts) (wait_made l) (wait_made p) (stack_made k)
           ≡ outcome_made (at_operand U number_u operate_u enclose_u t s (operator_u ts) (operand_u ts) l p k)
       operand-turn (Y.Number n) l p k = g l _ (join_u p (number_u t n)) k (made_joined p (number_u t n) (of_number_lem t n))
-      operand-turn (Y.Sums o) l p k = refl
-      operand-turn (Y.Products o) l p k = refl
       operand-turn Y.Opens l p k = f nothing nothing (record { sum = l; product = p; opening = t } ∷ k)
-      operand-turn Y.Shuts l p k = refl
-      operand-turn Y.Other l p k = refl
+      operand-turn _ l p k = refl
 
       operator-turn : (s : Symbol) (l : WaitU) {w : W} (v : U) (k : StackU) → w ≡ made v
           → at_operator W number_w operate_w enclose_w t s (operator_w ts) (operand_w ts) (wait_made l) w (stack_made k)

@@ -44,12 +44,9 @@ module _ (t : Token) (b : ℕ) (k : t.kind ≡ K.Mark b) where
       (or_else (code "%") (λ e. products (rest e)) neither))))))
 
 kind-means : (t : Token) (k : Kind) → t.kind ≡ k → Means t (kind_symbol k)
-kind-means t K.End e = neither
-kind-means t K.Stray e = neither
-kind-means t K.Word e = neither
 kind-means t (K.Number v k) e = number e
-kind-means t K.Text e = neither
 kind-means t (K.Mark b) e = mark-means t b e
+kind-means t _ e = neither
 
 pub means : (t : Token) → Means t (kind_symbol t.kind)
 means t = kind-means t t.kind refl

@@ -40,12 +40,9 @@ stuck t Y.Other f g v k h e = refl
 
 stuck-outside : (t : Token) (y : Symbol) (f : Wait → Found → Stack → Answer) (g : Wait → Wait → Stack → Answer)
     (v : Found) → EndsAt sums y → at_operator (Found) number_at evaluate_at inside_at t y f g nothing v [] ≡ wrong
-stuck-outside t (Y.Number n) f g v h = refl
 stuck-outside t (Y.Sums o) f g v h = let z = h.1 in never (cc)
 stuck-outside t (Y.Products o) f g v h = let z = h.0 in never (cc)
-stuck-outside t Y.Opens f g v h = refl
-stuck-outside t Y.Shuts f g v h = refl
-stuck-outside t Y.Other f g v h = refl
+stuck-outside t _ f g v h = refl
 
 module _ (s : List ℕ) (at : ℕ) where
   -- no operand begins here

@@ -29,12 +29,9 @@ module _ (s : List ℕ) (at : ℕ) where
     where
       go : (k : Kind) → kind_symbol k ≡ y → tokens_from s at ≡ after_kind k (token_at s at) (tokens_from s)
           → at ≤ (token_at s at).start → EndsAt k (length s) (token_at s at).start (token_at s at).next.at → Heads s at
-      go K.End f r l p = absurd (n (sym f))
-      go K.Stray f r l p = absurd (n (sym f))
-      go K.Word f r l p = absurd (n (sym f))
       go (K.Number v k) f r l p = record { row = r; on = omega arith; within = p.1 }
-      go K.Text f r l p = absurd (n (sym f))
       go (K.Mark b) f r l p = record { row = r; on = omega arith; within = p.1 }
+      go _ f r l p = absurd (n (sym f))
 
   -- where a row begins: with no token, or with the token there
   pub data Begins : List Token → Type 0 where
@@ -46,11 +43,7 @@ module _ (s : List ℕ) (at : ℕ) where
     where
       go : (k : Kind) → (token_at s at).kind ≡ k → Begins (after_kind k (token_at s at) (tokens_from s))
       go K.End e = ended (rw e) (rw e)
-      go K.Stray e = some (rw e)
-      go K.Word e = some (rw e)
-      go (K.Number v k) e = some (rw e)
-      go K.Text e = some (rw e)
-      go (K.Mark b) e = some (rw e)
+      go _ e = some (rw e)
 
   other-ends : (level : Level) {y : Symbol} → y ≡ Y.Other → P.EndsAt level y
   other-ends factors e = tt

@@ -53,11 +53,8 @@ module _ (W : Type 0) (of : Token → ℕ → W) (operated : Token → Operation
         → scan_on (scan_step s true (length k)) (λ q d. right_form ts q d)
         ≡ is_read (at_operand W of operated enclose t s (operator_v ts) (operand_v ts) l p k)
     operand-turn (Y.Number n) l p k = g l (join p (of t n)) k
-    operand-turn (Y.Sums o) l p k = refl
-    operand-turn (Y.Products o) l p k = refl
     operand-turn Y.Opens l p k = ap (λ (d : ℕ). right_form ts true d) (add-one (length k)) ∙ f nothing nothing (record { sum = l; product = p; opening = t } ∷ k)
-    operand-turn Y.Shuts l p k = refl
-    operand-turn Y.Other l p k = refl
+    operand-turn _ l p k = refl
 
     operator-turn : (s : Symbol) (l : Wait) (v : W) (k : Stack)
         → scan_on (scan_step s false (length k)) (λ q d. right_form ts q d)

@@ -137,12 +137,8 @@ expression-same r = ap judged ((onward r).operands nothing nothing nothing nothi
 
 -- what is not stray
 not-stray : (k : Kind) → (kind_symbol k ≡ Other → ⊥) → T (not (is_stray k))
-not-stray K.End n = tt
 not-stray K.Stray n = absurd (n refl)
-not-stray K.Word n = tt
-not-stray (K.Number v r) n = tt
-not-stray K.Text n = tt
-not-stray (K.Mark b) n = tt
+not-stray _ n = tt
 
 -- the reader reads no stray token, whether an operand or an operation is next
 record Whole (ts : List Token) : Type 0 where
@@ -155,11 +151,8 @@ unread e = let z : ◌≡◌ {A = ℕ} 0 1 = cc e in absurd (omega arith)
 module _ (t : Token) (ts : List Token) (h : Whole ts) where
   operand-whole : (y : Symbol) (l p : Wait) (k : Stack) (r : Tree) → OperandAt t ts y l p k ≡ reads r → (y ≡ Other → ⊥) × NoStray ts
   operand-whole (Number n) l p k r e = (λ q. apart (cc q), h.operators _ _ _ r e)
-  operand-whole (Sums o) l p k r e = unread e
-  operand-whole (Products o) l p k r e = unread e
   operand-whole Opens l p k r e = (λ q. apart (cc q), h.operands _ _ _ r e)
-  operand-whole Shuts l p k r e = unread e
-  operand-whole Other l p k r e = unread e
+  operand-whole _ l p k r e = unread e
 
   operator-whole : (y : Symbol) (l : Wait) (v : Tree) (k : Stack) (r : Tree) → OperatorAt t ts y l v k ≡ reads r → (y ≡ Other → ⊥) × NoStray ts
   operator-whole (Number n) l v k r e = unread e
