@@ -21,6 +21,7 @@ pub fn is_blank(b: u8) -> bool
 pub(crate) fn skip(s: &[u8], from: usize) -> usize
     ensures { result ≡ from + blanks (drop from s.now) }
 {
+    // no `position`, as in line_end: half as slow again where no blank stands, as before most tokens
     for i in from..s.len() {
         if !is_blank(s[i]) {
             return i;
@@ -79,6 +80,7 @@ fn token_here(s: &[u8], at: usize, directly: bool) -> Token
         return spanning(Kind::End, at, directly, at);
     }
     let b = s[at];
+    // tests in turn, and no match: by the rank first, and then by the byte
     let rank = rank_of(b);
     if rank < 10 {
         return number_token(s, at, directly);
