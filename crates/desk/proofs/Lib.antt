@@ -1,5 +1,4 @@
--- Laws of M's word, of text in a room and of the line shown; Examples computes; Top restates what the crate promises.
-pub mod Sizes
+-- Laws of what is told of a failure and of a refusal, and of the line shown; Examples computes; Top restates what the crate promises.
 pub mod Failures
 pub mod Told
 pub mod Shown
