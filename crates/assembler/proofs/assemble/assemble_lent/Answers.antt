@@ -7,11 +7,7 @@ use Rattle.assembler.specs.Inner.Parts.{outcome_of}
 use Rattle.assembler.proofs.Rows.{zeros-count, zeros-alone}
 use Rattle.assembler.proofs.assemble.assemble_lent.Goals as goal
 
-pub slice_bounds-assemble_over-end-4 : goal.slice_bounds-assemble_over-end-4
-slice_bounds-assemble_over-end-4 c = zeros-count 65536 (length c.args.memory.now) c.requires.1
 
-pub slice_bounds-assemble_over-end-5 : goal.slice_bounds-assemble_over-end-5
-slice_bounds-assemble_over-end-5 c = zeros-count 65536 (length c.args.memory.now) c.requires.1
 
 pub assemble_over-requires : goal.assemble_over-requires
 assemble_over-requires c =

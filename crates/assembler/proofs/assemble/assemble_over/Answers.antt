@@ -1,8 +1,6 @@
 -- By what the walk answers: a line, the source's end or no more than its labels can be refused (Walks).
-use Prim.Native.Nat.{ℕ}
-use mathlib.Core.Path.{◌≡◌, ap, ◌∙◌}
-use native.Mathlib.Omega.{arith}
-use lib.ListN.{length, length-replicate}
+use mathlib.Core.Path.{ap, ◌∙◌}
+use lib.ListN.{length}
 use Rattle.std.proofs.Common.{Err}
 use Rattle.sources.specs.Inner.Assembling.{work_of, memory_of}
 use Rattle.walking.specs.Inner.Walking.{Holds}
@@ -36,32 +34,6 @@ returns-in-Err-Late c =
     w.ensures c.refused.ensures
 
 -- neither is
-pub settle_and_accept-requires : goal.settle_and_accept-requires
-settle_and_accept-requires c =
-    let w = c.walk in
-    let a = c.args in
-    let s = a.s.now in
-    let M = length a.marks.now in
-    let held =
-    Holds s w.new.starts w.new.keys w.new.values w.new.marks w.new.cells
-    w.new.row w.new.aways (work_of M s) in
-    let h = walk-passed M s held w.result c.in-Ok.field-0.labels c.in-Ok.field-0.uses c.in-Ok.is w.ensures in
-    let few = h.1.few-named in
-    let lent = c.requires.0 in
-    let long : length a.cells.now ≡ M = ap length lent.cells-empty ∙ length-replicate {A = ℕ} M 0 in (
-      record {
-        starts_reach = omega (arith, few, w.auto.starts, lent.rows.starts-long);
-        keys_reach = omega (arith, few, w.auto.keys, lent.rows.keys_long);
-        values_reach = omega (arith, few, w.auto.values, lent.rows.values_long);
-      },
-      omega (arith, few),
-      record {
-        cells = omega (arith, few, w.auto.row, lent.room.cells);
-        distances = omega (arith, few, w.auto.aways, lent.room.distances);
-      },
-      omega (arith, w.auto.cells, long, c.requires.1),
-      omega (arith, w.auto.marks, c.requires.2),
-    )
 
 pub returns-in-Ok : goal.returns-in-Ok
 returns-in-Ok c =
@@ -78,14 +50,5 @@ returns-in-Ok c =
     c.settle_and_accept.ensures
 
 -- what the walk alone was lent keeps its length
-pub shape_of-starts-in-Ok : goal.shape_of-starts-in-Ok
-shape_of-starts-in-Ok c = c.walk.auto.starts
 
-pub shape_of-keys-in-Ok : goal.shape_of-keys-in-Ok
-shape_of-keys-in-Ok c = c.walk.auto.keys
 
-pub shape_of-values-in-Ok : goal.shape_of-values-in-Ok
-shape_of-values-in-Ok c = c.walk.auto.values
-
-pub shape_of-marks-in-Ok : goal.shape_of-marks-in-Ok
-shape_of-marks-in-Ok c = c.walk.auto.marks

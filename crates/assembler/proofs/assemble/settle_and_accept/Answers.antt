@@ -6,8 +6,6 @@ use Rattle.sources.specs.Inner.Pointing.{label_point}
 use Rattle.assembler.proofs.Outcomes.{not-settled, all_settled}
 use Rattle.assembler.proofs.assemble.settle_and_accept.Goals as goal
 
-pub settle-requires : goal.settle-requires
-settle-requires c = let p = c.requires in (p.0, p.1, p.2)
 
 -- a label is refused
 pub returns-in-Err : goal.returns-in-Err

@@ -14,8 +14,6 @@ overflow_add-chain c =
     let small = chain_small (window a.line.now a.start a.size) in
     omega (arith, c.chain_of-chain.ensures, small)
 
-pub onward-named-requires : goal.onward-named-requires
-onward-named-requires c = omega (arith, c.cell.ensures, c.shared_slice_known-3-1.given (lasts_from + c.chain_of-chain.result))
 
 pub loop-named-init : goal.loop-named-init
 loop-named-init c =
@@ -31,21 +29,8 @@ loop-named-init c =
       omega (arith, small, c.onward-named.ensures, c.cell.ensures, cell),
     )
 
-pub is_named-requires : goal.is_named-requires
-is_named-requires c =
-    let pre = c.requires in
-    let h = c.loop-named-test.true in
-    let j = c.loop-named.invariant.0.below in
-    let k = c.loop-named.invariant.0.within in
-    (pre.0, pre.1, omega (arith, h, j, k, pre.2), omega (arith, h, j, k, pre.3), c.key-wanted.ensures)
 
-pub overflow_add-j : goal.overflow_add-j
-overflow_add-j c = omega (arith, c.loop-named.invariant.1)
 
-pub onward-named-requires-in-loop-named : goal.onward-named-requires-in-loop-named
-onward-named-requires-in-loop-named c =
-    let links = c.shared_slice_known-3-1.given (links_from + (c.loop-named.named - 1)) in
-    omega (arith, c.cell-in-loop-named.ensures, links)
 
 pub loop-named-smaller : goal.loop-named-smaller
 loop-named-smaller c =

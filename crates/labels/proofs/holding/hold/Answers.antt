@@ -15,20 +15,12 @@ overflow_cast-keys c =
     let small = key-small a.line.now a.start a.size c.requires.4 (omega (arith, c.shared_slice_known-1.given a.start)) in
     omega (arith, c.key-k.ensures, small)
 
-pub bounds-keys-count-2 : goal.bounds-keys-count-2
-bounds-keys-count-2 c =
-    let a = c.args in
-    lt-length-set a.keys.now a.count _ (omega (arith, c.requires.0, c.requires.2))
 
 pub bounds-keys-chain : goal.bounds-keys-chain
 bounds-keys-chain c =
     let a = c.args in
     lt_numbered a.keys.now a.count _ _ (omega (arith, c.requires.0, c.requires.2, chain_below _ c.chain_of-chain.ensures))
 
-pub bounds-keys-count-3 : goal.bounds-keys-count-3
-bounds-keys-count-3 c =
-    let a = c.args in
-    lt_numbered a.keys.now a.count _ _ (omega (arith, c.requires.0, c.requires.2))
 
 pub bounds-keys-chain-2 : goal.bounds-keys-chain-2
 bounds-keys-chain-2 c =

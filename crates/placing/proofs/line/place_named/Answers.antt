@@ -22,10 +22,6 @@ declare-requires c =
     let w = label-within a.line.now (ap (λ (r : LineRead). r.label) (sym p.3) ∙ p.6) in
     (p.0, p.1.starts-long, p.1.keys_long, w.0, w.1, omega (arith, w.1, p.4), p.5)
 
-pub place_statement-requires : goal.place_statement-requires
-place_statement-requires c =
-    let p = c.requires in
-    (subst FairDid c.in_ok-d.was c.declare.ensures.0, p.1.values_long, p.2)
 
 pub returns-in_err-d : goal.returns-in_err-d
 returns-in_err-d c =

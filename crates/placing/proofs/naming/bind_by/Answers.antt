@@ -4,11 +4,6 @@ use Rattle.placing.proofs.PlaceLaws.{waits_as, number_as, start_as}
 use Rattle.placing.specs.Inner.State.{BindsFine}
 use Rattle.placing.proofs.naming.bind_by.Goals as goal
 
-pub bind_here-requires : goal.bind_here-requires
-bind_here-requires c =
-    let p = c.requires in
-    let a = c.args in
-    (p.0, p.1, subst (BindsFine a.c) c.in-Start.is p.2)
 
 pub returns-in-Waits : goal.returns-in-Waits
 returns-in-Waits c = (c.requires.0, refl, refl, λ ws ms l. waits_as _ c.in-Waits.is refl)

@@ -8,6 +8,3 @@ pub returns-then-c-eq0 : goal.returns-then-c-eq0
 returns-then-c-eq0 c =
     let a = c.args in
     (c.requires.0, refl, refl, λ ws ms l. none-waits a.c ws _ ms a.c.at.0 l c.if-c-eq0.true)
-
-pub overflow_cast-at : goal.overflow_cast-at
-overflow_cast-at c = omega (arith, c.requires.2 (omega arith))

@@ -33,10 +33,6 @@ returns-then-is_past c =
           (sym c.reserves_out.ensures ∙ c.if-reserves_out.false) (sym c.is_past.ensures ∙ c.if-is_past.true) refl,
     )
 
-pub is_taken-requires : goal.is_taken-requires
-is_taken-requires c =
-    let a = c.args in
-    not-past (length a.marks.now) a.c.at.0 a.a.claims (sym c.is_past.ensures ∙ c.if-is_past.false)
 
 pub returns-then-is_taken : goal.returns-then-is_taken
 returns-then-is_taken c =
@@ -48,23 +44,8 @@ returns-then-is_taken c =
           (sym c.is_taken.ensures ∙ c.if-is_taken.true),
     )
 
-pub paint-requires : goal.paint-requires
-paint-requires c =
-    let a = c.args in
-    not-past (length a.marks.now) a.c.at.0 a.a.claims (sym c.is_past.ensures ∙ c.if-is_past.false)
 
-pub bind_by-d-requires : goal.bind_by-d-requires
-bind_by-d-requires c =
-    let a = c.args in
-    let p = c.requires in
-    (p.0, p.1, binds_fine a.c a.a.gives (sym c.label_out.ensures ∙ c.if-label_out.false))
 
-pub moved-requires : goal.moved-requires
-moved-requires c =
-    let a = c.args in
-    let p = c.requires in
-    moved-low (length a.marks.now) a.a.moves a.c.at.0 a.a.claims p.3 p.0.low p.2
-    (sym c.reserves_out.ensures ∙ c.if-reserves_out.false) (sym c.is_past.ensures ∙ c.if-is_past.false)
 
 pub returns : goal.returns
 returns c =

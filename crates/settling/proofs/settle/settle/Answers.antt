@@ -17,16 +17,6 @@ use Rattle.settling.proofs.settle.settle.Goals as goal
 pub loop-i-init : goal.loop-i-init
 loop-i-init c = (omega arith, nothing-held _ _ _ _, sym (nothing-filled _ _ _ _ _), refl, nothing-before _ _ _ _)
 
-pub word-found-requires : goal.word-found-requires
-word-found-requires c =
-    let i = c.loop-i.i in
-    let known = c.type_inv.row in (
-      omega (arith, known (4 * i)),
-      omega (arith, known (4 * i + 1)),
-      c.requires.0,
-      omega (arith, known (4 * i + 2)),
-      omega (arith, c.type_inv.aways i),
-    )
 
 pub returns-in_err-w : goal.returns-in_err-w
 returns-in_err-w c =
@@ -56,8 +46,6 @@ loop-i-preserved c =
       one-before bs a.s.now a.row.now a.aways.now i x w.result w.ensures (mapped-ok w.result _ c.map_err.ensures.cases c.in_ok-w.was) c.loop-i.before c.loop-i.invariant.4,
     )
 
-pub shape_of-cells : goal.shape_of-cells
-shape_of-cells c = c.loop-i.invariant.3
 
 pub returns : goal.returns
 returns c =

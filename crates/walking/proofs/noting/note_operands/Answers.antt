@@ -7,21 +7,7 @@ use Rattle.walking.specs.Inner.Noting.{Placeable}
 use Rattle.walking.proofs.Notes.{few_words, second-cell, both-noted}
 use Rattle.walking.proofs.noting.note_operands.Goals as goal
 
-pub overflow_add-second-2 : goal.overflow_add-second-2
-overflow_add-second-2 c =
-    let a = c.args in
-    omega (arith, c.width.ensures, few_words a.a.operand, c.requires.2)
 
-pub note-requires : goal.note-requires
-note-requires c =
-    let a = c.args in (
-      record {
-        cells = omega (arith, c.requires.0.cells, c.note-n.ensures.2, c.note-n.auto.row);
-        distances = omega (arith, c.requires.0.distances, c.note-n.ensures.2, c.note-n.auto.aways);
-      },
-      c.requires.1,
-      subst (λ (i : ℕ). Placeable a.from i a.next a.b.label) (second-cell a.at a.a c.width.ensures) c.requires.4,
-    )
 
 pub returns : goal.returns
 returns c =

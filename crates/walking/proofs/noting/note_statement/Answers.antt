@@ -14,13 +14,7 @@ use Rattle.walking.proofs.Notes.{no_uses}
 use Rattle.walking.proofs.Said.{some_byte, first-placeable, second-placeable, uses-noted}
 use Rattle.walking.proofs.noting.note_statement.Goals as goal
 
-pub overflow_add-next : goal.overflow_add-next
-overflow_add-next c =
-    omega (arith, c.operand_count.ensures, few-operands c.in-Instruction.op, c.requires.3)
 
-pub overflow_add-next-in-Instruction : goal.overflow_add-next-in-Instruction
-overflow_add-next-in-Instruction c =
-    omega (arith, c.operand_count.ensures, few-operands c.in-Instruction.op, c.requires.3)
 
 pub note_operands-requires : goal.note_operands-requires
 note_operands-requires c =

@@ -16,9 +16,6 @@ returns-in_default c =
       omega arith,
     )
 
-pub write_statement-requires : goal.write_statement-requires
-write_statement-requires c =
-    (c.requires.0 ∙ c.in-Ok.is, c.requires.3)
 
 pub note_statement-requires : goal.note_statement-requires
 note_statement-requires c = (

@@ -25,26 +25,6 @@ returns-then-is_late c =
     refused-late s starts keys values marks cells row aways v w n c.in_ok-counters.was l.ensures c.is_late.ensures
     c.if-is_late.true
 
-pub bind_here-d-requires : goal.bind_here-d-requires
-bind_here-d-requires c =
-    let l = c.walk_lines in
-    let starts = l.new.starts in
-    let keys = l.new.keys in
-    let values = l.new.values in
-    let marks = l.new.marks in
-    let cells = l.new.cells in
-    let row = l.new.row in
-    let aways = l.new.aways in
-    let s = c.args.s.now in
-    let m = length c.args.marks.now in
-    let v = lines_verdict m s in
-    let w = work_of m s in
-    let n = last_line s in (
-      still-fair s starts keys values marks cells row aways v w n c.in_ok-counters.was l.ensures,
-      l.auto.values ∙ c.requires.rows.values_long,
-      binds_at_end s starts keys values marks cells row aways v w n c.in_ok-counters.was l.ensures c.is_late.ensures
-          c.if-is_late.false,
-    )
 
 pub returns-in_err-counters : goal.returns-in_err-counters
 returns-in_err-counters c =

@@ -19,9 +19,6 @@ loop-from-init c =
     left_at_start a.s.now a.starts.now a.keys.now a.values.now a.marks.now a.cells.now a.row.now a.aways.now
     pre.rows.starts-long pre.rows.keys_long pre.rows.values_long pre.marks-empty pre.cells-empty
 
-pub overflow_add-number : goal.overflow_add-number
-overflow_add-number c =
-    omega (arith, c.loop-from.invariant.few-lines, c.loop-from-test.true, c.requires.short)
 
 pub place_line-placed-requires : goal.place_line-placed-requires
 place_line-placed-requires c =
@@ -92,18 +89,7 @@ keep_line-uses-requires c =
       },
     )
 
-pub overflow_add-end : goal.overflow_add-end
-overflow_add-end c =
-    omega (arith, end-within c.args.s.now c.loop-from.from c.line_end-end.ensures c.loop-from-test.true, c.requires.short)
 
-pub loop-from-smaller : goal.loop-from-smaller
-loop-from-smaller c =
-    let p = c.loop-from in
-    let s = c.args.s.now in
-    let h = c.line_end-end.ensures in
-    let st = c.read_line-read.result.statement in
-    let u = further st p.from (length s) (c.line_end-end.result + 1) (omega (arith, h)) c.loop-from-test.true in
-    omega (arith, u, c.next_line-from.ensures)
 
 pub loop-from-preserved : goal.loop-from-preserved
 loop-from-preserved c =
@@ -126,33 +112,12 @@ loop-from-preserved c =
     l.auto.marks k.auto.cells k.auto.row k.auto.aways c.requires.short
     k.ensures.0 (k.ensures.1 s (line_part s p.from c.line_end-end.result)) k.ensures.3 c.next_line-from.ensures
 
-pub shape_of-starts : goal.shape_of-starts
-shape_of-starts c =
-    c.loop-from.invariant.starts-long ∙ sym c.requires.rows.starts-long
 
-pub shape_of-keys : goal.shape_of-keys
-shape_of-keys c =
-    c.loop-from.invariant.keys_long ∙ sym c.requires.rows.keys_long
 
-pub shape_of-values : goal.shape_of-values
-shape_of-values c =
-    c.loop-from.invariant.values_long ∙ sym c.requires.rows.values_long
 
-pub shape_of-marks : goal.shape_of-marks
-shape_of-marks c =
-    c.loop-from.invariant.marks-long
 
-pub shape_of-cells : goal.shape_of-cells
-shape_of-cells c =
-    c.loop-from.invariant.cells-long
 
-pub shape_of-row : goal.shape_of-row
-shape_of-row c =
-    c.loop-from.invariant.row-long
 
-pub shape_of-aways : goal.shape_of-aways
-shape_of-aways c =
-    c.loop-from.invariant.aways_long
 
 pub returns : goal.returns
 returns c =
@@ -164,8 +129,6 @@ returns c =
     (length a.aways.now) p.c p.from p.number p.uses p.invariant c.loop-from-test.false in
     (o.0, o.1, o.2, p.invariant.fair, p.invariant.uses_fit)
 
-pub slice_bounds-line-count : goal.slice_bounds-line-count
-slice_bounds-line-count c = omega arith
 
 pub slice_bounds-line-end : goal.slice_bounds-line-end
 slice_bounds-line-end c =
