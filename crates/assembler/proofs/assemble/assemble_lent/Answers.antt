@@ -7,8 +7,6 @@ use Rattle.assembler.specs.Inner.Parts.{outcome_of}
 use Rattle.assembler.proofs.Rows.{zeros-count, zeros-alone}
 use Rattle.assembler.proofs.assemble.assemble_lent.Goals as goal
 
-
-
 pub assemble_over-requires : goal.assemble_over-requires
 assemble_over-requires c =
     let p = c.requires in

@@ -50,5 +50,3 @@ returns-in-Ok c =
     c.settle_and_accept.ensures
 
 -- what the walk alone was lent keeps its length
-
-

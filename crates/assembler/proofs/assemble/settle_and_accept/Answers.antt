@@ -6,7 +6,6 @@ use Rattle.sources.specs.Inner.Pointing.{label_point}
 use Rattle.assembler.proofs.Outcomes.{not-settled, all_settled}
 use Rattle.assembler.proofs.assemble.settle_and_accept.Goals as goal
 
-
 -- a label is refused
 pub returns-in-Err : goal.returns-in-Err
 returns-in-Err c =

@@ -14,7 +14,6 @@ overflow_add-chain c =
     let small = chain_small (window a.line.now a.start a.size) in
     omega (arith, c.chain_of-chain.ensures, small)
 
-
 pub loop-named-init : goal.loop-named-init
 loop-named-init c =
     let a = c.args in
@@ -28,9 +27,6 @@ loop-named-init c =
       walk-starts a.s.now a.starts.now a.keys.now w a.count chain c.chain_of-chain.ensures none c.onward-named.result last,
       omega (arith, small, c.onward-named.ensures, c.cell.ensures, cell),
     )
-
-
-
 
 pub loop-named-smaller : goal.loop-named-smaller
 loop-named-smaller c =

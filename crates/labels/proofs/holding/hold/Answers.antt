@@ -15,12 +15,10 @@ overflow_cast-keys c =
     let small = key-small a.line.now a.start a.size c.requires.4 (omega (arith, c.shared_slice_known-1.given a.start)) in
     omega (arith, c.key-k.ensures, small)
 
-
 pub bounds-keys-chain : goal.bounds-keys-chain
 bounds-keys-chain c =
     let a = c.args in
     lt_numbered a.keys.now a.count _ _ (omega (arith, c.requires.0, c.requires.2, chain_below _ c.chain_of-chain.ensures))
-
 
 pub bounds-keys-chain-2 : goal.bounds-keys-chain-2
 bounds-keys-chain-2 c =

@@ -22,7 +22,6 @@ declare-requires c =
     let w = label-within a.line.now (ap (λ (r : LineRead). r.label) (sym p.3) ∙ p.6) in
     (p.0, p.1.starts-long, p.1.keys_long, w.0, w.1, omega (arith, w.1, p.4), p.5)
 
-
 pub returns-in_err-d : goal.returns-in_err-d
 returns-in_err-d c =
     let a = c.args in

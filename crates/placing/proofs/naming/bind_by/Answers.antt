@@ -1,9 +1,7 @@
 -- By what the act gives.
-use mathlib.Core.Path.{refl, subst}
+use mathlib.Core.Path.{refl}
 use Rattle.placing.proofs.PlaceLaws.{waits_as, number_as, start_as}
-use Rattle.placing.specs.Inner.State.{BindsFine}
 use Rattle.placing.proofs.naming.bind_by.Goals as goal
-
 
 pub returns-in-Waits : goal.returns-in-Waits
 returns-in-Waits c = (c.requires.0, refl, refl, λ ws ms l. waits_as _ c.in-Waits.is refl)

@@ -1,6 +1,5 @@
 -- Where none waits, nothing is to be done.
 use mathlib.Core.Path.{refl}
-use native.Mathlib.Omega.{arith}
 use Rattle.placing.proofs.PlaceLaws.{none-waits}
 use Rattle.placing.proofs.naming.bind_here.Goals as goal
 

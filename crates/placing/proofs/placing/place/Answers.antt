@@ -2,8 +2,8 @@
 use mathlib.Core.Path.{refl, sym, ◌∙◌}
 use native.Mathlib.Omega.{arith}
 use lib.ListN.{length}
-use Rattle.placing.proofs.TestLaws.{not-past, moved-low}
-use Rattle.placing.proofs.PlaceLaws.{place-by, binds_fine, placed_state}
+use Rattle.placing.proofs.TestLaws.{moved-low}
+use Rattle.placing.proofs.PlaceLaws.{place-by, placed_state}
 use Rattle.placing.proofs.placing.place.Goals as goal
 
 pub returns-then-label_out : goal.returns-then-label_out
@@ -33,7 +33,6 @@ returns-then-is_past c =
           (sym c.reserves_out.ensures ∙ c.if-reserves_out.false) (sym c.is_past.ensures ∙ c.if-is_past.true) refl,
     )
 
-
 pub returns-then-is_taken : goal.returns-then-is_taken
 returns-then-is_taken c =
     let a = c.args in (
@@ -43,9 +42,6 @@ returns-then-is_taken c =
           (sym c.reserves_out.ensures ∙ c.if-reserves_out.false) (sym c.is_past.ensures ∙ c.if-is_past.false)
           (sym c.is_taken.ensures ∙ c.if-is_taken.true),
     )
-
-
-
 
 pub returns : goal.returns
 returns c =

@@ -17,7 +17,6 @@ use Rattle.settling.proofs.settle.settle.Goals as goal
 pub loop-i-init : goal.loop-i-init
 loop-i-init c = (omega arith, nothing-held _ _ _ _, sym (nothing-filled _ _ _ _ _), refl, nothing-before _ _ _ _)
 
-
 pub returns-in_err-w : goal.returns-in_err-w
 returns-in_err-w c =
     let a = c.args in
@@ -45,7 +44,6 @@ loop-i-preserved c =
       c.put.auto.cells ∙ c.loop-i.invariant.3,
       one-before bs a.s.now a.row.now a.aways.now i x w.result w.ensures (mapped-ok w.result _ c.map_err.ensures.cases c.in_ok-w.was) c.loop-i.before c.loop-i.invariant.4,
     )
-
 
 pub returns : goal.returns
 returns c =

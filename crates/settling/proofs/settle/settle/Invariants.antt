@@ -1,5 +1,5 @@
 -- All labels before the i-th pass, their words are in their cells, and the last of them is on the line kept.
-use Rattle.std.proofs.Common.{◌≡◌, ◌-◌, ◌≤◌, length}
+use Rattle.std.proofs.Common.{◌≡◌, ◌≤◌, length}
 use Rattle.sources.specs.Inner.Assembling.{passes, uses_verdict, filled}
 use Rattle.labels.specs.Inner.Labels.{labels_in}
 use Rattle.uses.specs.Inner.Held.{uses_held}

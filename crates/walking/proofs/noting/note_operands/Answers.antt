@@ -1,13 +1,8 @@
 -- The first operand, then the second, whose cell is behind the first one's word.
 use native.Mathlib.Omega.{arith}
-use Prim.Native.Nat.{ℕ}
-use mathlib.Core.Path.{subst}
 use Rattle.uses.specs.Inner.Held.{uses_held}
-use Rattle.walking.specs.Inner.Noting.{Placeable}
-use Rattle.walking.proofs.Notes.{few_words, second-cell, both-noted}
+use Rattle.walking.proofs.Notes.{both-noted}
 use Rattle.walking.proofs.noting.note_operands.Goals as goal
-
-
 
 pub returns : goal.returns
 returns c =

@@ -3,9 +3,8 @@ use Rattle.statements.specs.declared.Statement.{Statement}
 use native.Mathlib.Omega.{arith}
 use Prim.Native.Nat.{◌+◌, ◌≤◌, ◌<◌}
 use mathlib.Core.List.{◌++◌}
-use mathlib.Core.Path.{refl, sym, ap, subst, ◌∙◌}
+use mathlib.Core.Path.{sym, ap, subst, ◌∙◌}
 use Rattle.codes.specs.Limits.{most_cells}
-use Rattle.isa.proofs.Top.{few-operands}
 use Rattle.statements.specs.Judging.{claim_of}
 use Rattle.std.proofs.Common.{Ok}
 use Rattle.sources.specs.Uses.{uses_by}
@@ -13,8 +12,6 @@ use Rattle.uses.specs.Inner.Held.{uses_held}
 use Rattle.walking.proofs.Notes.{no_uses}
 use Rattle.walking.proofs.Said.{some_byte, first-placeable, second-placeable, uses-noted}
 use Rattle.walking.proofs.noting.note_statement.Goals as goal
-
-
 
 pub note_operands-requires : goal.note_operands-requires
 note_operands-requires c =

@@ -16,7 +16,6 @@ returns-in_default c =
       omega arith,
     )
 
-
 pub note_statement-requires : goal.note_statement-requires
 note_statement-requires c = (
   c.requires.0 ∙ c.in-Ok.is,

@@ -1,10 +1,9 @@
 -- A refusal of a line, then that of the source's end; else every label is bound.
-use mathlib.Core.Path.{◌∙◌}
 use lib.ListN.{length}
 use Rattle.std.proofs.lemmas.Result.{err_from_is_err_and}
 use Rattle.sources.specs.Inner.Assembling.{work_of, lines_verdict, last_line}
 use Rattle.walking.specs.Inner.Walking.{work_in, Holds, end_of}
-use Rattle.walking.proofs.Ends.{early-stop, still-fair, refused-late, passes-end, binds_at_end, all_held}
+use Rattle.walking.proofs.Ends.{early-stop, refused-late, passes-end, all_held}
 use Rattle.walking.proofs.walk.walk.Goals as goal
 
 pub returns-then-is_late : goal.returns-then-is_late
@@ -24,7 +23,6 @@ returns-then-is_late c =
     let n = last_line s in
     refused-late s starts keys values marks cells row aways v w n c.in_ok-counters.was l.ensures c.is_late.ensures
     c.if-is_late.true
-
 
 pub returns-in_err-counters : goal.returns-in_err-counters
 returns-in_err-counters c =

@@ -2,14 +2,14 @@
 use borrow.Author.Rules.{rules}
 use native.Mathlib.Omega.{arith}
 use Prim.Native.Nat.{◌+◌, ◌≤◌}
-use mathlib.Core.Path.{◌≡◌, refl, sym, ap, ◌∙◌}
+use mathlib.Core.Path.{◌≡◌, refl, sym, ap}
 use lib.ListN.{length}
 use Rattle.std.proofs.lemmas.Result.{err_from_is_err_and}
 use Rattle.statements.specs.declared.LineRead.{LineRead}
 use Rattle.labels.proofs.Mapped.{mapped-ok, mapped-err}
 use Rattle.walking.specs.declared.Stopped.TheVariants.{InLine}
 use Rattle.placing.specs.Inner.State.{place_in}
-use Rattle.walking.proofs.Walks.{left_at_start, end-within, line_part, further, line-fits, turns_over, turn-stops, turn-room, turn-goes}
+use Rattle.walking.proofs.Walks.{left_at_start, end-within, line_part, line-fits, turns_over, turn-stops, turn-room, turn-goes}
 use Rattle.walking.proofs.walk.walk_lines.Goals as goal
 
 pub loop-from-init : goal.loop-from-init
@@ -18,7 +18,6 @@ loop-from-init c =
     let pre = c.requires in
     left_at_start a.s.now a.starts.now a.keys.now a.values.now a.marks.now a.cells.now a.row.now a.aways.now
     pre.rows.starts-long pre.rows.keys_long pre.rows.values_long pre.marks-empty pre.cells-empty
-
 
 pub place_line-placed-requires : goal.place_line-placed-requires
 place_line-placed-requires c =
@@ -89,8 +88,6 @@ keep_line-uses-requires c =
       },
     )
 
-
-
 pub loop-from-preserved : goal.loop-from-preserved
 loop-from-preserved c =
     let e = c.line_end-end.ensures in
@@ -112,13 +109,6 @@ loop-from-preserved c =
     l.auto.marks k.auto.cells k.auto.row k.auto.aways c.requires.short
     k.ensures.0 (k.ensures.1 s (line_part s p.from c.line_end-end.result)) k.ensures.3 c.next_line-from.ensures
 
-
-
-
-
-
-
-
 pub returns : goal.returns
 returns c =
     let p = c.loop-from in
@@ -128,7 +118,6 @@ returns c =
     let o = turns_over m s p.starts p.keys p.values p.marks p.cells p.row p.aways (length a.cells.now) (length a.row.now)
     (length a.aways.now) p.c p.from p.number p.uses p.invariant c.loop-from-test.false in
     (o.0, o.1, o.2, p.invariant.fair, p.invariant.uses_fit)
-
 
 pub slice_bounds-line-end : goal.slice_bounds-line-end
 slice_bounds-line-end c =
