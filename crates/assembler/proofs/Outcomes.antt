@@ -3,6 +3,8 @@ use Prim.Native.Nat.{ℕ}
 use mathlib.Core.Bool.{Bool}
 use mathlib.Core.List.{List}
 use mathlib.Core.Path.{◌≡◌, sym, ap₂, subst, ◌∙◌}
+use Rattle.codes.specs.declared.refusals.Refusal.{Refusal}
+use Rattle.codes.specs.Refusals.{number}
 use Rattle.codes.specs.Marks.{code_mark, data_mark, reserved_mark}
 use Rattle.sources.specs.Order.{◌on◌}
 use Rattle.sources.specs.Image.{cells_marked}
@@ -37,12 +39,12 @@ module _ (memory map : List ℕ) where
   refused_as t f l v p image marks e g = rw (e, g)
 
   -- a label is refused: where it points is found by the line, read once more, and by whether it is the line's second
-  pub not-settled : (source : List ℕ) (r : Result Unit Unsettled) (f : ℕ) (l : Line) (second : Bool) (v : Verdict) (b : Bool) (image cells marks : List ℕ) (column : ℕ)
+  pub not-settled : (source : List ℕ) (r : Result Unit Unsettled) (f : Refusal) (l : Line) (second : Bool) (v : Verdict) (b : Bool) (image cells marks : List ℕ) (column : ℕ)
       (t : Told)
-      → r ≡ Err (record { number = f; line = l; second = second })
+      → r ≡ Err (record { refusal = f; line = l; second = second })
       → Settles v b image cells r
-      → column ≡ name_column (line_numbered source l.0) f second
-      → t ≡ refusal (f on l.0) column 0
+      → column ≡ name_column (line_numbered source l.0) (number f) second
+      → t ≡ refusal (number f on l.0) column 0
       → with t memory map ≡ outcome_by v (label_point_by source b v) image marks memory map
   not-settled source r f l second v b image cells marks column t e s h g =
       let x = subst (Settles v b image cells) e s in

@@ -2,6 +2,8 @@
 use Prim.Native.Nat.{ℕ}
 use mathlib.Core.List.{List}
 use mathlib.Core.Path.{◌≡◌, refl, sym, ap, ap₂, subst, ◌∙◌}
+use Rattle.codes.specs.declared.refusals.Refusal.{Refusal}
+use Rattle.codes.specs.Refusals.{number}
 use Rattle.columns.specs.Columns.{line_numbered, pointed}
 use Rattle.columns.specs.declared.Pointed.{Pointed}
 use Rattle.labels.specs.Inner.Labels.{labels_in}
@@ -64,13 +66,13 @@ module _ (M : ℕ) (s : List ℕ) where
 
   module _ (memory map : List ℕ) where
     -- a line is refused
-    pub not-walked : (r : Result Walked Stopped) (f : ℕ) (l : Line) (H : ℕ → ℕ → Type 0) (image marks : List ℕ) (t : Told) → r ≡ Err (InLine f l)
+    pub not-walked : (r : Result Walked Stopped) (f : Refusal) (l : Line) (H : ℕ → ℕ → Type 0) (image marks : List ℕ) (t : Told) → r ≡ Err (InLine f l)
         → Ends (lines_verdict M s) (end_of M s) H r
-        → t ≡ refusal_at (f on l.0) (pointed (line_numbered s l.0) f)
+        → t ≡ refusal_at (number f on l.0) (pointed (line_numbered s l.0) (number f))
         → with memory map t memory map ≡ outcome_by (source_verdict M s) (source_point M s) image marks memory map
     not-walked r f l H image marks t e h g =
-        let v : lines_verdict M s ≡ refused (f on l.0) = subst (Ends (lines_verdict M s) (end_of M s) H) e h in
-        refused_as memory map t f l (source_verdict M s) (source_point M s) image marks (g ∙ ap (refusal_at (f on l.0)) (sym (line_point v)))
+        let v : lines_verdict M s ≡ refused (number f on l.0) = subst (Ends (lines_verdict M s) (end_of M s) H) e h in
+        refused_as memory map t (number f) l (source_verdict M s) (source_point M s) image marks (g ∙ ap (refusal_at (number f on l.0)) (sym (line_point v)))
         (early-whole (walk_refused (lines_verdict M s) (end_of M s) H e h))
 
     -- the source's end is refused

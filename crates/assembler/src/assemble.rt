@@ -1,5 +1,6 @@
 // A source to memory and map. Nothing lent is written before acceptance is certain: cells and marks are made in rows of our own.
 ghost use Rattle.std.specs.Prelude.{◌≡◌, ◌≤◌, ◌<◌, length};
+ghost use Rattle.codes.specs.Refusals.{number};
 ghost use Rattle.codes.specs.Limits.{most_cells, longest_source};
 ghost use Rattle.columns.specs.Columns.{line_numbered, pointed};
 ghost use Rattle.labels.specs.Inner.Labels.{labels_in, Reach};
@@ -15,6 +16,7 @@ use super::Reply;
 use super::counting::counted;
 use codes::limits::{LONGEST_SOURCE, MOST_CELLS, MOST_LABELS};
 use codes::marks::{CODE, DATA, RESERVED};
+use codes::refusals::Refusal;
 use columns::Column;
 use columns::lines::{name_in, pointed_in};
 use labels::chains::KEY_CELLS;
@@ -24,11 +26,11 @@ use uses::keeping::{MOST_USES, ROW_CELLS};
 use walking::walk::walk;
 use walking::{Stopped, Walked};
 
-fn refused(number: u8, line: Line, column: Column, place: u8) -> Reply
-    ensures { told result ≡ refusal (number on line.0) column.0 place }
+fn refused(why: Refusal, line: Line, column: Column, place: u8) -> Reply
+    ensures { told result ≡ refusal (number why on line.0) column.0 place }
 {
     Reply {
-        refusal: number,
+        refusal: u8::from(why),
         line,
         column,
         place,
@@ -39,11 +41,11 @@ fn refused(number: u8, line: Line, column: Column, place: u8) -> Reply
 }
 
 // A line is refused: it is read once more, for where the refusal points.
-fn refused_line(s: &[u8], number: u8, line: Line) -> Reply
-    ensures { told result ≡ refusal_at (number on line.0) (pointed (line_numbered s.now line.0) number) }
+fn refused_line(s: &[u8], why: Refusal, line: Line) -> Reply
+    ensures { told result ≡ refusal_at (number why on line.0) (pointed (line_numbered s.now line.0) (number why)) }
 {
-    let p = pointed_in(s, line.0, number);
-    refused(number, line, p.column, p.place)
+    let p = pointed_in(s, line.0, u8::from(why));
+    refused(why, line, p.column, p.place)
 }
 
 // Acceptance: the whole memory and the whole map are rewritten.
@@ -95,8 +97,8 @@ fn settle_and_accept(
 {
     match settle(s, starts, keys, values, labels, row, aways, uses, cells) {
         Err(why) => {
-            let column = name_in(s, why.line.0, why.number, why.second);
-            refused(why.number, why.line, column, 0)
+            let column = name_in(s, why.line.0, u8::from(why.refusal), why.second);
+            refused(why.refusal, why.line, column, 0)
         }
         Ok(()) => accept(cells, marks, memory, map),
     }
@@ -122,8 +124,8 @@ fn assemble_over(
         ≡ outcome_of (length marks.old) s.now memory.old map.old }
 {
     match walk(s, starts, keys, values, marks, cells, row, aways) {
-        Err(Stopped::InLine(number, line)) => refused_line(s, number, line),
-        Err(Stopped::Late(line)) => refused(6, line, Column(0), 0),
+        Err(Stopped::InLine(why, line)) => refused_line(s, why, line),
+        Err(Stopped::Late(line)) => refused(Refusal::OutOfRange, line, Column(0), 0),
         Ok(Walked { labels, uses }) => settle_and_accept(
             s, starts, keys, values, labels, row, aways, uses, cells, marks, memory, map,
         ),
@@ -164,10 +166,10 @@ pub fn assemble(source: &[u8], memory: &mut [u16], map: &mut [u8]) -> Reply
 {
     let m = memory.len();
     if m == 0 || MOST_CELLS < m || map.len() != m {
-        return refused(1, Line(0), Column(0), 0);
+        return refused(Refusal::BadLoan, Line(0), Column(0), 0);
     }
     if LONGEST_SOURCE < source.len() {
-        return refused(2, Line(0), Column(0), 0);
+        return refused(Refusal::LongSource, Line(0), Column(0), 0);
     }
     assemble_lent(source, memory, map)
 }

@@ -2,6 +2,7 @@
 use Prim.Native.Nat.{ℕ, ◌+◌}
 use mathlib.Core.List.{List, append-nil}
 use mathlib.Core.Path.{◌≡◌, refl, sym, ap, subst, ◌∙◌}
+use Rattle.codes.specs.declared.refusals.Refusal.{Refusal}
 use Rattle.std.proofs.Common.{Option, Some, None, Result, Ok, Err}
 use Rattle.values.specs.declared.Name.{Name}
 use Rattle.statements.specs.Judging.{number_of}
@@ -19,12 +20,12 @@ use Rattle.placing.specs.declared.Counters.{Counters}
 -- ---- answers
 
 -- another verdict and place that are the same
-tells_as : (k : ℕ) {v w : Verdict} {p q : Place} (of : Counters → Place) (r : Result Counters ℕ) → w ≡ v → p ≡ q → Tells k v p of r → Tells k w q of r
+tells_as : (k : ℕ) {v w : Verdict} {p q : Place} (of : Counters → Place) (r : Result Counters Refusal) → w ≡ v → p ≡ q → Tells k v p of r → Tells k w q of r
 tells_as k of (Ok c) e f h = (e ∙ h.0, h.1 ∙ f)
 tells_as k of (Err n) e f h = e ∙ h
 
 -- an answer by its case
-pub tells_by : (k : ℕ) (v : Verdict) (p : Place) (of : Counters → Place) {r r' : Result Counters ℕ} → r ≡ r' → Tells k v p of r → Tells k v p of r'
+pub tells_by : (k : ℕ) (v : Verdict) (p : Place) (of : Counters → Place) {r r' : Result Counters Refusal} → r ≡ r' → Tells k v p of r → Tells k v p of r'
 tells_by k v p of e h = subst (Tells k v p of) e h
 
 -- ---- the statement's own refusal
@@ -33,7 +34,7 @@ pub own-fails : (k : ℕ) {s : Result Statement Failure} {why : Failure} {n : �
     → and_then (own_verdict k s) v ≡ refused (n on k)
 own-fails k v e f = ap (λ (x : Result Statement Failure). and_then (own_verdict k x) v) e ∙ ap (λ (m : ℕ). refused (m on k)) (sym f)
 
-pub own-passes : (M k : ℕ) (p : Place) (of : Counters → Place) {a : Act} {s : Result Statement Failure} {says : Statement} (r : Result Counters ℕ) → s ≡ Ok says
+pub own-passes : (M k : ℕ) (p : Place) (of : Counters → Place) {a : Act} {s : Result Statement Failure} {says : Statement} (r : Result Counters Refusal) → s ≡ Ok says
     → a ≡ does says
     → Tells k (act_verdict M k p a) (acted p a) of r
     → Tells k (and_then (own_verdict k s) (act_verdict M k p (does_read s))) (acted p (does_read s)) of r
@@ -56,7 +57,7 @@ module _ (M k : ℕ) (p : Place) (x : Judged) where
   unlabelled : labelled p x.bytes None ≡ p
   unlabelled = ap (λ (ws : List (List ℕ)). record { at = p.at; bound = p.bound; waiting = ws; marks = p.marks }) (append-nil p.waiting)
 
-  absent-line : (of : Counters → Place) (r : Result Counters ℕ) → x.read.label ≡ None
+  absent-line : (of : Counters → Place) (r : Result Counters Refusal) → x.read.label ≡ None
       → Tells k (rest p) (acted p (does_read x.read.statement)) of r
       → Tells k (line_verdict M k p x) (after p x) of r
   unfolding after
@@ -73,7 +74,7 @@ module _ (M k : ℕ) (p : Place) (x : Judged) where
       by_parts
       ∙ ap (λ (v : Verdict). and_then v (rest (labelled p x.bytes x.read.label))) (ap (label_verdict k p x.bytes) e ∙ h)
 
-  label-passes : {l : Option Name} (of : Counters → Place) (q : Place) (r : Result Counters ℕ) → x.read.label ≡ l → label_verdict k p x.bytes l ≡ passes
+  label-passes : {l : Option Name} (of : Counters → Place) (q : Place) (r : Result Counters Refusal) → x.read.label ≡ l → label_verdict k p x.bytes l ≡ passes
       → q ≡ labelled p x.bytes l
       → Tells k (rest q) (acted q (does_read x.read.statement)) of r
       → Tells k (line_verdict M k p x) (after p x) of r
@@ -87,14 +88,14 @@ module _ (M k : ℕ) (p : Place) (x : Judged) where
       (ap (λ (z : Place). acted z (does_read x.read.statement)) (sym g)) h
 
 -- the line as it was read
-pub as_read : (M k : ℕ) (p : Place) (bytes : List ℕ) {read read' : LineRead} (of : Counters → Place) (r : Result Counters ℕ) → read ≡ read'
+pub as_read : (M k : ℕ) (p : Place) (bytes : List ℕ) {read read' : LineRead} (of : Counters → Place) (r : Result Counters Refusal) → read ≡ read'
     → Tells k (line_verdict M k p (record { bytes = bytes; read = read })) (after p (record { bytes = bytes; read = read })) of r
     → Tells k (line_verdict M k p (record { bytes = bytes; read = read' })) (after p (record { bytes = bytes; read = read' })) of r
 as_read M k p bytes of r e h =
     subst (λ (a : LineRead). Tells k (line_verdict M k p (record { bytes = bytes; read = a })) (after p (record { bytes = bytes; read = a })) of r) e h
 
 -- the names stay where they are
-keeps_of : (s starts keys vs ms : List ℕ) (k : ℕ) (v : Verdict) (p : Place) (n : ℕ) (r : Result Counters ℕ) → Keeps n r
+keeps_of : (s starts keys vs ms : List ℕ) (k : ℕ) (v : Verdict) (p : Place) (n : ℕ) (r : Result Counters Refusal) → Keeps n r
     → Tells k v p (state_of (words s starts keys n) vs ms) r
     → Tells k v p (place_in s starts keys vs ms) r
 keeps_of s starts keys vs ms k v p n (Ok c) e h = (h.0, ap (λ (i : ℕ). state_of (words s starts keys i) vs ms c) e ∙ h.1)
@@ -113,7 +114,7 @@ module _ (M k : ℕ) (s starts keys starts' keys' vs ms vs' ms' bytes : List ℕ
   stated q = and_then (own_verdict k read.statement) (act_verdict M k q (does_read read.statement))
 
   -- without a label it is its statement
-  pub absent_placed : (r : Result Counters ℕ) → read.label ≡ None → Keeps (c.bound + c.waiting) r
+  pub absent_placed : (r : Result Counters Refusal) → read.label ≡ None → Keeps (c.bound + c.waiting) r
       → Tells k (stated before) (acted before (does_read read.statement)) (state_of (words s starts keys (c.bound + c.waiting)) vs' ms') r
       → Tells k (line_verdict M k before x) (after before x) (place_in s starts keys vs' ms') r
   absent_placed r e f h =
@@ -121,7 +122,7 @@ module _ (M k : ℕ) (s starts keys starts' keys' vs ms vs' ms' bytes : List ℕ
       (keeps_of s starts keys vs' ms' k (stated before) (acted before (does_read read.statement)) (c.bound + c.waiting) r f h)
 
   -- with a label that passes it is its statement, at the place with that label
-  pub named_placed : {n : Name} (d : Counters) (r : Result Counters ℕ) → read.label ≡ Some n
+  pub named_placed : {n : Name} (d : Counters) (r : Result Counters Refusal) → read.label ≡ Some n
       → Tells k (label_verdict k before bytes (Some n)) (labelled before bytes (Some n)) (place_in s starts' keys' vs ms) (Ok d)
       → Keeps (d.bound + d.waiting) r
       → Tells k (stated (place_in s starts' keys' vs ms d)) (acted (place_in s starts' keys' vs ms d) (does_read read.statement))

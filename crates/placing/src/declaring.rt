@@ -6,6 +6,7 @@ ghost use Rattle.placing.specs.Inner.State.{Fair, FairDid, TellsLabel, place_in}
 
 use super::Counters;
 use codes::limits::{LONGEST_LABEL, MOST_LABELS};
+use codes::refusals::Refusal;
 use labels::finding::find;
 use labels::holding::hold;
 use values::Name;
@@ -18,7 +19,7 @@ pub(crate) fn declare(
     keys: &mut [u16],
     c: Counters,
     n: Name,
-) -> Result<Counters, u8>
+) -> Result<Counters, Refusal>
     requires { Fair c
         × (length starts.old ≡ most_labels)
         × (length keys.old ≡ key_cells)
@@ -34,17 +35,17 @@ pub(crate) fn declare(
     let start = n.start;
     let size = n.end - start;
     if LONGEST_LABEL < size {
-        return Err(10);
+        return Err(Refusal::LabelPastLimits);
     }
     let at = c.at;
     let bound = c.bound;
     let waiting = c.waiting;
     let count = bound + waiting;
     if MOST_LABELS <= count {
-        return Err(10);
+        return Err(Refusal::LabelPastLimits);
     }
     if find(s, starts, keys, count, line, start, size) < count {
-        return Err(9);
+        return Err(Refusal::LabelAgain);
     }
     hold(
         starts,

@@ -8,6 +8,7 @@ ghost use Rattle.placing.specs.Inner.State.{place_in, Fair, FairDid, TellsLine};
 use super::Counters;
 use super::declaring::declare;
 use super::placing::place_statement;
+use codes::refusals::Refusal;
 use statements::LineRead;
 use values::Name;
 
@@ -22,7 +23,7 @@ fn place_named(
     values: &mut [u16],
     marks: &mut [u8],
     c: Counters,
-) -> Result<Counters, u8>
+) -> Result<Counters, Refusal>
     requires { Fair c
         × Rows starts.old keys.old values.old
         × (length marks.old ≤ most_cells)
@@ -50,7 +51,7 @@ pub fn place_line(
     values: &mut [u16],
     marks: &mut [u8],
     c: Counters,
-) -> Result<Counters, u8>
+) -> Result<Counters, Refusal>
     requires { Fair c
         × Rows starts.old keys.old values.old
         × (length marks.old ≤ most_cells)

@@ -10,9 +10,9 @@ use super::acts::act;
 use super::claims::{is_taken, paint};
 use super::naming::bind_by;
 use codes::limits::MOST_CELLS;
+use codes::refusals::Refusal;
 use isa::Address;
 use sources::{Act, Gives, Moves};
-use statements::refusals::number_of;
 use statements::{Failure, Statement};
 
 // A label that waits would get 65,536.
@@ -50,7 +50,7 @@ fn moved(m: Moves, at: usize) -> usize
     }
 }
 
-fn place(values: &mut [u16], marks: &mut [u8], c: Counters, a: Act) -> Result<Counters, u8>
+fn place(values: &mut [u16], marks: &mut [u8], c: Counters, a: Act) -> Result<Counters, Refusal>
     requires { Fair c × (length values.old ≡ most_labels) × (length marks.old ≤ most_cells) × Sound a.moves a.claims }
     ensures { FairDid result
         × Keeps (c.bound + c.waiting) result
@@ -63,16 +63,16 @@ fn place(values: &mut [u16], marks: &mut [u8], c: Counters, a: Act) -> Result<Co
     let n = a.claims;
     let mark = a.mark;
     if label_out(gives, c.waiting, at) {
-        return Err(6);
+        return Err(Refusal::OutOfRange);
     }
     if reserves_out(moves, at) {
-        return Err(6);
+        return Err(Refusal::OutOfRange);
     }
     if is_past(marks.len(), at, n) {
-        return Err(11);
+        return Err(Refusal::PastMemory);
     }
     if is_taken(marks, at, n) {
-        return Err(12);
+        return Err(Refusal::ClaimedTwice);
     }
     paint(marks, at, n, mark);
     let d = bind_by(values, c, gives);
@@ -91,13 +91,13 @@ pub(crate) fn place_statement(
     marks: &mut [u8],
     c: Counters,
     s: Result<Statement, Failure>,
-) -> Result<Counters, u8>
+) -> Result<Counters, Refusal>
     requires { Fair c × (length values.old ≡ most_labels) × (length marks.old ≤ most_cells) }
     ensures { FairDid result
         × Keeps (c.bound + c.waiting) result
         × ((k : ℕ) → WithNames c (λ ws. TellsStatement (length marks.old) s
         (state_of ws values.old marks.old c) (state_of ws values.new marks.new) k result)) }
 {
-    let says = s.map_err(number_of)?;
+    let says = s?;
     place(values, marks, c, act(says))
 }

@@ -8,6 +8,9 @@ use native.Mathlib.Numerals.{add-one}
 use lib.Dec.{eqb}
 use lib.ListN.{length, get_or, set}
 use borrow.Author.Tests.{eq-eqb, ne_eqb, lt-ltb, le-ltb}
+use Rattle.codes.specs.declared.refusals.Refusal.TheVariants.{UnknownLabel, FarLabel}
+use Rattle.codes.specs.Refusals.{number}
+use Rattle.codes.specs.declared.refusals.Refusal.{Refusal}
 use Rattle.names.specs.Names.{same}
 use Rattle.sources.specs.Placing.{Bound}
 use Rattle.sources.specs.Uses.{Value, known, unknown, value_of, from, Use, counted_word}
@@ -108,12 +111,12 @@ module _ (bs : List Bound) (s : List ℕ) (start size cell away : ℕ) where
   abbrev value : Value
   value = value_of bs (window s start size)
 
-  abbrev Told : Result ℕ ℕ → Type 0
+  abbrev Told : Result ℕ Refusal → Type 0
   Told r = Tells (λ k. use_verdict bs (held k)) (counted_word (counted_by cell away) value) r
 
   -- no label has the name
-  pub tells_none : (f : ℕ) → value ≡ unknown → f ≡ 13 → Told (Err f)
-  tells_none f e g = λ k. none_such bs (held k) e ∙ ap (λ (x : ℕ). refused (x on k)) (sym g)
+  pub tells_none : (f : Refusal) → value ≡ unknown → f ≡ UnknownLabel → Told (Err f)
+  tells_none f e g = λ k. none_such bs (held k) e ∙ ap (λ (x : Refusal). refused (number x on k)) (sym g)
 
   -- the value stands as it is
   pub tells-plain : (v : ℕ) → value ≡ known v → away ≡ 0 → Told (Ok v)
@@ -122,13 +125,13 @@ module _ (bs : List Bound) (s : List ℕ) (start size cell away : ℕ) where
       ((λ k. fits bs (held k) v e (rw p)), rw (p, e))
 
   -- the value is counted from the address after the instruction
-  pub tells-far : (v : ℕ) → value ≡ known v → (away ≡ 0 → ⊥) → (r : Result ℕ ℕ) → Reaches v (cell + away) r → Told r
+  pub tells-far : (v : ℕ) → value ≡ known v → (away ≡ 0 → ⊥) → (r : Result ℕ Refusal) → Reaches v (cell + away) r → Told r
   tells-far v e h (Ok x) (t, g) =
       let p = ne_eqb away 0 h in
       ((λ k. fits bs (held k) v e (rw p t)), rw (p, e) g)
   tells-far v e h (Err f) (t, g) =
       let p = ne_eqb away 0 h in
-      λ k. too_far_lem bs (held k) v e (rw p t) ∙ ap (λ (x : ℕ). refused (x on k)) (sym g)
+      λ k. too_far_lem bs (held k) v e (rw p t) ∙ ap (λ (x : Refusal). refused (number x on k)) (sym g)
 
 -- ---- one label more
 
@@ -189,7 +192,7 @@ module _ (bs : List Bound) (s row aways : List ℕ) (i : ℕ) where
   settles n = uses_verdict bs (uses_held s row aways n)
 
   -- what its word, found, says
-  abbrev Said : Result ℕ ℕ → Type 0
+  abbrev Said : Result ℕ Refusal → Type 0
   Said r = Told bs s (get_or row (4 * i) 0) (get_or row (4 * i + 1) 0) use'.cell (get_or aways i 0) r
 
   -- what holds of the labels up to it, whatever comes behind it, holds of the labels up to any one behind it
@@ -206,11 +209,11 @@ module _ (bs : List Bound) (s row aways : List ℕ) (i : ℕ) where
       (whatever_behind (λ us. P (us ++ last)) (λ vs. subst P (sym (append_assoc (uses_held s row aways i) (use' ∷ vs) last)) (h (vs ++ last))) n)
 
   -- its refusal is that of all of them
-  pub all-refused : (n f before : ℕ) (r : Result ℕ ℕ) → i < n → settles i ≡ passes → Second bs s row aways i before → Said r → r ≡ Err f
-      → (settles n ≡ refused (f on use'.line)) × (eqb use'.line before ≡ second_refused 0 bs (uses_held s row aways n))
+  pub all-refused : (n : ℕ) (f : Refusal) (before : ℕ) (r : Result ℕ Refusal) → i < n → settles i ≡ passes → Second bs s row aways i before → Said r → r ≡ Err f
+      → (settles n ≡ refused (number f on use'.line)) × (eqb use'.line before ≡ second_refused 0 bs (uses_held s row aways n))
   all-refused n f before r h e b g k =
       let q : suc (i + (n - suc i)) ≡ n = omega (arith, h) in
-      let why = f on use'.line in
+      let why = number f on use'.line in
       let t = subst Said k g use'.line in
       let Refused : List Use → Type 0 = λ us. (uses_verdict bs us ≡ refused why) × (eqb use'.line before ≡ second_refused 0 bs us) in
       subst (λ (m : ℕ). Refused (uses_held s row aways m)) q
@@ -221,7 +224,7 @@ module _ (bs : List Bound) (s row aways : List ℕ) (i : ℕ) where
       ))
       (n - suc i))
 
-  module _ (x : ℕ) (r : Result ℕ ℕ) (g : Said r) (k : r ≡ Ok x) where
+  module _ (x : ℕ) (r : Result ℕ Refusal) (g : Said r) (k : r ≡ Ok x) where
     one-fits : use_verdict bs use' ≡ passes
     one-fits = (subst Said k g).0 use'.line
 

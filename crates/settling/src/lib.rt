@@ -2,6 +2,7 @@
 // together, by line, then operand"). The meaning is `usesVerdict` and `filled` of sources.
 #![tactic(auto)]
 
+use codes::refusals::Refusal;
 use sources::Line;
 
 pub mod settle; // all of them, in order
@@ -10,7 +11,7 @@ mod words; // the word that a label stands for
 // The first refusal, with its line, and whether the label is the second that this line names.
 #[derive(Clone, Copy, Debug, PartialEq, Eq)]
 pub struct Unsettled {
-    pub number: u8,
+    pub refusal: Refusal,
     pub line: Line,
     pub second: bool,
 }

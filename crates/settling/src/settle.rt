@@ -33,8 +33,8 @@ pub fn settle(
         let line = row[base + 3] as usize;
         let away = aways[i] as usize;
         let found = word(s, starts, keys, values, count, start, size, cell, away);
-        let w = found.map_err(|number| Unsettled {
-            number,
+        let w = found.map_err(|refusal| Unsettled {
+            refusal,
             line: Line(line),
             second: line == before,
         })?;

@@ -5,6 +5,7 @@ ghost use Rattle.labels.specs.Inner.Labels.{window, labels_in, Reach, farthest, 
 ghost use Rattle.sources.specs.Uses.{value_of};
 ghost use Rattle.settling.specs.Inner.Settling.{Finds, Reaches, TellsUse};
 
+use codes::refusals::Refusal;
 use labels::finding::find;
 
 // A name's value among the labels.
@@ -16,7 +17,7 @@ fn look_up(
     count: usize,
     start: usize,
     size: usize,
-) -> Result<u16, u8>
+) -> Result<u16, Refusal>
     requires { (start < farthest) × InCell size × Reach count starts.now keys.now values.now }
     ensures { Finds (value_of (labels_in s.now starts.now keys.now values.now count) (window s.now start size)) result }
 {
@@ -24,17 +25,17 @@ fn look_up(
     if k < count {
         return Ok(values[k]);
     }
-    Err(13)
+    Err(Refusal::UnknownLabel)
 }
 
 // A value less the address after the instruction, if it lies from -32768 to 32767.
-fn distance(value: u16, next: usize) -> Result<u16, u8>
+fn distance(value: u16, next: usize) -> Result<u16, Refusal>
     requires { next ≤ most_cells + 254 }
     ensures { Reaches value next result }
 {
     let v = value as usize;
     if v + 32768 < next || next + 32767 < v {
-        return Err(14);
+        return Err(Refusal::FarLabel);
     }
     Ok(((v + 65536 - next) % 65536) as u16)
 }
@@ -50,7 +51,7 @@ pub(crate) fn word(
     size: usize,
     cell: usize,
     away: usize,
-) -> Result<u16, u8>
+) -> Result<u16, Refusal>
     requires { (start < farthest) × InCell size × Reach count starts.now keys.now values.now × InCell cell × (away < 256) }
     ensures { TellsUse (labels_in s.now starts.now keys.now values.now count) s.now start size cell away result }
 {

@@ -1,8 +1,10 @@
 // The check that a part of the line fails, and the paper's number of it (specs/Judging.antt).
 ghost use Rattle.std.specs.Prelude.{◌≡◌};
+ghost use Rattle.codes.specs.Refusals.{number};
 ghost use Rattle.statements.specs.Judging.{operands_failure, worth_failure, form_failure, items_failure, number_of};
 
 use super::Failure;
+use codes::refusals::Refusal;
 use expressions::{Fault, Malformed};
 use items::ItemsFault;
 use operands::OperandsFault;
@@ -53,19 +55,18 @@ impl From<ItemsFault> for Failure {
     }
 }
 
-impl From<Failure> for u8 {
-    ghost from_gives = { λ f k. k ≡ number_of f };
+impl From<Failure> for Refusal {
+    ghost from_gives = { λ f r. number r ≡ number_of f };
 
-    fn from(f: Failure) -> u8 {
+    fn from(f: Failure) -> Refusal {
         match f {
-            Failure::UnknownWord => 4,
-            Failure::WrongForm => 3,
-            Failure::WrongCount => 15,
-            Failure::WrongKind(_) => 16,
-            Failure::TooDeep => 8,
-            Failure::OutOfRange => 6,
-            Failure::ByZero => 7,
-            Failure::ResultOut => 6,
+            Failure::UnknownWord => Refusal::UnknownWord,
+            Failure::WrongForm => Refusal::WrongForm,
+            Failure::WrongCount => Refusal::WrongCount,
+            Failure::WrongKind(_) => Refusal::WrongKind,
+            Failure::TooDeep => Refusal::TooDeep,
+            Failure::OutOfRange | Failure::ResultOut => Refusal::OutOfRange,
+            Failure::ByZero => Refusal::ByZero,
         }
     }
 }
@@ -74,5 +75,5 @@ impl From<Failure> for u8 {
 pub fn number_of(f: Failure) -> u8
     ensures { result ≡ number_of f }
 {
-    u8::from(f)
+    u8::from(Refusal::from(f))
 }

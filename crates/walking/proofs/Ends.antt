@@ -7,6 +7,8 @@ use native.Mathlib.Omega.{arith}
 use lib.Dec.{ltb, leb}
 use lib.ListN.{length, drop, length-drop}
 use lib.Seq.{take_all}
+use Rattle.codes.specs.declared.refusals.Refusal.{Refusal}
+use Rattle.codes.specs.Refusals.{number}
 use Rattle.codes.specs.Limits.{most_cells}
 use Rattle.sources.specs.Placing.{Place, bound_to, bound_all, bindings}
 use Rattle.sources.specs.Order.{◌on◌}
@@ -97,7 +99,7 @@ module _ (s starts keys vs ms memory row aways : List ℕ) (v : Verdict) (w : Wo
 
 -- what the walk answers, of the verdict on lines and end together
 module _ (v e : Verdict) (H : ℕ → ℕ → Type 0) {r : Result Walked Stopped} where
-  pub walk_refused : {f : ℕ} {l : Line} → r ≡ Err (InLine f l) → Ends v e H r → and_then v e ≡ refused (f on l.0)
+  pub walk_refused : {f : Refusal} {l : Line} → r ≡ Err (InLine f l) → Ends v e H r → and_then v e ≡ refused (number f on l.0)
   walk_refused q h = ap (λ (x : Verdict). and_then x e) (subst (Ends v e H) q h)
 
   pub walk-late : {l : Line} → r ≡ Err (Late l) → Ends v e H r → and_then v e ≡ refused (6 on l.0)

@@ -2,6 +2,7 @@
 // the labels that its operands name are kept. The meaning is `walkLines` and `workAfter` of sources.
 #![tactic(auto)]
 
+use codes::refusals::Refusal;
 use placing::Counters;
 use sources::Line;
 
@@ -16,10 +17,10 @@ pub struct Walked {
     pub uses: usize,
 }
 
-// The first refusal: of a line, by its number, or of the source's end, with the last line.
+// The first refusal: of a line, or of the source's end, with the last line.
 #[derive(Clone, Copy, Debug, PartialEq, Eq)]
 pub enum Stopped {
-    InLine(u8, Line),
+    InLine(Refusal, Line),
     Late(Line),
 }
 

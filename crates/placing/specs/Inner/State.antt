@@ -1,6 +1,8 @@
 -- What counters and lent rows stand for, as a place (sources/specs/Placing.antt); and what an answer says.
 use Rattle.std.specs.Prelude.{ℕ, ◌+◌, ◌≤◌, ◌<◌, Bool, ◌&&◌, List, ◌≡◌, ltb, length, take, drop}
 use Rattle.labels.specs.Inner.Labels.{words, zipped}
+use Rattle.codes.specs.Refusals.{number}
+use Rattle.codes.specs.declared.refusals.Refusal.{Refusal}
 use Rattle.codes.specs.Limits.{most_cells, most_labels}
 use Rattle.std.specs.Prelude.{Some, Result, Ok, Err}
 use Rattle.statements.specs.declared.Statement.{Statement}
@@ -28,38 +30,38 @@ pub record Fair (c : Counters) : Type 0 where
   pub low : c.at.0 ≤ most_cells
   pub few : c.bound + c.waiting ≤ most_labels
 
-abbrev pub FairDid : Result Counters ℕ → Type 0
+abbrev pub FairDid : Result Counters Refusal → Type 0
 FairDid (Ok c) = Fair c
 FairDid (Err f) = Unit {0}
 
 -- as many labels as before
-abbrev pub Keeps : ℕ → Result Counters ℕ → Type 0
+abbrev pub Keeps : ℕ → Result Counters Refusal → Type 0
 Keeps n (Ok c) = c.bound + c.waiting ≡ n
 Keeps n (Err f) = Unit {0}
 
 -- an answer tells a verdict on the k-th line and the place after it; `of` gives the place that counters stand for
-abbrev pub Tells : ℕ → Verdict → Place → (Counters → Place) → Result Counters ℕ → Type 0
+abbrev pub Tells : ℕ → Verdict → Place → (Counters → Place) → Result Counters Refusal → Type 0
 Tells k v p of (Ok c) = (v ≡ passes) × (of c ≡ p)
-Tells k v p of (Err f) = v ≡ refused (f on k)
+Tells k v p of (Err f) = v ≡ refused (number f on k)
 
 -- whatever names the labels have, as many as the counters say
 abbrev pub WithNames : Counters → (List (List ℕ) → Type 0) → Type 0
 WithNames c P = (ws : List (List ℕ)) → length ws ≡ c.bound + c.waiting → P ws
 
 -- it tells of an act, at a place with so many cells
-abbrev pub TellsAct : ℕ → Act → Place → (Counters → Place) → ℕ → Result Counters ℕ → Type 0
+abbrev pub TellsAct : ℕ → Act → Place → (Counters → Place) → ℕ → Result Counters Refusal → Type 0
 TellsAct M a p of k r = Tells k (act_verdict M k p a) (acted p a) of r
 
 -- of a statement: its own refusal, then its act
-abbrev pub TellsStatement : ℕ → Result Statement Failure → Place → (Counters → Place) → ℕ → Result Counters ℕ → Type 0
+abbrev pub TellsStatement : ℕ → Result Statement Failure → Place → (Counters → Place) → ℕ → Result Counters Refusal → Type 0
 TellsStatement M s p of k r = Tells k (and_then (own_verdict k s) (act_verdict M k p (does_read s))) (acted p (does_read s)) of r
 
 -- of a line's own label
-abbrev pub TellsLabel : List ℕ → Name → Place → (Counters → Place) → ℕ → Result Counters ℕ → Type 0
+abbrev pub TellsLabel : List ℕ → Name → Place → (Counters → Place) → ℕ → Result Counters Refusal → Type 0
 TellsLabel line n p of k r = Tells k (label_verdict k p line (Some n)) (labelled p line (Some n)) of r
 
 -- of a whole line
-abbrev pub TellsLine : ℕ → List ℕ → Place → (Counters → Place) → ℕ → Result Counters ℕ → Type 0
+abbrev pub TellsLine : ℕ → List ℕ → Place → (Counters → Place) → ℕ → Result Counters Refusal → Type 0
 TellsLine M line p of k r = Tells k (line_verdict M k p (read_line line)) (after p (read_line line)) of r
 
 -- counters after labels have been bound: at the same address, as many labels, and the place is the earlier one, bound so

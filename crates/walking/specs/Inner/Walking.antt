@@ -1,5 +1,6 @@
 -- What the rows stand for, and what the walk answers.
 use Rattle.std.specs.Prelude.{ℕ, ◌≤◌, ◌<◌, List, ◌≡◌, length, replicate}
+use Rattle.codes.specs.Refusals.{number}
 use Rattle.codes.specs.Limits.{most_cells, longest_source, most_labels}
 use Rattle.codes.specs.Marks.{free}
 use Rattle.labels.specs.Inner.Labels.{labels_in, Rows}
@@ -32,7 +33,7 @@ work_in s starts keys vs ms cells row aways c uses =
 -- the lines pass and the work has come to this, with so many lines; or the verdict
 abbrev pub Says : Verdict → Work → ℕ → (Counters → ℕ → Work) → Result Lines Stopped → Type 0
 Says v w n of (Ok r) = (v ≡ passes) × (of r.counters r.uses ≡ w) × (r.last.0 ≡ n) × Fair r.counters × (r.uses < most_uses)
-Says v w n of (Err (InLine f l)) = v ≡ refused (f on l.0)
+Says v w n of (Err (InLine f l)) = v ≡ refused (number f on l.0)
 Says v w n of (Err (Late l)) = ⊥
 
 -- of a source's lines up to END, over so many cells
@@ -52,7 +53,7 @@ pub record Holds (s starts keys vs ms memory row aways : List ℕ) (w : Work) (l
 -- is ("65,536 is 6 .., or the last line for labels bound at the source's end")
 abbrev pub Ends : Verdict → Verdict → (ℕ → ℕ → Type 0) → Result Walked Stopped → Type 0
 Ends v e held (Ok r) = (and_then v e ≡ passes) × held r.labels r.uses
-Ends v e held (Err (InLine f l)) = v ≡ refused (f on l.0)
+Ends v e held (Err (InLine f l)) = v ≡ refused (number f on l.0)
 Ends v e held (Err (Late l)) = (v ≡ passes) × (e ≡ refused (6 on l.0))
 
 -- the verdict on a source's end

@@ -17,7 +17,7 @@ returns-in-Err-InLine c =
     let held =
     Holds s w.new.starts w.new.keys w.new.values w.new.marks w.new.cells
     w.new.row w.new.aways (work_of M s) in
-    not-walked M s a.memory.now a.map.now w.result c.in-Err-InLine.number c.in-Err-InLine.line held (memory_of (work_of M s)) (work_of M s).place.marks _
+    not-walked M s a.memory.now a.map.now w.result c.in-Err-InLine.why c.in-Err-InLine.line held (memory_of (work_of M s)) (work_of M s).place.marks _
     (c.in-Err-InLine.is ∙ ap Err c.in-Err-InLine.field-0-is) w.ensures c.refused_line.ensures
 
 -- the source's end is

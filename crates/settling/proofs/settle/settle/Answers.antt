@@ -24,7 +24,7 @@ returns-in_err-w c =
     let w = c.word-found in
     let line = get_or a.row.now (4 * c.loop-i.i + 3) 0 in
     let f = mapped-err w.result _ c.map_err.ensures.cases c.in_err-w.was in
-    let told : c.in_err-w.field-0.0 ≡ record { number = f.0; line = record { 0 = line }; second = eqb line c.loop-i.before } = search (rules, f.2) in
+    let told : c.in_err-w.field-0.0 ≡ record { refusal = f.0; line = record { 0 = line }; second = eqb line c.loop-i.before } = search (rules, f.2) in
     let r = err_from_is_err_and c.from_residual.result c.from_residual.ensures.1 in
     rw (r.1, r.2, told) (all-refused bs a.s.now a.row.now a.aways.now c.loop-i.i a.uses f.0 c.loop-i.before w.result
     c.loop-i-test.true c.loop-i.invariant.1 c.loop-i.invariant.4 w.ensures f.1)
