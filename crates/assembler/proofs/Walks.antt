@@ -2,7 +2,7 @@
 use Prim.Native.Nat.{ℕ}
 use mathlib.Core.List.{List}
 use mathlib.Core.Path.{◌≡◌, refl, sym, ap, ap₂, subst, ◌∙◌}
-use Rattle.codes.specs.declared.refusals.Refusal.{Refusal}
+use Rattle.codes.specs.declared.refusals.Refusal.{Refusal as Why}
 use Rattle.codes.specs.Refusals.{number}
 use Rattle.columns.specs.Columns.{line_numbered, pointed}
 use Rattle.columns.specs.declared.Pointed.{Pointed}
@@ -66,7 +66,7 @@ module _ (M : ℕ) (s : List ℕ) where
 
   module _ (memory map : List ℕ) where
     -- a line is refused
-    pub not-walked : (r : Result Walked Stopped) (f : Refusal) (l : Line) (H : ℕ → ℕ → Type 0) (image marks : List ℕ) (t : Told) → r ≡ Err (InLine f l)
+    pub not-walked : (r : Result Walked Stopped) (f : Why) (l : Line) (H : ℕ → ℕ → Type 0) (image marks : List ℕ) (t : Told) → r ≡ Err (InLine f l)
         → Ends (lines_verdict M s) (end_of M s) H r
         → t ≡ refusal_at (number f on l.0) (pointed (line_numbered s l.0) (number f))
         → with memory map t memory map ≡ outcome_by (source_verdict M s) (source_point M s) image marks memory map

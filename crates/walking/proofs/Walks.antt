@@ -7,7 +7,7 @@ use native.Mathlib.Omega.{arith}
 use lib.ListN.{length, take, drop, replicate, length-drop, length-take}
 use lib.Seq.{sets}
 use Rattle.codes.specs.Refusals.{number as code}
-use Rattle.codes.specs.declared.refusals.Refusal.{Refusal}
+use Rattle.codes.specs.declared.refusals.Refusal.{Refusal as Why}
 use Rattle.codes.specs.Limits.{most_cells, longest_source, most_labels}
 use Rattle.tokens.specs.Reading.{line_length}
 use Rattle.tokens.proofs.Top.{line-within}
@@ -241,7 +241,7 @@ module _ (M : ℕ) (s starts keys values marks cells row aways : List ℕ) (long
     line = take (end - from) (drop from s)
 
     -- what `place_line` tells of the line
-    abbrev Told : (Counters → Place) → Result Counters Refusal → Type 0
+    abbrev Told : (Counters → Place) → Result Counters Why → Type 0
     Told of r =
         Tells (number + 1) (line_verdict (length marks) (number + 1) now.place (read_line line)) (after now.place (read_line line)) of r
 
@@ -249,7 +249,7 @@ module _ (M : ℕ) (s starts keys values marks cells row aways : List ℕ) (long
     line-fits k = let g = end-within s from e h in omega (arith, line-long s from end (omega (arith, e)) g, g, k)
 
     -- the line fails
-    pub turn-stops : (of : Counters → Place) {r : Result Counters Refusal} {f : Refusal} → r ≡ Err f → Told of r → walk_lines M 1 (start M) (lines_from s 0) ≡ refused (code f on (number + 1))
+    pub turn-stops : (of : Counters → Place) {r : Result Counters Why} {f : Why} → r ≡ Err f → Told of r → walk_lines M 1 (start M) (lines_from s 0) ≡ refused (code f on (number + 1))
     unfolding start_work
     turn-stops of {f = f} q t =
         inv.left.verdict
@@ -257,7 +257,7 @@ module _ (M : ℕ) (s starts keys values marks cells row aways : List ℕ) (long
         (subst (λ (m : ℕ). line_verdict m (number + 1) now.place (read_line line) ≡ refused (code f on (number + 1))) inv.marks-long (subst (Told of) q t))
 
     -- the line passes
-    module _ (of : Counters → Place) {r : Result Counters Refusal} {d : Counters} (q : r ≡ Ok d) (t : Told of r) where
+    module _ (of : Counters → Place) {r : Result Counters Why} {d : Counters} (q : r ≡ Ok d) (t : Told of r) where
       line-passes : line_verdict M (number + 1) now.place (read_line line) ≡ passes
       line-passes = subst (λ (m : ℕ). line_verdict m (number + 1) now.place (read_line line) ≡ passes) inv.marks-long (subst (Told of) q t).0
 
