@@ -11,8 +11,6 @@ use Rattle.std.specs.Prelude.{Option, Some, None, Result, Ok, Err}
 use Rattle.numerals.specs.Reading.{upto}
 use Rattle.numerals.specs.declared.Read.{Read}
 use Rattle.items.specs.declared.Measure.{Measure}
-use Rattle.values.specs.declared.Value.{Value}
-use Rattle.items.specs.declared.Measure.{Measure}
 use Rattle.items.specs.declared.ItemsFault.{ItemsFault}
 use Rattle.items.specs.declared.ItemsFault.TheVariants.{WrongForm, OutOfRange}
 use Rattle.items.specs.Items.{Item, number, item_cells, item_in_range, cells_of, all_in_range}
