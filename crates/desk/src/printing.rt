@@ -1,5 +1,5 @@
 // Text in a room, and a failure told.
-ghost use Rattle.std.specs.Prelude.{◌≡◌, List, ℕ, ◌++◌, OnOk};
+ghost use Rattle.std.specs.Prelude.{◌≡◌, List, ℕ, OnOk};
 ghost use Rattle.std.specs.Io.KnownBytes.{Appends};
 ghost use Rattle.ports.specs.Output.{text_put};
 ghost use Rattle.desk.specs.Putting.{PutSo};

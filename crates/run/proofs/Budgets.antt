@@ -1,16 +1,16 @@
--- One law for each way out of reading BUDGET, for each turn, and for each way to call the program.
+-- One law for each way out of reading BUDGET, and for each turn.
 use mathlib.Core.Path.{◌≡◌, refl}
 use mathlib.Core.Bool.{Bool, true, false, cond, ◌&&◌}
 use mathlib.Core.List.{List, [], ◌∷◌}
 use Prim.Native.Nat.{ℕ, ◌+◌, ◌*◌, ◌≤◌, ◌<◌}
 use native.Mathlib.Numerals.{add-one}
 use native.Mathlib.Omega.{arith}
-use borrow.Author.Tests.{eq-eqb, ne_eqb, lt-ltb, le-ltb, le-leb, lt-leb}
+use borrow.Author.Tests.{lt-ltb, le-ltb, le-leb, lt-leb}
 use lib.ListN.{length, get_or, drop, drop_of_length-le}
 use lib.Seq.{drop-cons}
 use Rattle.numerals.specs.Bytes.{rank}
 use Rattle.numerals.specs.Digits.{all_below, worth_after}
-use Rattle.run.specs.Budgets.{budget_after, budget_of, usual_budget, budget_asked}
+use Rattle.run.specs.Budgets.{budget_after, budget_of}
 use Rattle.std.proofs.Common.{Some, None}
 
 pub budget_none : (word : List ℕ) → length word ≡ 0 → None ≡ budget_of word
@@ -52,16 +52,3 @@ budget_large steps digits h =
 pub budget_end : (word : List ℕ) (i steps : ℕ) → length word ≤ i → steps ≤ 1000000 → budget_after steps (drop i word) ≡ Some steps
 unfolding budget_after worth_after
 budget_end word i steps h l = rw (drop_of_length-le word h, le-leb steps 1000000 l)
-
-module _ (words : ℕ) (third : List ℕ) where
-  pub asked-usual : words ≡ 3 → Some usual_budget ≡ budget_asked words third
-  unfolding budget_asked
-  asked-usual e = rw (eq-eqb words 3 e)
-
-  pub asked-named : (words ≡ 3 → ⊥) → words ≡ 4 → budget_of third ≡ budget_asked words third
-  unfolding budget_asked
-  asked-named d e = rw (ne_eqb words 3 d, eq-eqb words 4 e)
-
-  pub asked-other : (words ≡ 3 → ⊥) → (words ≡ 4 → ⊥) → None ≡ budget_asked words third
-  unfolding budget_asked
-  asked-other d e = rw (ne_eqb words 3 d, ne_eqb words 4 e)
