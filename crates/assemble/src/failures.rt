@@ -1,5 +1,5 @@
 // Why the program has no answer.
-use desk::printing::fail;
+use desk::printing::tell_failure;
 use image::NotPrinted;
 use std::io;
 use std::io::Write;
@@ -29,7 +29,7 @@ impl From<NotPrinted> for Failure<'static> {
 pub(crate) fn tell(errors: &mut impl Write, failure: Failure<'_>) -> io::Result<()> {
     match failure {
         Failure::Usage => errors.write_all(b"usage: assemble FILE M\n"),
-        Failure::System(what, error) => fail(errors, what, &error),
+        Failure::System(what, error) => tell_failure(errors, what, &error),
         Failure::NoImage => errors.write_all(b"assemble: the image cannot be printed\n"),
     }
 }

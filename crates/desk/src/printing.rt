@@ -26,7 +26,7 @@ fn unnumbered(sentence: &str) -> &str {
 }
 
 // Tells on standard error what failed, and why, in the system's words.
-pub fn fail<E: Write>(errors: &mut E, what: &[u8], error: &io::Error) -> io::Result<()>
+pub fn tell_failure<E: Write>(errors: &mut E, what: &[u8], error: &io::Error) -> io::Result<()>
     ensures { OnOk result ((why : List ℕ) × Appends (E.contents errors.old) (E.contents errors.new) (failure_text what.now why)) }
 {
     let told = InlineText::<256>::of(error);

@@ -121,7 +121,7 @@ fn line_shown(room: &mut [u8], source: &[u8], refusal: Refusal) -> usize
 
 // What is told of a refusal; the sentence and the line only where the three lines could be written. What becomes of them is the operating
 // system's.
-pub fn print_refusal<O: Write, E: Write>(
+pub fn tell_refusal<O: Write, E: Write>(
     output: &mut O,
     errors: &mut E,
     source: Source<'_>,

@@ -1,5 +1,5 @@
 // Why there is no run, or no record of it.
-use desk::printing::fail;
+use desk::printing::tell_failure;
 use record::NotRecorded;
 use std::io;
 use std::io::Write;
@@ -32,7 +32,7 @@ pub(crate) fn tell(errors: &mut impl Write, failure: Failure<'_>) -> io::Result<
         Failure::Usage => {
             errors.write_all(b"usage: run FILE M [BUDGET]     BUDGET: 0 to 1000000, else 10000\n")
         }
-        Failure::System(what, error) => fail(errors, what, &error),
+        Failure::System(what, error) => tell_failure(errors, what, &error),
         Failure::InputTooLong => errors.write_all(b"run: an input of more than 65536 bytes\n"),
         Failure::NoRecord => errors.write_all(b"run: the record cannot be printed\n"),
     }

@@ -12,12 +12,12 @@ ghost use Rattle.std.specs.Prelude.{◌≤◌};
 ghost use Rattle.desk.specs.Sizes.{largest_m};
 
 use desk::arguments::{LARGEST_M, LONGEST_PATH};
-use desk::refusals::{Refusal, Source, WRONG_M, print_refusal};
+use desk::refusals::{Refusal, Source, WRONG_M, tell_refusal};
 use desk::source;
 use failures::Failure;
 
 fn refuse(rt: &HostRuntime, source: Source<'_>, refusal: Refusal) -> Result<(), Failure<'static>> {
-    print_refusal(&mut rt.stdout(), &mut rt.stderr(), source, refusal)?;
+    tell_refusal(&mut rt.stdout(), &mut rt.stderr(), source, refusal)?;
     Ok(())
 }
 

@@ -1,7 +1,7 @@
 -- Each piece behind those before it (`failure-told`).
 use Rattle.std.proofs.lemmas.Result.{on_ok_weaker}
 use Rattle.desk.proofs.Failures.{failure-told}
-use Rattle.desk.proofs.printing.fail.Goals as goal
+use Rattle.desk.proofs.printing.tell_failure.Goals as goal
 
 pub returns : goal.returns
 returns g c =
