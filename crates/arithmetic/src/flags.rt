@@ -22,8 +22,5 @@ pub(crate) fn outcome_of(res: u16, carry: bool, overflow: bool) -> Outcome
         + bit_of(overflow) * FOR_V
         + bit_of(odd == 1) * FOR_P
         + bit_of(32768 <= res) * FOR_S;
-    Outcome {
-        value: res,
-        flags,
-    }
+    Outcome { value: res, flags }
 }
