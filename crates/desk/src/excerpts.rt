@@ -40,7 +40,7 @@ fn shown_end(size: usize, from: usize) -> usize
     from + (size - from).min(MOST_SHOWN)
 }
 
-// Each byte of a part, as it is shown.
+// Each byte of a part, as it is shown. An index: the byte's place in the room goes with it.
 fn put_shown(room: &mut [u8], at: usize, part: &[u8]) -> usize
     requires { at + length part.now ≤ length room.old }
     ensures { Wrote room.old at (map shown_byte part.now) room.new result }

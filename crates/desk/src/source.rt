@@ -8,7 +8,7 @@ use std::{fs, io, str};
 // A room for a source, and one byte more: a file that fills it is too long, however long it is.
 pub const ROOM: usize = 32769;
 
-// Reads until the input ends or the room is full. Each turn but the last holds a byte more.
+// Reads until the input ends or the room is full. Each turn but the last holds a byte more; how many is the reader's, so no `for`.
 pub fn load<'a>(input: &mut impl Read, room: &'a mut [u8]) -> io::Result<&'a [u8]>
     ensures { IfOk result (λ text. length text.now ≤ length room.old) }
 {

@@ -50,6 +50,7 @@ pub fn place(line: &[u8]) -> usize
         stage: Stage::Between(State::Start),
         began: 0,
     };
+    // over the places: where the walk stops is one of them
     for at in 0..line.len() {
         match turn(line, walk.stage, walk.began, at) {
             Ok(next) => walk = next,

@@ -25,7 +25,7 @@ fn out_at(s: &[u8], from: Cursor, begins: bool) -> bool
 pub fn number_out(s: &[u8], from: Cursor) -> usize
     ensures { result ≡ number_out_in (tokens_from s.now from.at) }
 {
-    let mut at = from;
+    let mut at = from; // no `for`: each token is read where the one before it ends
     let mut begins = true;
     loop {
         let t = next_token(s, at);

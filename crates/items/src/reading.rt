@@ -13,7 +13,7 @@ use tokens::commas::follows;
 pub fn items(s: &[u8], from: Cursor) -> Result<usize, ItemsFault>
     ensures { result ≡ items_read s.now (tokens_from s.now from.at) }
 {
-    let mut at = from;
+    let mut at = from; // no `for`: each item is read where the one before it ends
     let mut cells = 0;
     let mut fit = true;
     loop {

@@ -10,7 +10,7 @@ use tokens::strings::character;
 pub(crate) fn character_count(s: &[u8], from: usize) -> usize
     ensures { (cs rest : List ℕ) → Characters (drop from s.now) cs rest → result ≡ length cs }
 {
-    let mut at = Cursor { at: from };
+    let mut at = Cursor { at: from }; // no `for`: each character is read where the one before it ends
     let mut count = 0;
     while let Character::Stands(_, next) = character(s, at) {
         at = next;

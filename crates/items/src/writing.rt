@@ -33,7 +33,7 @@ fn write_string(s: &[u8], from: usize, row: &mut [u16], at: usize, k: usize)
     ensures { (cs rest : List ℕ) → Characters (drop from s.now) cs rest
         → row.new ≡ sets row.old (at + k) (cs ++ (0 ∷ [])) }
 {
-    let mut inside = Cursor { at: from };
+    let mut inside = Cursor { at: from }; // no `for`: each character is read where the one before it ends
     let mut n = k;
     while let Character::Stands(b, next) = character(s, inside) {
         put(row, at, n, b.into());
@@ -75,7 +75,7 @@ fn write_items(s: &[u8], from: Cursor, row: &mut [u16], at: usize)
     requires { accepted (walk s.now item (tokens_from s.now from.at)) ≡ true }
     ensures { row.new ≡ sets row.old at (cells_from s.now (tokens_from s.now from.at)) }
 {
-    let mut item_at = from;
+    let mut item_at = from; // no `for`: each item is read where the one before it ends
     let mut k = 0;
     while let Some(Read { value, next }) = item(s, item_at) {
         write_item(s, item_at, row, at, k);

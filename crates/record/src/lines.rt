@@ -38,7 +38,7 @@ fn end(room: &mut [u8], stop: u8, steps: u32, a: u16) -> usize
     cell(room, third, b"A=", a)
 }
 
-// The lines of n registers, from a code on. Their names stand in one row, three bytes each.
+// The lines of n registers, from a code on. Their names stand in one row, three bytes each. An index, of both rows.
 fn cells(room: &mut [u8], at: usize, names: &[u8], r: [u16; 16], from: usize, n: usize) -> usize
     requires { (at + 20 * n ≤ length room.old) × (3 * n ≤ length names.now) × (from + n ≤ 16) }
     ensures { Wrote room.old at (text_of (lines_from names.now r from n)) room.new result

@@ -25,6 +25,7 @@ pub fn settle(
         (uses_held s.now row.now aways.now uses) cells.old cells.new result }
 {
     let mut before: usize = 0; // the line of the label before
+    // over the numbers: a label's are four of one row and one of the other
     for i in 0..uses {
         let base = 4 * i;
         let start = row[base] as usize;

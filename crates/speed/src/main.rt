@@ -74,7 +74,7 @@ fn work(
     writeln!(output, "{name}: {steps} steps, stop {stop}, checksum {sum}")
 }
 
-// Reads until a room is full, the input ends or a read fails.
+// Reads until a room is full, the input ends or a read fails. How far a turn goes is the reader's, so no `for`.
 fn read_full<'a>(input: &mut impl Read, room: &'a mut [u8]) -> &'a [u8]
     ensures { length result.now ≤ length room.old }
 {

@@ -62,7 +62,7 @@ fn string_token(s: &[u8], at: usize, directly: bool) -> Token
     requires { at < length s.now }
     ensures { result ≡ string_token (closing (drop (at + 1) s.now)) at directly }
 {
-    let mut inside = Cursor { at: at + 1 };
+    let mut inside = Cursor { at: at + 1 }; // no `for`: each character is read where the one before it ends
     loop {
         match character(s, inside) {
             Character::Stands(_, next) => inside = next,
