@@ -67,6 +67,7 @@ pub fn cmp(x: u16, y: u16) -> u16
     sub(x, y).flags
 }
 
+// None: a zero divisor, the machine's stop 6.
 pub fn div(x: u16, y: u16) -> Option<Outcome>
     ensures { result ≡ DIV x y }
 {
@@ -77,6 +78,7 @@ pub fn div(x: u16, y: u16) -> Option<Outcome>
     Some(outcome_of(cell_of(quotient), false, leaves(quotient)))
 }
 
+// None: a zero divisor, the machine's stop 6.
 pub fn modulo(x: u16, y: u16) -> Option<Outcome>
     ensures { result ≡ MOD x y }
 {

@@ -7,7 +7,7 @@ use std::env::FillError;
 use std::io;
 use std::rt::Env;
 
-// The longest word of a command that Linux hands over, and the longest path that it takes.
+// The longest word of a command that Linux hands over, and more than the longest path that it takes.
 pub const LONGEST_WORD: usize = 131072;
 
 pub const LONGEST_PATH: usize = 4096;

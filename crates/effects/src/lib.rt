@@ -27,7 +27,7 @@ pub struct Located {
     pub fault: u8,
 }
 
-// The next PC, not reduced; SP; a value and the place it goes to; the flags.
+// The next PC, not reduced; SP; a value and the place it goes to; the flags Z, C, V, P, S, or none where they are unchanged.
 #[derive(Clone, Copy, Debug, PartialEq, Eq)]
 pub struct Effect {
     pub next: usize,

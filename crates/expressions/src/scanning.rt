@@ -8,7 +8,7 @@ use super::{Scan, Symbol};
 use numerals::Cursor;
 use tokens::tokens::next_token;
 
-// One token where an operand is next or not, and so many parentheses are open.
+// One token where an operand is next or not, and so many parentheses are open. None: the form is wrong.
 pub fn scan_step(y: Symbol, operand: bool, height: usize) -> Option<Scan>
     requires { height < 18446744073709551615 }
     ensures { result ≡ scan_step y operand height }

@@ -23,7 +23,7 @@ pub fn good_loan(memory: &[u16], map: &[u8]) -> bool
     1 <= memory.len() && memory.len() <= MOST_CELLS && map.len() == memory.len() && known_marks(map)
 }
 
-// Prints memory and map at the head of a room. Nothing is written before it is certain that all of the text fits.
+// Prints memory and map at the head of a room, and answers the text's length. Nothing is written before it is certain that all of the text fits.
 pub fn print(memory: &[u16], map: &[u8], room: &mut [u8]) -> Result<usize, NotPrinted>
     ensures { leaves result room.new ≡ printed memory.now map.now room.old }
 {

@@ -9,7 +9,7 @@ use numerals::{Cursor, Read};
 use tokens::Follows;
 use tokens::commas::follows;
 
-// A number out of range is refused only once the form of all that follows is right: 3 comes before 6.
+// How many cells they take. A number out of range is refused only once the form of all that follows is right: 3 comes before 6.
 pub fn items(s: &[u8], from: Cursor) -> Result<usize, ItemsFault>
     ensures { result ≡ items_read s.now (tokens_from s.now from.at) }
 {

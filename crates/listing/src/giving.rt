@@ -23,7 +23,7 @@ fn given(memory: &[u16], map: &[u8], room: &mut [u8], length: usize) -> Result<u
     Ok(length)
 }
 
-// Lists memory and map at the head of a room. Nothing is written before it is certain that every code run decodes and that all of the text fits.
+// Lists memory and map at the head of a room, and answers the text's length. Nothing is written before it is certain that every code run decodes and that all of the text fits.
 pub fn list(memory: &[u16], map: &[u8], room: &mut [u8]) -> Result<usize, NotListed>
     ensures { Replies memory.now map.now room.old (leaves result room.new) }
 {

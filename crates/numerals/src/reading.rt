@@ -99,7 +99,7 @@ impl Cursor {
     }
 }
 
-// The cell that keeps a number, modulo 65536.
+// The cell that keeps a number, modulo 65536. None: it is outside -32768..65535.
 pub fn kept(n: Numeral) -> Option<u16>
     ensures { result ≡ kept_of n }
 {

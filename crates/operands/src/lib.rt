@@ -26,7 +26,7 @@ pub enum Written {
     Relative(Value),
 }
 
-// An operand with its word. What a label stands for takes the place of a word 0 when labels are settled.
+// An operand with its word, and the label that it names, by its place, if it does. What a label stands for takes the place of a word 0 when labels are settled.
 #[derive(Clone, Copy)]
 pub struct Given {
     pub operand: Operand,

@@ -41,6 +41,7 @@ fn place_named(
     place_statement(values, marks, d, st)
 }
 
+// A line that passes leaves the counters behind it; else it is the first refusal of it.
 pub fn place_line(
     s: &[u8],
     from: usize,

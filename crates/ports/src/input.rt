@@ -68,7 +68,7 @@ fn fill(m: &mut [u16], to: usize, text: &[u8])
     m[to + text.len()] = 0;
 }
 
-// INSTR: the line's bytes and a 0 cell, from a cell on.
+// INSTR: the line's bytes and a 0 cell, from a cell on, and the position after the line; 8 at the input's end, 5 where memory ends.
 pub fn take_string(m: &mut [u16], to: u16, input: &[u8], at: usize) -> Result<usize, u8>
     ensures { passed result m.new ≡ string_taken m.old to input.now at }
 {

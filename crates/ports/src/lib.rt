@@ -7,7 +7,7 @@ ghost use Rattle.std.specs.Prelude.{◌≡◌, ◌+◌, leb};
 pub mod input;
 pub mod output;
 
-// A value taken, and the position after it. What is refused is told by the stop's number, a u8: the machine's stop code and what a host is
+// A value taken, and the position after it; where no value is taken, the position after what was put or taken is the answer. What is refused is told by the stop's number, a u8: the machine's stop code and what a host is
 // answered are these numbers.
 #[derive(Clone, Copy, Debug, PartialEq, Eq)]
 pub struct Taken {

@@ -7,7 +7,7 @@ ghost use Rattle.ports.specs.Output.{low_byte, string_of, text_put, byte_put, nu
 use super::has_room;
 use codes::stops::{MEMORY_END, OUTPUT_SHORT};
 
-// WRCHAR: the low byte.
+// WRCHAR: the low byte, and the position after it; 9 where there is no room.
 pub fn put_byte(out: &mut [u8], at: usize, x: u16) -> Result<usize, u8>
     ensures { passed result out.new ≡ byte_put out.old at x }
 {
@@ -18,7 +18,7 @@ pub fn put_byte(out: &mut [u8], at: usize, x: u16) -> Result<usize, u8>
     Ok(at + 1)
 }
 
-// A text, if there is room for all of it.
+// A text, if there is room for all of it, and the position after it; else 9.
 pub fn put_text(out: &mut [u8], at: usize, text: &[u8]) -> Result<usize, u8>
     ensures { passed result out.new ≡ text_put out.old at text.now }
 {
@@ -30,7 +30,7 @@ pub fn put_text(out: &mut [u8], at: usize, text: &[u8]) -> Result<usize, u8>
     Ok(next)
 }
 
-// WRINT: the signed decimal.
+// WRINT: the signed decimal, by the same answers.
 pub fn put_number(out: &mut [u8], at: usize, x: u16) -> Result<usize, u8>
     ensures { passed result out.new ≡ number_put out.old at x }
 {
@@ -96,7 +96,8 @@ fn print(out: &mut [u8], at: usize, m: &[u16], from: usize, n: usize)
     }
 }
 
-// WRSTR: the low bytes of the cells from a cell on, up to the first that is 0.
+// WRSTR: the low bytes of the cells from a cell on, up to the first that is 0, and the position after them; 5 where none is 0, else 9 where
+// there is no room.
 pub fn put_string(out: &mut [u8], at: usize, m: &[u16], from: u16) -> Result<usize, u8>
     ensures { passed result out.new ≡ string_put out.old at m.now from }
 {

@@ -31,7 +31,7 @@ fn put(
     put_text(room, 0, &text[..end]).map_err(|_| NotRecorded::RoomShort)
 }
 
-// Writes a run's record at the head of a room, if there is place for all of it.
+// Writes a run's record at the head of a room, if there is place for all of it, and answers its length.
 pub fn write_record(ran: Ran, room: &mut [u8]) -> Result<usize, NotRecorded>
     ensures { leaves result room.new ≡ recorded ran room.old }
 {

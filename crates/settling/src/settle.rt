@@ -9,6 +9,7 @@ use super::words::word;
 use sources::Line;
 use uses::cells::put;
 
+// Ok: every label has its word in its cell. Else it is the first refusal.
 pub fn settle(
     s: &[u8],
     starts: &[u16],

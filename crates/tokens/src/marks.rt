@@ -19,6 +19,7 @@ pub fn is_mark(b: u8) -> bool
     17 <= rank_of(b)
 }
 
+// The mark at a cursor, with the cursor after it. None: no mark stands there.
 pub fn mark_at(s: &[u8], from: Cursor) -> Option<Read<u8>>
     ensures { result ≡ mark_of (token_at s.now from.at) }
 {

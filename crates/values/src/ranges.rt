@@ -5,6 +5,7 @@ ghost use Rattle.values.specs.Ranges.{displacement_of};
 use numerals::reading::kept;
 use numerals::{Numeral, Radix};
 
+// None: it is out of range, a decimal one above 32767 too.
 #[tactic(auto, unfolding(crate::specs::Ranges::displacement_of))]
 pub fn displacement(n: Numeral) -> Option<u16>
     ensures { result ≡ displacement_of n }

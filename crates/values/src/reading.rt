@@ -29,6 +29,7 @@ fn below_zero(s: &[u8], from: Cursor) -> Option<Read<Value>>
     }
 }
 
+// The value at a cursor, with the cursor after it. None: no value stands there.
 #[tactic(auto, unfolding(crate::specs::Reading::value_at))]
 pub fn value(s: &[u8], from: Cursor) -> Option<Read<Value>>
     ensures { result ≡ value_at s.now from.at }
