@@ -1,5 +1,6 @@
 -- Laws of the instruction set, for this crate's proofs and those above it.
 pub mod Tests
+pub mod Past
 pub mod Numbers
 pub mod Modes
 pub mod FirstWords
