@@ -32,21 +32,19 @@ pub(crate) fn source_case(
 ) -> Result<(), Stop> {
     let size = fields.at_most(CELLS)?;
     let length = fields.at_most(CELLS)?;
-    let lent = filled(alloc, &mut fields, size)?;
-    let mark = fields.byte()?;
+    let mut before = filled(alloc, &mut fields, size)?;
+    let mut mark = fields.byte()?;
     let source = fields.bytes(alloc)?;
     fields.end()?;
-    let mut m = lent.clone()?;
+    let mut m = before.clone()?;
     let mut map = vec![in alloc; mark; length]?;
     let reply = assemble(&source, &mut m, &mut map);
-    head(out, reply)?;
     if reply.refusal == 0 {
-        let zeros = vec![in alloc; 0u16; size]?;
-        cells_changed(out, &zeros, &m)?;
-        marks_but(out, 0, &map)?;
-    } else {
-        cells_changed(out, &lent, &m)?;
-        marks_but(out, mark, &map)?;
+        before.fill(0);
+        mark = 0;
     }
+    head(out, reply)?;
+    cells_changed(out, &before, &m)?;
+    marks_but(out, mark, &map)?;
     Ok(())
 }

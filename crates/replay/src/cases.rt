@@ -6,7 +6,7 @@ use super::instructions::{decode_case, encode_case};
 use super::machines::{Asked, machine_case};
 use super::stops::{Stop, Stopped};
 use std::alloc::Global;
-use std::io::{BufRead, BufReader, BufWriter, Read, Write};
+use std::io::{BufRead, BufReader, BufWriter, ErrorKind, Read, Write};
 
 // The longest line, with its LF.
 const LONGEST_LINE: u64 = 1048576;
@@ -17,9 +17,12 @@ fn next_line<'a>(
     line: &'a mut Vec<u8>,
 ) -> Result<Option<&'a [u8]>, Stop> {
     line.clear();
-    let Ok(_) = input.take(LONGEST_LINE).read_until(b'\n', line) else {
-        return Err(Stop::Unreadable);
-    };
+    if let Err(e) = input.take(LONGEST_LINE).read_until(b'\n', line) {
+        return match e.kind() {
+            ErrorKind::OutOfMemory => Err(Stop::OutOfMemory),
+            _ => Err(Stop::Unreadable),
+        };
+    }
     match line.as_slice() {
         [] => Ok(None),
         [case @ .., b'\n'] => Ok(Some(case)),
@@ -69,13 +72,15 @@ pub(crate) fn answer_all(
     };
     let mut room = Vec::new(alloc);
     for line in 1..u64::MAX {
-        match next_line(&mut input, &mut room) {
-            Ok(Some(case)) => answer(alloc, case, &mut replies).map_err(|why| Stopped {
-                line,
-                why,
-            })?,
+        let answered = match next_line(&mut input, &mut room) {
+            Ok(Some(case)) => answer(alloc, case, &mut replies),
             Ok(None) => break,
-            Err(why) => return Err(Stopped { line, why }),
+            Err(why) => Err(why),
+        };
+        if let Err(why) = answered {
+            // What could not be written is not tried again, as a drop of the writer would.
+            let _ = replies.into_parts();
+            return Err(Stopped { line, why });
         }
     }
     Ok(())

@@ -1,7 +1,8 @@
 // The fields of a case line, parted by single blanks.
+ghost use Rattle.std.specs.Prelude.{◌<◌, IfOk};
+
 use super::stops::Stop;
 use std::alloc::Global;
-use std::str;
 
 // What is left of a line; None: its last field is read.
 #[derive(Clone, Copy)]
@@ -10,7 +11,9 @@ pub(crate) struct Fields<'a> {
 }
 
 // A lower-case hex digit's value.
-fn digit(b: u8) -> Result<u8, Stop> {
+fn digit(b: u8) -> Result<u8, Stop>
+    ensures { IfOk result (λ d. d < 16) }
+{
     match b {
         b'0'..=b'9' => Ok(b - b'0'),
         b'a'..=b'f' => Ok(b - b'a' + 10),
@@ -46,29 +49,39 @@ impl<'a> Fields<'a> {
         }
     }
 
-    // A plain decimal number without leading zeros, as text.
-    fn decimal(&mut self) -> Result<&'a str, Stop> {
+    // A plain decimal number without leading zeros, of at most 64 bits.
+    fn decimal(&mut self) -> Result<u64, Stop> {
         let field = self.next()?;
         match field {
-            b"0" | [b'1'..=b'9', ..] => str::from_utf8(field).map_err(|_| Stop::Malformed),
-            _ => Err(Stop::Malformed),
+            b"0" | [b'1'..=b'9', ..] => {}
+            _ => return Err(Stop::Malformed),
         }
+        let mut n: u64 = 0;
+        for b in field {
+            let d = match *b {
+                b'0'..=b'9' => *b - b'0',
+                _ => return Err(Stop::Malformed),
+            };
+            let tens = n.checked_mul(10).ok_or(Stop::Malformed)?;
+            n = tens.checked_add(u64::from(d)).ok_or(Stop::Malformed)?;
+        }
+        Ok(n)
     }
 
     pub(crate) fn byte(&mut self) -> Result<u8, Stop> {
-        Ok(self.decimal()?.parse()?)
+        Ok(self.decimal()?.try_into()?)
     }
 
     pub(crate) fn word(&mut self) -> Result<u16, Stop> {
-        Ok(self.decimal()?.parse()?)
+        Ok(self.decimal()?.try_into()?)
     }
 
     pub(crate) fn budget(&mut self) -> Result<u32, Stop> {
-        Ok(self.decimal()?.parse()?)
+        Ok(self.decimal()?.try_into()?)
     }
 
     pub(crate) fn number(&mut self) -> Result<usize, Stop> {
-        Ok(self.decimal()?.parse()?)
+        Ok(self.decimal()?.try_into()?)
     }
 
     pub(crate) fn at_most(&mut self, most: usize) -> Result<usize, Stop> {
@@ -83,15 +96,15 @@ impl<'a> Fields<'a> {
     // A row of bytes in hex, `-` if it is empty.
     pub(crate) fn bytes(&mut self, alloc: Global) -> Result<Vec<u8>, Stop> {
         let field = self.next()?;
-        let mut bytes = Vec::new(alloc);
         match field {
-            b"-" => return Ok(bytes),
+            b"-" => return Ok(Vec::new(alloc)),
             [] => return Err(Stop::Malformed),
             _ => {}
         }
-        for pair in field.chunks(2) {
+        let mut bytes = vec![in alloc; 0; field.len().div_ceil(2)]?;
+        for (b, pair) in bytes.iter_mut().zip(field.chunks(2)) {
             match pair {
-                [high, low] => bytes.push(digit(*high)? << 4 | digit(*low)?)?,
+                [high, low] => *b = digit(*high)? << 4 | digit(*low)?,
                 _ => return Err(Stop::Malformed),
             }
         }

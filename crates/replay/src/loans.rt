@@ -17,9 +17,9 @@ pub(crate) fn filled(
 ) -> Result<Vec<u16>, Stop> {
     let mut value = fields.word()?;
     let step = fields.word()?;
-    let mut cells = Vec::new(alloc);
-    for _ in 0..size {
-        cells.push(value)?;
+    let mut cells = vec![in alloc; value; size]?;
+    for cell in cells.iter_mut() {
+        *cell = value;
         value = value.wrapping_add(step);
     }
     Ok(cells)

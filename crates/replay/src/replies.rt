@@ -1,4 +1,6 @@
 // What was changed in what was lent, behind the first numbers of a reply.
+ghost use Rattle.std.specs.Prelude.{◌<◌};
+
 use super::loans::Room;
 use std::io;
 use std::io::Write;
@@ -7,10 +9,9 @@ use std::io::Write;
 pub(crate) fn cells_changed(out: &mut impl Write, before: &[u16], cells: &[u16]) -> io::Result<()> {
     let count = before.iter().zip(cells).filter(|(b, c)| b != c).count();
     write!(out, " {count}")?;
-    for (i, (b, c)) in before.iter().zip(cells).enumerate() {
-        if b != c {
-            write!(out, " {i} {c}")?;
-        }
+    let changed = before.iter().zip(cells).enumerate();
+    for (i, (_, c)) in changed.filter(|(_, (b, c))| b != c) {
+        write!(out, " {i} {c}")?;
     }
     Ok(())
 }
@@ -19,35 +20,37 @@ pub(crate) fn cells_changed(out: &mut impl Write, before: &[u16], cells: &[u16])
 pub(crate) fn marks_but(out: &mut impl Write, mark: u8, map: &[u8]) -> io::Result<()> {
     let count = map.iter().filter(|m| **m != mark).count();
     write!(out, " {count}")?;
-    for (i, m) in map.iter().enumerate() {
-        if *m != mark {
-            write!(out, " {i} {m}")?;
-        }
+    for (i, m) in map.iter().enumerate().filter(|(_, m)| **m != mark) {
+        write!(out, " {i} {m}")?;
     }
     Ok(())
 }
 
-// Whether a byte of the room is not as it was filled.
-fn is_changed(room: &Room, i: usize) -> bool {
-    room.bytes.get(i).is_some_and(|b| *b != room.fill)
-}
-
-// Whether a run of such bytes begins at a place.
+// Whether a byte of the room that is not as it was filled is the first of its run.
 fn begins(room: &Room, i: usize) -> bool {
-    is_changed(room, i) && !i.checked_sub(1).is_some_and(|j| is_changed(room, j))
+    let before = i.checked_sub(1).and_then(|j| room.bytes.get(j));
+    !before.is_some_and(|b| *b != room.fill)
 }
 
-// How many runs there are, and each with its start, in hex.
+fn hex_digit(d: u8) -> u8
+    requires { d < 16 }
+{
+    if d < 10 { b'0' + d } else { b'a' + (d - 10) }
+}
+
+// How many runs of such bytes there are, and each with its start, in hex.
 pub(crate) fn room_changed(out: &mut impl Write, room: &Room) -> io::Result<()> {
-    let count = (0..room.bytes.len()).filter(|i| begins(room, *i)).count();
+    let changed = room.bytes.iter().enumerate();
+    let count = changed
+        .filter(|(i, b)| **b != room.fill && begins(room, *i))
+        .count();
     write!(out, " {count}")?;
-    for (i, b) in room.bytes.iter().enumerate() {
+    let changed = room.bytes.iter().enumerate();
+    for (i, b) in changed.filter(|(_, b)| **b != room.fill) {
         if begins(room, i) {
             write!(out, " {i} ")?;
         }
-        if *b != room.fill {
-            write!(out, "{b:02x}")?;
-        }
+        out.write_all(&[hex_digit(*b >> 4), hex_digit(*b % 16)])?;
     }
     Ok(())
 }

@@ -1,6 +1,6 @@
 // Why no more is answered.
 use std::alloc::{AllocError, AllocFailed};
-use std::num::ParseIntError;
+use std::num::TryFromIntError;
 use std::{fmt, io};
 
 #[derive(Clone, Copy, Debug)]
@@ -20,8 +20,8 @@ impl From<io::Error> for Stop {
     }
 }
 
-impl From<ParseIntError> for Stop {
-    fn from(_error: ParseIntError) -> Stop {
+impl From<TryFromIntError> for Stop {
+    fn from(_error: TryFromIntError) -> Stop {
         Stop::Malformed
     }
 }

@@ -7,9 +7,13 @@ use statements::Statement;
 use statements::cells::write_cells;
 use statements::line::read_line;
 use statements::refusals::number_of;
+use std::fmt::InlineText;
 use std::io::Write;
 use std::{fmt, io};
 use values::Name;
+
+// Room for a reply: 64 cells behind a number and three places are 407 bytes at most.
+const ROOM: usize = 512;
 
 // Where a label stands in the line; 0 0 where there is none.
 #[derive(Clone, Copy)]
@@ -47,51 +51,62 @@ impl fmt::Display for Spelt {
 }
 
 // DATA: the number of its cells, and those that a row has room for.
-fn data(out: &mut impl Write, line: &[u8], n: usize) -> io::Result<()> {
+fn data<W: fmt::Write>(f: &mut fmt::Formatter<W>, line: &[u8], n: usize) -> fmt::Result {
     let mut row = [0u16; 64];
     write_cells(line, &mut row, 0);
-    write!(out, " D {n}")?;
+    write!(f, " D {n}")?;
     for cell in row.iter().take(n) {
-        write!(out, " {cell}")?;
+        write!(f, " {cell}")?;
     }
     Ok(())
 }
 
 // What a line says.
-fn saying(out: &mut impl Write, line: &[u8], said: Statement) -> io::Result<()> {
+fn saying<W: fmt::Write>(f: &mut fmt::Formatter<W>, line: &[u8], said: Statement) -> fmt::Result {
     match said {
-        Statement::Nothing => write!(out, " N"),
+        Statement::Nothing => write!(f, " N"),
         Statement::Instruction(op, first, second) => {
             let number = row(op).number;
             let first = Spelt(first);
             let second = Spelt(second);
-            write!(out, " I {number} {first} {second}")
+            write!(f, " I {number} {first} {second}")
         }
-        Statement::Org(v) => write!(out, " O {v}"),
-        Statement::Equ(v) => write!(out, " Q {v}"),
-        Statement::Res(v) => write!(out, " R {v}"),
-        Statement::Data(n) => data(out, line, n),
-        Statement::End => write!(out, " E"),
+        Statement::Org(v) => write!(f, " O {v}"),
+        Statement::Equ(v) => write!(f, " Q {v}"),
+        Statement::Res(v) => write!(f, " R {v}"),
+        Statement::Data(n) => data(f, line, n),
+        Statement::End => write!(f, " E"),
     }
 }
 
-// Answers a line. Where it is refused, it is read once more for the column and the operand's place.
-pub(crate) fn answer(out: &mut impl Write, line: &[u8]) -> io::Result<()> {
-    let read = read_line(line);
-    let label = Place(read.label);
-    match read.statement {
-        Ok(said) => {
-            write!(out, "0 {label}")?;
-            saying(out, line, said)?;
+// A line's reply. Where the line is refused, it is read once more for the column and the operand's place.
+#[derive(Clone, Copy)]
+struct Reply<'a>(&'a [u8]);
+
+impl fmt::Display for Reply<'_> {
+    fn fmt<W: fmt::Write>(&self, f: &mut fmt::Formatter<W>) -> fmt::Result {
+        let line = self.0;
+        let read = read_line(line);
+        let label = Place(read.label);
+        match read.statement {
+            Ok(said) => {
+                write!(f, "0 {label}")?;
+                saying(f, line, said)?;
+            }
+            Err(failure) => {
+                let refusal = number_of(failure);
+                let at = pointed(line, refusal);
+                let column = at.column.0;
+                let place = at.place;
+                write!(f, "{refusal} {label} {column} {place}")?;
+            }
         }
-        Err(failure) => {
-            let refusal = number_of(failure);
-            let at = pointed(line, refusal);
-            let column = at.column.0;
-            let place = at.place;
-            write!(out, "{refusal} {label} {column} {place}")?;
-        }
+        writeln!(f)
     }
-    writeln!(out)?;
-    out.flush()
+}
+
+// Answers a line by one write. The reply is held on the stack: nothing here runs out of memory.
+pub(crate) fn answer(out: &mut impl Write, line: &[u8]) -> io::Result<()> {
+    let reply = InlineText::<ROOM>::of(Reply(line));
+    out.write_all(reply.as_str().as_bytes())
 }

@@ -1,17 +1,20 @@
 // The bytes of case lines, one after another: `L`, a blank, and the line's bytes in hex, or `-` for none.
+ghost use Rattle.std.specs.Prelude.{◌≤◌, ◌<◌, IfOk};
+
 use super::answers::answer;
 use super::stops::Stop;
-use std::alloc::Global;
-use std::io::{BufReader, BufWriter, Bytes, Read, Write};
+use std::io::{Read, Write};
 
-// As much is read at once, and as much is held of a reply: 64 cells behind a number and three places are 407 bytes at most.
+// As much is read at once.
 const PART: usize = 512;
 
 // The longest line of a source, and some bytes more: a few cases pass it.
 const LONGEST_LINE: usize = 33000;
 
 // A lower-case hex digit's value.
-fn digit(b: u8) -> Result<u8, Stop> {
+fn digit(b: u8) -> Result<u8, Stop>
+    ensures { IfOk result (λ d. d < 16) }
+{
     match b {
         b'0'..=b'9' => Ok(b - b'0'),
         b'a'..=b'f' => Ok(b - b'a' + 10),
@@ -19,20 +22,42 @@ fn digit(b: u8) -> Result<u8, Stop> {
     }
 }
 
-// The cases that are not read yet.
+// The cases that are not answered yet: what is left of the part that was read last, and what the input holds.
 #[derive(Drop)]
 struct Cases<R: Read + Drop> {
-    bytes: Bytes<BufReader<R>>,
+    input: R,
+    part: [u8; PART],
+    at: usize,
+    held: usize,
+    ghost at_within: { at ≤ held },
+    ghost held_within: { held ≤ 512 },
 }
 
 impl<R: Read + Drop> Cases<R> {
+    fn of(input: R) -> Cases<R> {
+        Cases {
+            input,
+            part: [0; PART],
+            at: 0,
+            held: 0,
+        }
+    }
+
     // The next byte; None: the cases end.
     fn next(&mut self) -> Result<Option<u8>, Stop> {
-        match self.bytes.next() {
-            Some(Ok(b)) => Ok(Some(b)),
-            Some(Err(_)) => Err(Stop::Unreadable),
-            None => Ok(None),
+        if self.at == self.held {
+            let Ok(n) = self.input.read(&mut self.part) else {
+                return Err(Stop::Unreadable);
+            };
+            if n == 0 {
+                return Ok(None);
+            }
+            self.at = 0;
+            self.held = n;
         }
+        let b = self.part[self.at];
+        self.at += 1;
+        Ok(Some(b))
     }
 
     // The next byte of a case.
@@ -88,24 +113,14 @@ impl<R: Read + Drop> Cases<R> {
 }
 
 // Answers all cases. A proved loop has to end, so it counts its turns up to a number that no run reaches.
-pub(crate) fn answer_all(
-    alloc: Global,
-    input: impl Read + Drop,
-    output: impl Write + Drop,
-) -> Result<(), Stop> {
-    let Ok(reader) = BufReader::with_capacity(alloc, PART, input) else {
-        return Err(Stop::Unreadable);
-    };
-    let mut cases = Cases {
-        bytes: reader.bytes(),
-    };
-    let mut replies = BufWriter::with_capacity(alloc, PART, output)?;
+pub(crate) fn answer_all(input: impl Read + Drop, output: &mut impl Write) -> Result<(), Stop> {
+    let mut cases = Cases::of(input);
     let mut room = [0; LONGEST_LINE];
     for _ in 0..u64::MAX {
         let Some(line) = cases.case(&mut room)? else {
             break;
         };
-        answer(&mut replies, line)?;
+        answer(output, line)?;
     }
     Ok(())
 }

@@ -12,7 +12,7 @@ use cases::answer_all;
 use std::io::Write;
 
 fn main(rt: HostRuntime) {
-    if let Err(stop) = answer_all(rt.alloc(), rt.stdin(), rt.stdout()) {
+    if let Err(stop) = answer_all(rt.stdin(), &mut rt.stdout()) {
         let _ = writeln!(&mut rt.stderr(), "replay_lines: {stop}");
     }
 }
