@@ -12,12 +12,13 @@ ghost use Rattle.std.specs.Prelude.{◌≤◌};
 ghost use Rattle.desk.specs.Sizes.{largest_m};
 
 use desk::arguments::{LARGEST_M, LONGEST_PATH};
-use desk::refusals::{Refusal, Source, WRONG_M, tell_refusal};
+use desk::refusals::{Refusal, Source, WRONG_M, print_refusal};
 use desk::source;
 use failures::Failure;
 
+// A refusal is an answer: what cannot be told of it is told there.
 fn refuse(rt: &HostRuntime, source: Source<'_>, refusal: Refusal) -> Result<(), Failure<'static>> {
-    tell_refusal(&mut rt.stdout(), &mut rt.stderr(), source, refusal)?;
+    print_refusal(&mut rt.stdout(), &mut rt.stderr(), source, refusal);
     Ok(())
 }
 
