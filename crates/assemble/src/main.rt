@@ -14,10 +14,8 @@ use desk::refusals::{Refusal, Source, WRONG_M, print_refusal};
 use desk::{arguments, source};
 use failures::Failure;
 
-// A refusal is an answer: what cannot be told of it is told there.
-fn refuse(rt: &HostRuntime, source: Source<'_>, refusal: Refusal) -> Result<(), Failure<'static>> {
+fn refuse(rt: &HostRuntime, source: Source<'_>, refusal: Refusal) {
     print_refusal(&mut rt.stdout(), &mut rt.stderr(), source, refusal);
-    Ok(())
 }
 
 // Assembles a source into a memory of as many cells as M says, and prints.
@@ -41,25 +39,34 @@ fn assemble_source(
         line: reply.line,
         column: reply.column,
     };
-    refuse(rt, source, refusal)
+    refuse(rt, source, refusal);
+    Ok(())
 }
 
-// The whole call, with a room for FILE.
+// The file at a path, assembled.
+fn assemble_file<'a>(rt: &HostRuntime, path: &'a [u8], size: usize) -> Result<(), Failure<'a>>
+    requires { size ≤ largest_m }
+{
+    let mut room = [0; source::ROOM];
+    let text = source::read(rt, path, &mut room).map_err(|error| Failure::System(path, error))?;
+    assemble_source(rt, Source { path, text }, size)
+}
+
+// The whole call, with a room for FILE. A source's is made where that of a word is gone, so that they share a place on the stack.
 fn assemble<'a>(rt: &HostRuntime, room: &'a mut [u8]) -> Result<(), Failure<'a>> {
     if arguments::count(rt) != 3 {
         return Err(Failure::Usage);
     }
     let Some(size) = arguments::size(rt) else {
         let path = arguments::argument(rt, 1, room);
-        return refuse(rt, Source { path, text: b"" }, WRONG_M);
+        refuse(rt, Source { path, text: b"" }, WRONG_M);
+        return Ok(());
     };
     let path = arguments::file(rt, room).map_err(|error| Failure::System(
         b"assemble: FILE",
         error,
     ))?;
-    let mut room = [0; source::ROOM];
-    let text = source::read(rt, path, &mut room).map_err(|error| Failure::System(path, error))?;
-    assemble_source(rt, Source { path, text }, size)
+    assemble_file(rt, path, size)
 }
 
 fn main(rt: HostRuntime) {

@@ -16,10 +16,8 @@ use desk::refusals::{Refusal, Source, WRONG_M, print_refusal};
 use desk::source;
 use failures::Failure;
 
-// A refusal is an answer: what cannot be told of it is told there.
-fn refuse(rt: &HostRuntime, source: Source<'_>, refusal: Refusal) -> Result<(), Failure<'static>> {
+fn refuse(rt: &HostRuntime, source: Source<'_>, refusal: Refusal) {
     print_refusal(&mut rt.stdout(), &mut rt.stderr(), source, refusal);
-    Ok(())
 }
 
 // Assembles a source into a memory of as many cells as M says, and runs it.
@@ -44,25 +42,39 @@ fn run_source(
         line: reply.line,
         column: reply.column,
     };
-    refuse(rt, source, refusal)
+    refuse(rt, source, refusal);
+    Ok(())
 }
 
-// The whole call, with a room for FILE. Standard input is read to its end before anything is assembled.
-fn run<'a>(rt: &HostRuntime, room: &'a mut [u8]) -> Result<(), Failure<'a>> {
-    let budget = arguments::budget(rt).ok_or(Failure::Usage)?;
-    let Some(size) = desk::arguments::size(rt) else {
-        let path = desk::arguments::argument(rt, 1, room);
-        return refuse(rt, Source { path, text: b"" }, WRONG_M);
-    };
-    let path = desk::arguments::file(rt, room).map_err(|error| Failure::System(
-        b"run: FILE",
-        error,
-    ))?;
+// The file at a path, run. Standard input is read to its end before anything is assembled.
+fn run_file<'a>(
+    rt: &HostRuntime,
+    path: &'a [u8],
+    size: usize,
+    budget: u32,
+) -> Result<(), Failure<'a>>
+    requires { size ≤ largest_m }
+{
     let mut room = [0; source::ROOM];
     let text = source::read(rt, path, &mut room).map_err(|error| Failure::System(path, error))?;
     let mut room = [0; input::ROOM];
     let given = input::read(&mut rt.stdin(), &mut room)?;
     run_source(rt, Source { path, text }, size, given, budget)
+}
+
+// The whole call, with a room for FILE. The other rooms are made where those of the words are gone, so that they share a place on the stack.
+fn run<'a>(rt: &HostRuntime, room: &'a mut [u8]) -> Result<(), Failure<'a>> {
+    let budget = arguments::budget(rt).ok_or(Failure::Usage)?;
+    let Some(size) = desk::arguments::size(rt) else {
+        let path = desk::arguments::argument(rt, 1, room);
+        refuse(rt, Source { path, text: b"" }, WRONG_M);
+        return Ok(());
+    };
+    let path = desk::arguments::file(rt, room).map_err(|error| Failure::System(
+        b"run: FILE",
+        error,
+    ))?;
+    run_file(rt, path, size, budget)
 }
 
 fn main(rt: HostRuntime) {
