@@ -43,16 +43,7 @@ fn assemble_source(
     Ok(())
 }
 
-// The file at a path, assembled.
-fn assemble_file<'a>(rt: &HostRuntime, path: &'a [u8], size: usize) -> Result<(), Failure<'a>>
-    requires { size ≤ largest_m }
-{
-    let mut room = [0; source::ROOM];
-    let text = source::read(rt, path, &mut room).map_err(|error| Failure::System(path, error))?;
-    assemble_source(rt, Source { path, text }, size)
-}
-
-// The whole call, with a room for FILE. A source's is made where that of a word is gone, so that they share a place on the stack.
+// The whole call, with a room for FILE.
 fn assemble<'a>(rt: &HostRuntime, room: &'a mut [u8]) -> Result<(), Failure<'a>> {
     if arguments::count(rt) != 3 {
         return Err(Failure::Usage);
@@ -66,7 +57,9 @@ fn assemble<'a>(rt: &HostRuntime, room: &'a mut [u8]) -> Result<(), Failure<'a>>
         b"assemble: FILE",
         error,
     ))?;
-    assemble_file(rt, path, size)
+    let mut room = [0; source::ROOM];
+    let text = source::read(rt, path, &mut room).map_err(|error| Failure::System(path, error))?;
+    assemble_source(rt, Source { path, text }, size)
 }
 
 fn main(rt: HostRuntime) {

@@ -20,7 +20,29 @@ fn refuse(rt: &HostRuntime, source: Source<'_>, refusal: Refusal) {
     print_refusal(&mut rt.stdout(), &mut rt.stderr(), source, refusal);
 }
 
-// Assembles a source into a memory of as many cells as M says, and runs it.
+// Assembles a source into a lent memory and map, and runs it.
+fn run_lent(
+    rt: &HostRuntime,
+    source: Source<'_>,
+    memory: &mut [u16],
+    map: &mut [u8],
+    given: &[u8],
+    budget: u32,
+) -> Result<(), Failure<'static>> {
+    let reply = assembler::assemble::assemble(source.text, memory, map);
+    if reply.refusal == 0 {
+        return running::run(&mut rt.stdout(), &mut rt.stderr(), memory, given, budget);
+    }
+    let refusal = Refusal {
+        number: reply.refusal,
+        line: reply.line,
+        column: reply.column,
+    };
+    refuse(rt, source, refusal);
+    Ok(())
+}
+
+// The same with as many cells as M says.
 fn run_source(
     rt: &HostRuntime,
     source: Source<'_>,
@@ -32,18 +54,14 @@ fn run_source(
 {
     let mut room = [0; LARGEST_M];
     let mut marks = [0; LARGEST_M];
-    let memory = &mut room[..size];
-    let reply = assembler::assemble::assemble(source.text, memory, &mut marks[..size]);
-    if reply.refusal == 0 {
-        return running::run(&mut rt.stdout(), &mut rt.stderr(), memory, given, budget);
-    }
-    let refusal = Refusal {
-        number: reply.refusal,
-        line: reply.line,
-        column: reply.column,
-    };
-    refuse(rt, source, refusal);
-    Ok(())
+    run_lent(
+        rt,
+        source,
+        &mut room[..size],
+        &mut marks[..size],
+        given,
+        budget,
+    )
 }
 
 // The file at a path, run. Standard input is read to its end before anything is assembled.
@@ -62,7 +80,8 @@ fn run_file<'a>(
     run_source(rt, Source { path, text }, size, given, budget)
 }
 
-// The whole call, with a room for FILE. The other rooms are made where those of the words are gone, so that they share a place on the stack.
+// The whole call, with a room for FILE. The large rooms are made by calls of their own, so that they stand on the stack where those of the
+// words stood.
 fn run<'a>(rt: &HostRuntime, room: &'a mut [u8]) -> Result<(), Failure<'a>> {
     let budget = arguments::budget(rt).ok_or(Failure::Usage)?;
     let Some(size) = desk::arguments::size(rt) else {
