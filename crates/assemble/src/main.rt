@@ -10,13 +10,12 @@ ghost use Rattle.std.specs.Prelude.{◌≤◌};
 ghost use Rattle.desk.specs.Sizes.{largest_m};
 
 use desk::arguments::{LARGEST_M, LONGEST_PATH};
-use desk::refusals::{Refusal, Source, WRONG_M, tell_refusal};
+use desk::refusals::{Refusal, Source, WRONG_M, print_refusal};
 use desk::{arguments, source};
 use failures::Failure;
 
-fn refuse(rt: &HostRuntime, source: Source<'_>, refusal: Refusal) -> Result<(), Failure<'static>> {
-    tell_refusal(&mut rt.stdout(), &mut rt.stderr(), source, refusal)?;
-    Ok(())
+fn refuse(rt: &HostRuntime, source: Source<'_>, refusal: Refusal) {
+    print_refusal(&mut rt.stdout(), &mut rt.stderr(), source, refusal);
 }
 
 // Assembles a source into a memory of as many cells as M says, and prints.
@@ -40,7 +39,8 @@ fn assemble_source(
         line: reply.line,
         column: reply.column,
     };
-    refuse(rt, source, refusal)
+    refuse(rt, source, refusal);
+    Ok(())
 }
 
 // The whole call, with a room for FILE.
@@ -50,7 +50,8 @@ fn assemble<'a>(rt: &HostRuntime, room: &'a mut [u8]) -> Result<(), Failure<'a>>
     }
     let Some(size) = arguments::size(rt) else {
         let path = arguments::argument(rt, 1, room);
-        return refuse(rt, Source { path, text: b"" }, WRONG_M);
+        refuse(rt, Source { path, text: b"" }, WRONG_M);
+        return Ok(());
     };
     let path = arguments::file(rt, room).map_err(|error| Failure::System(
         b"assemble: FILE",

@@ -1,5 +1,5 @@
 // A refusal told: three lines on standard output, and on standard error a sentence (specs/Refusals.antt) and the line it is about.
-ghost use Rattle.std.specs.Prelude.{◌≡◌, ◌≤◌, ◌%◌, length, OnOk};
+ghost use Rattle.std.specs.Prelude.{◌≡◌, ◌≤◌, ◌%◌, length, true, OnOk};
 ghost use Rattle.std.specs.Io.KnownBytes.{Appends};
 ghost use Rattle.texts.specs.Inner.Wrote.{Wrote};
 ghost use Rattle.columns.specs.Columns.{line_numbered};
@@ -7,7 +7,7 @@ ghost use Rattle.desk.specs.Excerpts.{excerpt_text};
 ghost use Rattle.desk.specs.Refusals.{line_told, column_told, reason_of, name_told, sentence_text, AtHead, printed_of, told_of};
 
 use super::excerpts::excerpt;
-use super::printing::put;
+use super::printing::{put, try_write, try_write_error};
 use columns::Column;
 use columns::lines::line_start;
 use sources::Line;
@@ -119,8 +119,8 @@ fn line_shown(room: &mut [u8], source: &[u8], refusal: Refusal) -> usize
     excerpt(room, &source[from..end], refusal.column.0)
 }
 
-// What is told of a refusal; the sentence and the line only where the three lines could be written. What becomes of them is the operating
-// system's.
+// What is told of a refusal; the sentence and the line only where the three lines could be written, and the line whatever became of the
+// sentence. Output that cannot be written is told, and the first failure handed back. What becomes of it is the operating system's.
 pub fn tell_refusal<O: Write, E: Write>(
     output: &mut O,
     errors: &mut E,
@@ -132,9 +132,24 @@ pub fn tell_refusal<O: Write, E: Write>(
 {
     let mut room = [0; ROOM];
     let end = lines(&mut room, refusal);
-    output.write_all(&room[..end])?;
+    try_write(output, errors, &room[..end])?;
     let told = sentence(&mut room, source.path, refusal);
-    errors.write_all(&room[..told])?;
+    let first = try_write_error(errors, &room[..told]);
     let shown = line_shown(&mut room, source.text, refusal);
-    errors.write_all(&room[..shown])
+    let last = try_write_error(errors, &room[..shown]);
+    first?;
+    last
+}
+
+// The same, where nothing is left to do about a failure; answers whether all of it was taken.
+pub fn print_refusal<O: Write, E: Write>(
+    output: &mut O,
+    errors: &mut E,
+    source: Source<'_>,
+    refusal: Refusal,
+) -> bool
+    ensures printed { result ≡ true → Appends (O.contents output.old) (O.contents output.new) (printed_of refusal) }
+    ensures told { result ≡ true → Appends (E.contents errors.old) (E.contents errors.new) (told_of source.entry.path.now source.entry.text.now refusal) }
+{
+    tell_refusal(output, errors, source, refusal).is_ok()
 }

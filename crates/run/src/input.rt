@@ -1,4 +1,6 @@
 // Standard input.
+ghost use Rattle.std.specs.Prelude.{◌≤◌, length, IfOk};
+
 use super::failures::Failure;
 use std::io::Read;
 
@@ -9,7 +11,9 @@ pub(crate) const ROOM: usize = 65537;
 pub(crate) fn read<'a>(
     input: &mut impl Read,
     room: &'a mut [u8],
-) -> Result<&'a [u8], Failure<'static>> {
+) -> Result<&'a [u8], Failure<'static>>
+    ensures { IfOk result (λ given. length given.now ≤ length room.old) }
+{
     let given = desk::source::load(input, room).map_err(|error| Failure::System(
         b"run: input",
         error,

@@ -30,12 +30,14 @@ fn work(output: &mut impl Write, name: &str, source: &[u8]) -> io::Result<()> {
 }
 
 // The two sources of a text, parted by its first byte 0; where it has none, it is the first.
-pub(crate) fn sources(output: &mut impl Write, text: &[u8]) -> io::Result<()> {
+pub(crate) fn sources(output: &mut impl Write, text: &[u8]) {
     match text.iter().position(|b| *b == 0) {
         Some(k) => {
-            work(output, "labels_20", &text[..k])?;
-            work(output, "labels_500", &text[k + 1..])
+            let _ = work(output, "labels_20", &text[..k]);
+            let _ = work(output, "labels_500", &text[k + 1..]);
         }
-        None => work(output, "labels_20", text),
+        None => {
+            let _ = work(output, "labels_20", text);
+        }
     }
 }

@@ -88,15 +88,12 @@ fn read_full<'a>(input: &mut impl Read, room: &'a mut [u8]) -> &'a [u8]
     &room[..held]
 }
 
-fn work_all(input: &mut impl Read, output: &mut impl Write) -> io::Result<()> {
-    work(output, "arithmetic", &images::ARITHMETIC, 1000000, 8)?;
-    work(output, "table", &images::TABLE, 1000000, 8)?;
-    work(output, "text", &images::TEXT, 8000, 1000)?;
-    let mut room = [0; LARGE_ROOM];
-    assembling::sources(output, read_full(input, &mut room))
-}
-
-// Output that cannot be written is missed by whoever times it.
+// Output that cannot be written is missed by whoever times it, and all the other work is done.
 fn main(rt: HostRuntime) {
-    let _ = work_all(&mut rt.stdin(), &mut rt.stdout());
+    let mut output = rt.stdout();
+    let _ = work(&mut output, "arithmetic", &images::ARITHMETIC, 1000000, 8);
+    let _ = work(&mut output, "table", &images::TABLE, 1000000, 8);
+    let _ = work(&mut output, "text", &images::TEXT, 8000, 1000);
+    let mut room = [0; LARGE_ROOM];
+    assembling::sources(&mut output, read_full(&mut rt.stdin(), &mut room));
 }

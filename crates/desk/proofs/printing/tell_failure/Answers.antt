@@ -1,15 +1,9 @@
--- Each piece behind those before it (`failure-told`).
-use Rattle.std.proofs.lemmas.Result.{on_ok_weaker}
-use Rattle.desk.proofs.Failures.{failure-told}
+-- Each piece behind those before it, where none failed (`all-told`).
+use Rattle.desk.proofs.Failures.{all-told}
 use Rattle.desk.proofs.printing.tell_failure.Goals as goal
 
 pub returns : goal.returns
 returns g c =
-    let why = c.as_bytes.result.now in
-    on_ok_weaker c.write_all-4.result
-    (λ last. (
-      why,
-      failure-told c.args.what.now why _ _ _ _ _ c.in_ok-write_all.ensures.bytes c.in_ok-write_all-2.ensures.bytes
-          c.in_ok-write_all-3.ensures.bytes last,
-    ))
-    c.write_all-4.ensures.bytes
+    all-told c.args.what.now c.as_bytes.result.now _ _ _ _ _ c.write_all-first.result c.write_all-second.result c.write_all-third.result
+    c.write_all-last.result c.and.ensures c.and-2.ensures c.and-3.ensures c.write_all-first.ensures.bytes
+    c.write_all-second.ensures.bytes c.write_all-third.ensures.bytes c.write_all-last.ensures.bytes
