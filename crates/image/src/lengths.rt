@@ -30,7 +30,14 @@ fn cell_length(address: u32, mark: u8, value: u16) -> usize
 pub(crate) fn claimed_in(map: &[u8]) -> usize
     ensures { result ≡ claimed map.now }
 {
-    map.iter().filter(|mark| **mark != FREE).count()
+    let mut count = 0;
+    // no `filter(..).count()`: twice as long, and more where claimed and free cells take turns
+    for mark in map {
+        if *mark != FREE {
+            count += 1;
+        }
+    }
+    count
 }
 
 // The lines of all cells.

@@ -1,26 +1,36 @@
 -- Lines: where the first ends, as a loop sees it, that every source has exactly one list of them, and what no LF is in.
-use Prim.Native.Nat.{ℕ, suc, ◌+◌, ◌-◌, min, ◌≤◌, ◌<◌}
+use Prim.Native.Nat.{ℕ, suc, ◌+◌, ◌≤◌, ◌<◌}
 use mathlib.Core.Bool.{Bool, true, false, cond, not}
 use mathlib.Core.List.{List, [], ◌∷◌, ◌++◌}
 use mathlib.Core.Path.{◌≡◌, refl, sym, ap, subst, ◌∙◌}
-use native.Mathlib.Numerals.{add-one, one-add}
+use native.Mathlib.Numerals.{add-one}
 use native.Mathlib.Omega.{arith}
-use native.Mathlib.Decide.{dec_le}
-use Rattle.std.proofs.Common.{Some, None, unwrap_or}
-use Rattle.std.specs.List.{position, position_or_len}
-use Rattle.std.proofs.lemmas.List.{take_all}
-use Rattle.std.proofs.lemmas.List.Recursion.{is_position_or_len}
 use lib.Dec.{eqb, ltb, T}
 use lib.Ieee.Bits.{is_true}
 use lib.Ieee.Fits.{and_l, and_r}
-use lib.ListN.{length, take, drop, length-drop, drop_of_length-le}
-use lib.Seq.{drop-drop}
-use borrow.Author.Tests.{ne_eqb, eqb-true, ltb-true, ltb-false, not-true}
+use lib.ListN.{length, get_or, take, drop, length-drop, drop_of_length-le}
+use lib.Seq.{drop-cons, drop-drop}
+use borrow.Author.Tests.{eq-eqb, ne_eqb, eqb-true, ltb-true, not-true}
 use Rattle.numerals.specs.Bytes.{LF, rank}
 use Rattle.numerals.specs.Digits.{all_below}
 use Rattle.tokens.specs.Bytes.{is_mark, is_blank}
 use Rattle.tokens.specs.Lines.{no_lf, Lines, none, last, more}
 use Rattle.tokens.specs.Reading.{line_length, before, lines_of}
+
+-- ---- the loop
+
+module _ (s : List ℕ) (i : ℕ) where
+  pub line-more : i < length s → (get_or s i 0 ≡ LF → ⊥) → line_length (drop i s) ≡ suc (line_length (drop (i + 1) s))
+  unfolding line_length
+  line-more h n = rw (add-one, drop-cons s i 0, ne_eqb (get_or s i 0) LF n)
+
+  pub line-stop : i < length s → get_or s i 0 ≡ LF → line_length (drop i s) ≡ 0
+  unfolding line_length
+  line-stop h e = rw (drop-cons s i 0, eq-eqb (get_or s i 0) LF e)
+
+  pub line-none : length s ≤ i → line_length (drop i s) ≡ 0
+  unfolding line_length
+  line-none h = rw (drop_of_length-le s h)
 
 -- ---- one list of lines
 
@@ -89,29 +99,6 @@ line-within (b ∷ l) = go (eqb b LF) (line-within l)
     go : (t : Bool) → line_length l ≤ length l → cond t 0 (suc (line_length l)) ≤ suc (length l)
     go true h = omega arith
     go false h = omega arith
-
-place : (l : List ℕ) → line_length l ≡ position_or_len (λ (b : ℕ). eqb b LF) l
-unfolding line_length
-place l = is_position_or_len line_length (λ (b : ℕ). eqb b LF) refl (λ x xs. rw one-add) l
-
--- the place of the first LF, or else the text's length
-pub line-position : (l : List ℕ) → unwrap_or (position (λ (b : ℕ). eqb b LF) l) (length l) ≡ line_length l
-line-position l = rw (← place l) (go (ltb (line_length l) (length l)) refl)
-  where
-    go : (t : Bool) → ltb (line_length l) (length l) ≡ t → unwrap_or (cond t (Some (line_length l)) None) (length l) ≡ line_length l
-    go true q = refl
-    go false q = omega (arith, ltb-false (line_length l) (length l) q, line-within l)
-
--- what is left of a text from a place on, which may lie past its end
-pub rest-from : (s : List ℕ) (from : ℕ) {m : ℕ} → m ≡ min from (length s) → take (length s - m) (drop m s) ≡ drop from s
-rest-from s from {m} e =
-    elim (dec_le from (length s)) [
-      | yes l ↦ let q : m ≡ from = omega arith in rw (q, take_all (length s - from) (drop from s) (omega (arith, length-drop from s)))
-      | no g ↦
-          let h : length s ≤ m = omega arith in
-          let k : length s ≤ from = omega arith in
-          rw (drop_of_length-le s h, drop_of_length-le s k, take_all {A = ℕ} (length s - m) [] (omega arith))
-    ]
 
 -- ---- from line to line
 

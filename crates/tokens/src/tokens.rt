@@ -21,7 +21,7 @@ pub fn is_blank(b: u8) -> bool
 pub(crate) fn skip(s: &[u8], from: usize) -> usize
     ensures { result ≡ from + blanks (drop from s.now) }
 {
-    // no `position`, as in line_end: half as slow again where no blank stands, as before most tokens
+    // no `position`: half as slow again where no blank stands, as before most tokens
     for i in from..s.len() {
         if !is_blank(s[i]) {
             return i;
