@@ -3,7 +3,7 @@ ghost use Rattle.std.specs.Prelude.{◌≡◌};
 ghost use Rattle.run.specs.Budgets.{budget_of, budget_asked};
 
 use codes::limits::LARGEST_BUDGET;
-use desk::arguments::{LONGEST_WORD, argument, count};
+use desk::arguments::{argument, count};
 use numerals::bytes::rank_of;
 use std::rt::Env;
 
@@ -43,8 +43,7 @@ fn asked(words: usize, third: &[u8]) -> Option<u32>
     }
 }
 
-// The budget that this call asks for. No word that the system hands over is longer than its room; one that is missing is empty.
-pub(crate) fn budget(env: &impl Env) -> Option<u32> {
-    let mut room = [0; LONGEST_WORD];
-    asked(count(env), argument(env, 3, &mut room))
+// The budget that this call asks for, with a room for its word: one that is missing, or longer than the room, is empty.
+pub(crate) fn budget(env: &impl Env, room: &mut [u8]) -> Option<u32> {
+    asked(count(env), argument(env, 3, room))
 }

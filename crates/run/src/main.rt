@@ -11,7 +11,7 @@ mod running; // the run, its output and its record
 ghost use Rattle.std.specs.Prelude.{◌≤◌};
 ghost use Rattle.desk.specs.Sizes.{largest_m};
 
-use desk::arguments::{LARGEST_M, LONGEST_PATH};
+use desk::arguments::{LARGEST_M, LONGEST_PATH, LONGEST_WORD, argument, file, size_of};
 use desk::refusals::{Refusal, Source, WRONG_M, print_refusal};
 use desk::source;
 use failures::Failure;
@@ -20,16 +20,20 @@ fn refuse(rt: &HostRuntime, source: Source<'_>, refusal: Refusal) {
     print_refusal(&mut rt.stdout(), &mut rt.stderr(), source, refusal);
 }
 
-// Assembles a source into a lent memory and map, and runs it.
-fn run_lent(
+// Assembles a source into a memory of as many cells as M says, and runs it.
+fn run_source(
     rt: &HostRuntime,
     source: Source<'_>,
-    memory: &mut [u16],
-    map: &mut [u8],
+    size: usize,
     given: &[u8],
     budget: u32,
-) -> Result<(), Failure<'static>> {
-    let reply = assembler::assemble::assemble(source.text, memory, map);
+) -> Result<(), Failure<'static>>
+    requires { size ≤ largest_m }
+{
+    let mut room = [0; LARGEST_M];
+    let mut marks = [0; LARGEST_M];
+    let memory = &mut room[..size];
+    let reply = assembler::assemble::assemble(source.text, memory, &mut marks[..size]);
     if reply.refusal == 0 {
         return running::run(&mut rt.stdout(), &mut rt.stderr(), memory, given, budget);
     }
@@ -42,58 +46,21 @@ fn run_lent(
     Ok(())
 }
 
-// The same with as many cells as M says.
-fn run_source(
-    rt: &HostRuntime,
-    source: Source<'_>,
-    size: usize,
-    given: &[u8],
-    budget: u32,
-) -> Result<(), Failure<'static>>
-    requires { size ≤ largest_m }
-{
-    let mut room = [0; LARGEST_M];
-    let mut marks = [0; LARGEST_M];
-    run_lent(
-        rt,
-        source,
-        &mut room[..size],
-        &mut marks[..size],
-        given,
-        budget,
-    )
-}
-
-// The file at a path, run. Standard input is read to its end before anything is assembled.
-fn run_file<'a>(
-    rt: &HostRuntime,
-    path: &'a [u8],
-    size: usize,
-    budget: u32,
-) -> Result<(), Failure<'a>>
-    requires { size ≤ largest_m }
-{
-    let mut room = [0; source::ROOM];
-    let text = source::read(rt, path, &mut room).map_err(|error| Failure::System(path, error))?;
-    let mut room = [0; input::ROOM];
-    let given = input::read(&mut rt.stdin(), &mut room)?;
-    run_source(rt, Source { path, text }, size, given, budget)
-}
-
-// The whole call, with a room for FILE. The large rooms are made by calls of their own, so that they stand on the stack where those of the
-// words stood.
+// The whole call, with a room for FILE. Standard input is read to its end before anything is assembled, into the room that held a word: two
+// such rooms would be too much of a small stack.
 fn run<'a>(rt: &HostRuntime, room: &'a mut [u8]) -> Result<(), Failure<'a>> {
-    let budget = arguments::budget(rt).ok_or(Failure::Usage)?;
-    let Some(size) = desk::arguments::size(rt) else {
-        let path = desk::arguments::argument(rt, 1, room);
+    let mut held = [0; LONGEST_WORD];
+    let budget = arguments::budget(rt, &mut held).ok_or(Failure::Usage)?;
+    let Some(size) = size_of(argument(rt, 2, &mut held)) else {
+        let path = argument(rt, 1, room);
         refuse(rt, Source { path, text: b"" }, WRONG_M);
         return Ok(());
     };
-    let path = desk::arguments::file(rt, room).map_err(|error| Failure::System(
-        b"run: FILE",
-        error,
-    ))?;
-    run_file(rt, path, size, budget)
+    let path = file(rt, room).map_err(|error| Failure::System(b"run: FILE", error))?;
+    let mut room = [0; source::ROOM];
+    let text = source::read(rt, path, &mut room).map_err(|error| Failure::System(path, error))?;
+    let given = input::read(&mut rt.stdin(), &mut held)?;
+    run_source(rt, Source { path, text }, size, given, budget)
 }
 
 fn main(rt: HostRuntime) {
