@@ -5,30 +5,31 @@ use super::loans::Room;
 use std::io;
 use std::io::Write;
 
-// How many cells differ from before, and each with its address.
+// How many cells differ from before, and each with its address. Behind the last of them nothing is looked at again.
 pub(crate) fn cells_changed(out: &mut impl Write, before: &[u16], cells: &[u16]) -> io::Result<()> {
     let count = before.iter().zip(cells).filter(|(b, c)| b != c).count();
     write!(out, " {count}")?;
     let changed = before.iter().zip(cells).enumerate();
-    for (i, (_, c)) in changed.filter(|(_, (b, c))| b != c) {
+    for (i, (_, c)) in changed.filter(|(_, (b, c))| b != c).take(count) {
         write!(out, " {i} {c}")?;
     }
     Ok(())
 }
 
-// How many marks are not one, and each with its address.
+// The same of marks that are not one.
 pub(crate) fn marks_but(out: &mut impl Write, mark: u8, map: &[u8]) -> io::Result<()> {
     let count = map.iter().filter(|m| **m != mark).count();
     write!(out, " {count}")?;
-    for (i, m) in map.iter().enumerate().filter(|(_, m)| **m != mark) {
+    let marked = map.iter().enumerate();
+    for (i, m) in marked.filter(|(_, m)| **m != mark).take(count) {
         write!(out, " {i} {m}")?;
     }
     Ok(())
 }
 
-// Whether a byte of the room that is not as it was filled is the first of its run.
+// Whether a byte of the room that is not as it was filled is the first of its run. Before the first place there is no byte.
 fn begins(room: &Room, i: usize) -> bool {
-    let before = i.checked_sub(1).and_then(|j| room.bytes.get(j));
+    let before = room.bytes.get(i.wrapping_sub(1));
     !before.is_some_and(|b| *b != room.fill)
 }
 
