@@ -21,6 +21,36 @@ fn digit(b: u8) -> Result<u8, Stop>
     }
 }
 
+// The number that the decimal digits at a text's start spell, of at most 64 bits, and what stands behind them.
+fn sum(text: &[u8]) -> Result<(u64, &[u8]), Stop> {
+    let mut n: u64 = 0;
+    for i in 0..text.len() {
+        let d = match text[i] {
+            b'0'..=b'9' => text[i] - b'0',
+            _ => return Ok((n, &text[i..])),
+        };
+        let tens = n.checked_mul(10).ok_or(Stop::Malformed)?;
+        n = tens.checked_add(u64::from(d)).ok_or(Stop::Malformed)?;
+    }
+    Ok((n, b""))
+}
+
+// The bytes that hex digits at a text's start spell, up to a blank, into a row; how many, and what stands behind them.
+fn spell<'a>(text: &'a [u8], row: &mut [u8]) -> Result<(usize, &'a [u8]), Stop> {
+    let mut rest = text;
+    for held in 0..row.len() {
+        match rest {
+            [b' ', ..] => return Ok((held, rest)),
+            [high, low, more @ ..] => {
+                row[held] = digit(*high)? << 4 | digit(*low)?;
+                rest = more;
+            }
+            _ => return Err(Stop::Malformed),
+        }
+    }
+    Ok((row.len(), rest))
+}
+
 impl<'a> Fields<'a> {
     pub(crate) fn of(line: &'a [u8]) -> Fields<'a> {
         Fields { rest: Some(line) }
@@ -49,22 +79,26 @@ impl<'a> Fields<'a> {
         }
     }
 
-    // A plain decimal number without leading zeros, of at most 64 bits.
-    fn decimal(&mut self) -> Result<u64, Stop> {
-        let field = self.next()?;
-        match field {
-            b"0" | [b'1'..=b'9', ..] => {}
+    // Goes on behind a field, which a blank or the line's end must follow.
+    fn go_on(&mut self, behind: &'a [u8]) -> Result<(), Stop> {
+        match behind {
+            [] => self.rest = None,
+            [b' ', rest @ ..] => self.rest = Some(rest),
             _ => return Err(Stop::Malformed),
         }
-        let mut n: u64 = 0;
-        for b in field {
-            let d = match *b {
-                b'0'..=b'9' => *b - b'0',
-                _ => return Err(Stop::Malformed),
-            };
-            let tens = n.checked_mul(10).ok_or(Stop::Malformed)?;
-            n = tens.checked_add(u64::from(d)).ok_or(Stop::Malformed)?;
+        Ok(())
+    }
+
+    // A plain decimal number without leading zeros, of at most 64 bits.
+    fn decimal(&mut self) -> Result<u64, Stop> {
+        let text = self.rest.ok_or(Stop::Malformed)?;
+        match text {
+            [b'0', b'0'..=b'9', ..] => return Err(Stop::Malformed),
+            [b'0'..=b'9', ..] => {}
+            _ => return Err(Stop::Malformed),
         }
+        let (n, behind) = sum(text)?;
+        self.go_on(behind)?;
         Ok(n)
     }
 
@@ -95,19 +129,18 @@ impl<'a> Fields<'a> {
 
     // A row of bytes in hex, `-` if it is empty.
     pub(crate) fn bytes(&mut self, alloc: Global) -> Result<Vec<u8>, Stop> {
-        let field = self.next()?;
-        match field {
-            b"-" => return Ok(Vec::new(alloc)),
-            [] => return Err(Stop::Malformed),
-            _ => {}
+        let text = self.rest.ok_or(Stop::Malformed)?;
+        if let [b'-', behind @ ..] = text {
+            self.go_on(behind)?;
+            return Ok(Vec::new(alloc));
         }
-        let mut bytes = vec![in alloc; 0; field.len().div_ceil(2)]?;
-        for (b, pair) in bytes.iter_mut().zip(field.chunks(2)) {
-            match pair {
-                [high, low] => *b = digit(*high)? << 4 | digit(*low)?,
-                _ => return Err(Stop::Malformed),
-            }
+        let mut bytes = vec![in alloc; 0; text.len() / 2]?;
+        let (count, behind) = spell(text, &mut bytes)?;
+        if count == 0 {
+            return Err(Stop::Malformed);
         }
+        self.go_on(behind)?;
+        bytes.truncate(count);
         Ok(bytes)
     }
 }
