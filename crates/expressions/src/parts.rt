@@ -20,6 +20,8 @@ fn joined(at: usize, o: Operation, left: Read<Found>, further: Read<Found>) -> R
     }
 }
 
+// A part of `product`, so that a level of parentheses takes two frames of the stack and not three.
+#[inline(always)]
 #[cycle(factor_product_sum)]
 fn factor(s: &[u8], from: Cursor, room: u32) -> Result<Read<Found>, Malformed>
     ensures { Says factors factors s.now from.at room result }

@@ -70,7 +70,13 @@ pub(crate) fn answer_all(
             why: Stop::OutOfMemory,
         });
     };
-    let mut room = Vec::new(alloc);
+    // A room that grew with its lines would leave holes behind that no other room fits into.
+    let Ok(mut room) = Vec::with_capacity(alloc, LONGEST_LINE as usize) else {
+        return Err(Stopped {
+            line: 1,
+            why: Stop::OutOfMemory,
+        });
+    };
     for line in 1..u64::MAX {
         let answered = match next_line(&mut input, &mut room) {
             Ok(Some(case)) => answer(alloc, case, &mut replies),
