@@ -20,7 +20,8 @@ fn joined(at: usize, o: Operation, left: Read<Found>, further: Read<Found>) -> R
     }
 }
 
-// A part of `product`, so that a level of parentheses takes two frames of the stack and not three.
+// `factor` and `product` are parts of `sum` once built: a level of parentheses takes one frame of the stack, and what a part hands to the next
+// does not go through memory.
 #[inline(always)]
 #[cycle(factor_product_sum)]
 fn factor(s: &[u8], from: Cursor, room: u32) -> Result<Read<Found>, Malformed>
@@ -53,6 +54,7 @@ fn factor(s: &[u8], from: Cursor, room: u32) -> Result<Read<Found>, Malformed>
 // `product` and `sum` stay two: they differ in the mark that goes on and in the reader of an operand, and one reader of both would
 // have to be told which at each call of the cycle. Their loops have no list to go over: each token is read where the part before it
 // ends.
+#[inline(always)]
 #[cycle(factor_product_sum)]
 fn product(s: &[u8], from: Cursor, room: u32) -> Result<Read<Found>, Malformed>
     ensures { Says products products s.now from.at room result }
