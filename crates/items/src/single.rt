@@ -38,7 +38,8 @@ fn string_item(s: &[u8], from: Cursor) -> Option<Read<Measure>>
     }
 }
 
-// The item at a cursor; a label is none.
+// The item at a cursor; a label is none. Part of its callers once built: what it hands over does not go through memory.
+#[inline(always)]
 #[tactic(auto, unfolding(crate::specs::Inner::Turns::item_at))]
 pub(crate) fn item(s: &[u8], from: Cursor) -> Option<Read<Measure>>
     ensures { result ≡ measured (item_at s.now from.at) }
