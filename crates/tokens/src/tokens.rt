@@ -106,5 +106,12 @@ pub fn next_token(s: &[u8], from: Cursor) -> Token
 {
     let start = from.at;
     let at = skip(s, start);
-    token_here(s, at, at == start)
+    let t = token_here(s, at, at == start);
+    // part by part: as a whole it would go through memory with the bytes between its parts, which took a third of the time of a line
+    Token {
+        kind: t.kind,
+        start: t.start,
+        directly: t.directly,
+        next: t.next,
+    }
 }

@@ -6,4 +6,4 @@ use Rattle.tokens.proofs.tokens.next_token.Goals as goal
 
 pub returns : goal.returns
 unfolding token_at
-returns c = c.token_here.ensures ∙ rw (c.skip-at.ensures, moved_none)
+returns c = c.token_here-t.ensures ∙ rw (c.skip-at.ensures, moved_none)
