@@ -15,9 +15,10 @@ mod stops; // why no more is answered
 
 use cases::answer_all;
 use std::io::Write;
+use stops::Stopped;
 
 fn main(rt: HostRuntime) {
-    if let Err(stopped) = answer_all(rt.alloc(), rt.stdin(), rt.stdout()) {
-        let _ = writeln!(&mut rt.stderr(), "replay: {stopped}");
+    if let Err(Stopped { line, why }) = answer_all(rt.alloc(), rt.stdin(), rt.stdout()) {
+        let _ = writeln!(&mut rt.stderr(), "replay: line {line}{why}");
     }
 }

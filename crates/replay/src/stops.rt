@@ -38,23 +38,23 @@ impl<T: Drop> From<AllocFailed<T>> for Stop {
     }
 }
 
-// The same of a line, by its number.
+// As it is said of a line, behind its number.
+impl fmt::Display for Stop {
+    fn fmt<W: fmt::Write>(&self, f: &mut fmt::Formatter<W>) -> fmt::Result {
+        match self {
+            Stop::Malformed => write!(f, " is malformed"),
+            Stop::Unfinished => write!(f, " ends without its LF"),
+            Stop::TooLong => write!(f, " is too long"),
+            Stop::Unreadable => write!(f, " cannot be read"),
+            Stop::Unwritten => write!(f, ": its reply cannot be written"),
+            Stop::OutOfMemory => write!(f, ": there is no memory for it"),
+        }
+    }
+}
+
+// The same with the line's number.
 #[derive(Clone, Copy, Debug)]
 pub(crate) struct Stopped {
     pub line: u64,
     pub why: Stop,
-}
-
-impl fmt::Display for Stopped {
-    fn fmt<W: fmt::Write>(&self, f: &mut fmt::Formatter<W>) -> fmt::Result {
-        let line = self.line;
-        match self.why {
-            Stop::Malformed => write!(f, "line {line} is malformed"),
-            Stop::Unfinished => write!(f, "line {line} ends without its LF"),
-            Stop::TooLong => write!(f, "line {line} is too long"),
-            Stop::Unreadable => write!(f, "line {line} cannot be read"),
-            Stop::Unwritten => write!(f, "line {line}: its reply cannot be written"),
-            Stop::OutOfMemory => write!(f, "line {line}: there is no memory for it"),
-        }
-    }
 }

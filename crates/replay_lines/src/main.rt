@@ -13,6 +13,9 @@ use std::io::Write;
 
 fn main(rt: HostRuntime) {
     if let Err(stop) = answer_all(rt.stdin(), &mut rt.stdout()) {
-        let _ = writeln!(&mut rt.stderr(), "replay_lines: {stop}");
+        let mut errors = rt.stderr();
+        // the reason is tried also where the name could not be written
+        let _ = errors.write_all(b"replay_lines: ");
+        let _ = write!(errors, "{stop}");
     }
 }

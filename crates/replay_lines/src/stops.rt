@@ -10,14 +10,15 @@ pub(crate) enum Stop {
     Unwritten,
 }
 
+// A sentence with its LF, in one write.
 impl fmt::Display for Stop {
     fn fmt<W: fmt::Write>(&self, f: &mut fmt::Formatter<W>) -> fmt::Result {
         match self {
-            Stop::Malformed => write!(f, "a case is malformed"),
-            Stop::TooLong => write!(f, "a line is too long"),
-            Stop::Unfinished => write!(f, "the last case ends without its LF"),
-            Stop::Unreadable => write!(f, "the cases cannot be read"),
-            Stop::Unwritten => write!(f, "a reply cannot be written"),
+            Stop::Malformed => writeln!(f, "a case is malformed"),
+            Stop::TooLong => writeln!(f, "a line is too long"),
+            Stop::Unfinished => writeln!(f, "the last case ends without its LF"),
+            Stop::Unreadable => writeln!(f, "the cases cannot be read"),
+            Stop::Unwritten => writeln!(f, "a reply cannot be written"),
         }
     }
 }
